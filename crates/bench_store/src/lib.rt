@@ -5,7 +5,7 @@ ghost use Rattle.std.specs.Prelude.{◌≡◌, ◌<◌};
 ghost use Rattle.cap_core.specs.declared.profile.ProfileName.TheVariants.{Wide as wide};
 ghost use Rattle.kernel_forest.specs.Forest.{none};
 ghost use Rattle.slot_core.specs.Places.{address_of};
-ghost use Rattle.bench_store.specs.Cycle.{memory_bits, endpoint as endpoint_cap, at, whole, family};
+ghost use Rattle.bench_store.specs.Cycle.{bench_memory_bits, bench_endpoint as endpoint_cap, at, whole, family};
 
 use cap_core::{Badge, Cap, Rights, Wide};
 use slot_core::{CapStore, LinkedStore, MakeStore, Slot};
@@ -47,9 +47,9 @@ fn run(alloc: Global, source: Slot, cap: Cap, rounds: u64) -> Result<u64, AllocE
 
 fn start<S: CapStore<Wide>>(store: &mut S, source: Slot)
     requires source { address_of wide source ≡ at 1 }
-    requires memory { S.memory_bits store.old ≡ memory_bits }
+    requires memory { S.memory_bits store.old ≡ bench_memory_bits }
     requires forest { S.forest store.old ≡ none }
-    ensures memory { S.memory_bits store.new ≡ memory_bits }
+    ensures memory { S.memory_bits store.new ≡ bench_memory_bits }
     ensures forest { S.forest store.new ≡ whole }
 {
     store.put_root(source, endpoint(0));
@@ -59,9 +59,9 @@ fn start<S: CapStore<Wide>>(store: &mut S, source: Slot)
 fn round<S: CapStore<Wide>>(store: &mut S, source: Slot, cap: Cap) -> bool
     requires source { address_of wide source ≡ at 1 }
     requires cap { cap ≡ endpoint_cap 5 }
-    requires memory { S.memory_bits store.old ≡ memory_bits }
+    requires memory { S.memory_bits store.old ≡ bench_memory_bits }
     requires forest { S.forest store.old ≡ whole }
-    ensures memory { S.memory_bits store.new ≡ memory_bits }
+    ensures memory { S.memory_bits store.new ≡ bench_memory_bits }
     ensures forest { S.forest store.new ≡ whole }
 {
     derive_all(store, source, cap);
@@ -73,9 +73,9 @@ fn round<S: CapStore<Wide>>(store: &mut S, source: Slot, cap: Cap) -> bool
 fn derive_all<S: CapStore<Wide>>(store: &mut S, source: Slot, cap: Cap)
     requires source { address_of wide source ≡ at 1 }
     requires cap { cap ≡ endpoint_cap 5 }
-    requires memory { S.memory_bits store.old ≡ memory_bits }
+    requires memory { S.memory_bits store.old ≡ bench_memory_bits }
     requires forest { S.forest store.old ≡ whole }
-    ensures memory { S.memory_bits store.new ≡ memory_bits }
+    ensures memory { S.memory_bits store.new ≡ bench_memory_bits }
     ensures forest { S.forest store.new ≡ family COUNT }
 {
     for i in 0..COUNT {
@@ -84,9 +84,9 @@ fn derive_all<S: CapStore<Wide>>(store: &mut S, source: Slot, cap: Cap)
 }
 
 fn remove_all<S: CapStore<Wide>>(store: &mut S)
-    requires memory { S.memory_bits store.old ≡ memory_bits }
+    requires memory { S.memory_bits store.old ≡ bench_memory_bits }
     requires forest { S.forest store.old ≡ family COUNT }
-    ensures memory { S.memory_bits store.new ≡ memory_bits }
+    ensures memory { S.memory_bits store.new ≡ bench_memory_bits }
     ensures forest { S.forest store.new ≡ whole }
 {
     let mut left = COUNT;

@@ -9,13 +9,13 @@ use Rattle.setup_format.specs.Faults.{Fault}
 use Rattle.setup_format.specs.Setups.{setup_of_bytes}
 use Rattle.setup_report.specs.declared.calls.ExpectationCount.{ExpectationCount}
 use Rattle.setup_report.proofs.Runs.{replies_length}
-use Rattle.command_check.specs.Program.{HasCounts, IsTextOfSetup, program, outcome_in, outcome_of, replies_to, calls_of, verdict_in, verdict_of, verdict_on}
+use Rattle.command_check.specs.Program.{HasCounts, IsTextOfSetup, program, outcome_in, outcome_of, replies_to, set_up_calls, verdict_in, verdict_of, verdict_on}
 use Rattle.command_check.specs.declared.run.CountedText.{CountedText}
 
 pub length_replies_to : (p : ProfileName) (setup : SetupView) → length (replies_to p setup) ≡ length setup.calls
 unfolding replies_to
 length_replies_to p setup =
-    replies_length p (boot p setup.plan) (calls_of setup) ∙ length-map setup.calls (λ (c : CallView). c.call)
+    replies_length p (boot p setup.plan) (set_up_calls setup) ∙ length-map setup.calls (λ (c : CallView). c.call)
 
 counted_verdict : (p : ProfileName) (setup : SetupView) (count : Option ExpectationCount) → HasCounts p setup count
     → verdict_in count ≡ verdict_of setup.calls (replies_to p setup)

@@ -14,17 +14,17 @@ use Rattle.command_core.specs.declared.fault.Verdict.TheVariants.{AllMet, Refuse
 -- ---- of a set-up
 
 -- the answer where there is a text; nothing, where the set-up does not have what is asked for
-abbrev pub answered : Option (List ℕ) → List ℕ × Verdict
-answered None = ([], Absent)
-answered (Some text) = (text, AllMet)
+abbrev pub text_or_absent : Option (List ℕ) → List ℕ × Verdict
+text_or_absent None = ([], Absent)
+text_or_absent (Some text) = (text, AllMet)
 
-abbrev pub IsAnswer : (ProfileName → ReadView → List ℕ → Verdict → Type 0) → Result ReadView Fault → List ℕ → Verdict → Type 0
-IsAnswer answers (Ok read) text verdict = answers read.setup.profile read text verdict
-IsAnswer answers (Err fault) text verdict = (text ≡ refusal_line fault) × (verdict ≡ Refused)
+abbrev pub IsSetUpAnswer : (ProfileName → ReadView → List ℕ → Verdict → Type 0) → Result ReadView Fault → List ℕ → Verdict → Type 0
+IsSetUpAnswer answers (Ok read) text verdict = answers read.setup.profile read text verdict
+IsSetUpAnswer answers (Err fault) text verdict = (text ≡ refusal_line fault) × (verdict ≡ Refused)
 
 -- of the set-up that the bytes are, in the profile that it names
 abbrev pub IsAnswerTo : (ProfileName → ReadView → List ℕ → Verdict → Type 0) → List ℕ → List ℕ → Verdict → Type 0
-IsAnswerTo answers bytes text verdict = IsAnswer answers (read_of_bytes bytes) text verdict
+IsAnswerTo answers bytes text verdict = IsSetUpAnswer answers (read_of_bytes bytes) text verdict
 
 -- ---- of the state after the first calls of a set-up
 

@@ -17,16 +17,16 @@ use Rattle.command_core.specs.declared.fault.Verdict.{Verdict}
 use Rattle.command_core.specs.declared.fault.Verdict.TheVariants.{AllMet, NotMet, Refused}
 
 -- the calls of a set-up, in order
-abbrev pub calls_of : SetupView → List Call
-calls_of setup = map (λ (c : CallView). c.call) setup.calls
+abbrev pub set_up_calls : SetupView → List Call
+set_up_calls setup = map (λ (c : CallView). c.call) setup.calls
 
 -- what the abstract kernel answers to the calls of a set-up, from its boot on
 unfoldable pub replies_to : ProfileName → SetupView → List Reply
-replies_to p setup = replies_of p (boot p setup.plan) (calls_of setup)
+replies_to p setup = replies_of p (boot p setup.plan) (set_up_calls setup)
 
 -- the state of the abstract kernel after the calls of a set-up
-unfoldable pub end_of : ProfileName → SetupView → State
-end_of p setup = state_after p (boot p setup.plan) (calls_of setup)
+unfoldable pub end_state : ProfileName → SetupView → State
+end_state p setup = state_after p (boot p setup.plan) (set_up_calls setup)
 
 -- all expectations are met, or one is not
 abbrev pub verdict_on : ℕ → ℕ → Verdict
@@ -38,7 +38,7 @@ verdict_of calls replies = verdict_on (met_count calls replies) (expectation_cou
 -- the report of a set-up's run, and its verdict
 unfoldable pub outcome_of : ProfileName → SetupView → List ℕ × Verdict
 outcome_of p setup =
-    (report_of p setup.calls (replies_to p setup) (shown (end_of p setup)), verdict_of setup.calls (replies_to p setup))
+    (report_of p setup.calls (replies_to p setup) (shown (end_state p setup)), verdict_of setup.calls (replies_to p setup))
 
 abbrev pub outcome_in : Result SetupView Fault → List ℕ × Verdict
 outcome_in (Ok setup) = outcome_of setup.profile setup
@@ -52,7 +52,7 @@ HasCounts p setup (Some count) =
 
 abbrev pub IsTextIn : ProfileName → SetupView → CountedText → Type 0
 IsTextIn p setup made =
-    (made.text.items ≡ report_of p setup.calls (replies_to p setup) (shown (end_of p setup))) × HasCounts p setup made.count
+    (made.text.items ≡ report_of p setup.calls (replies_to p setup) (shown (end_state p setup))) × HasCounts p setup made.count
 
 -- what is told of a set-up: that of its run in the profile that it names, or the line by which it is refused, with no count
 abbrev pub IsTextOfSetup : Result SetupView Fault → CountedText → Type 0

@@ -44,7 +44,7 @@ pub struct OnSetup<C> {
 
 impl<C: Command> OnSetup<C> {
     ghost use Rattle.setup_format.specs.Setups.{read_of_bytes};
-    ghost use Rattle.command_check.specs.Commands.{IsAnswer};
+    ghost use Rattle.command_check.specs.Commands.{IsSetUpAnswer};
 
     /// The command's answer in the profile that the set-up names, by the linked forms.
     fn answer_read(&self, alloc: Global, read: ReadSetup) -> Result<Answer, AllocError>
@@ -64,7 +64,7 @@ impl<C: Command> OnSetup<C> {
 
     /// The answer for the bytes of an input.
     fn answer_bytes(&self, alloc: Global, bytes: &[u8]) -> Result<Answer, AllocError>
-        ensures { IfOk result (λ made. IsAnswer (C.answers self.now.command) (read_of_bytes bytes.now) made.text.items made.verdict) }
+        ensures { IfOk result (λ made. IsSetUpAnswer (C.answers self.now.command) (read_of_bytes bytes.now) made.text.items made.verdict) }
     {
         match read(alloc, bytes) {
             Ok(read) => self.answer_read(alloc, read),

@@ -6,7 +6,7 @@ ghost use Rattle.kernel_abstract.specs.State.{shown};
 ghost use Rattle.setup_format.specs.Refusal.{setup_fault_text};
 ghost use Rattle.setup_format.specs.Setups.{setup_of_bytes};
 ghost use Rattle.command_check.specs.Notes.{unexpected_from, unexpected_in};
-ghost use Rattle.command_check.specs.Program.{IsTextIn, IsTextOfSetup, program, replies_to, end_of, verdict_in, verdict_on as verdict_of_counts};
+ghost use Rattle.command_check.specs.Program.{IsTextIn, IsTextOfSetup, program, replies_to, end_state, verdict_in, verdict_on as verdict_of_counts};
 
 use crate::notes::notes_on;
 use cap_core::{Narrow, Profile, ProfileName, Wide};
@@ -59,13 +59,13 @@ fn boot<P: Profile, S: MakeStore<P>, W: MakeWaiters<P>>(
 ///
 /// Memory was refused.
 #[inline(never)]
-#[tactic(auto, unfolding(crate::specs::Program::replies_to, crate::specs::Program::end_of))]
+#[tactic(auto, unfolding(crate::specs::Program::replies_to, crate::specs::Program::end_state))]
 pub fn run_calls<P: Profile, S: MakeStore<P>, W: MakeWaiters<P>>(
     alloc: Global,
     setup: &Setup,
 ) -> Result<(Kernel<P, S, W>, Vec<Reply>), AllocError>
     requires { IsPlan P.profile setup.now.plan }
-    ensures kernel { IfOk result (λ r. r.0 ≡ shown (end_of P.profile setup.now)) }
+    ensures kernel { IfOk result (λ r. r.0 ≡ shown (end_state P.profile setup.now)) }
     ensures replies { IfOk result (λ r. r.1.items ≡ replies_to P.profile setup.now) }
 {
     let mut kernel = boot::<P, S, W>(alloc, setup.plan())?;

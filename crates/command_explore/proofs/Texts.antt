@@ -15,11 +15,11 @@ use Rattle.command_explore_text.specs.Witnesses.{witness_of}
 use Rattle.command_explore_text.specs.Replays.{run_replies, run_end}
 use Rattle.command_explore_text.proofs.Replay.Accepted.{witness_accepted}
 use Rattle.command_explore_text.proofs.Replay.Replayed.{witness_replayed}
-use Rattle.command_check.specs.Program.{program, outcome_in, outcome_of, replies_to, end_of}
+use Rattle.command_check.specs.Program.{program, outcome_in, outcome_of, replies_to, end_state}
 use Rattle.command_core.specs.declared.fault.Verdict.{Verdict}
 use Rattle.command_core.specs.declared.fault.Verdict.TheVariants.{AllMet, Absent, Refused}
-use Rattle.command_check.specs.Commands.{IsAnswer}
-use Rattle.command_explore.specs.Witnessed.{IsTextOfTable, IsWitness}
+use Rattle.command_check.specs.Commands.{IsSetUpAnswer}
+use Rattle.command_explore.specs.Witnessed.{IsTextOfTable, IsExploreWitness}
 use Rattle.command_explore.specs.Replayed.{IsReplay, IsWitnessReplay}
 use Rattle.command_explore.proofs.Parsed.{parsed_sorted}
 
@@ -67,8 +67,8 @@ replies_are : (made : SetupView) → replies_to made.profile made ≡ run_replie
 unfolding replies_to
 replies_are made = refl
 
-end_is : (made : SetupView) → end_of made.profile made ≡ run_end made
-unfolding end_of
+end_is : (made : SetupView) → end_state made.profile made ≡ run_end made
+unfolding end_state
 end_is made = refl
 
 module _ (first states : ℕ) (witness : Witness) (input text : List ℕ) (verdict : Verdict) (met : verdict ≡ AllMet) where
@@ -103,7 +103,7 @@ module _ (first states : ℕ) (witness : Witness) (input text : List ℕ) (verdi
     from_witness None told is = not_absent is.1
     from_witness (Some u) told is = from_table u told is.0
 
-  from_read : (r : Result ReadView Fault) → read_of_bytes input ≡ r → IsAnswer (IsWitness first states witness) r text verdict → IsReplay first states witness input text
+  from_read : (r : Result ReadView Fault) → read_of_bytes input ≡ r → IsSetUpAnswer (IsExploreWitness first states witness) r text verdict → IsReplay first states witness input text
   from_read (Err fault) e is = not_refused is.1
   from_read (Ok read) e is = from_witness read e (witness_of read.setup.profile read.setup first states witness read.table) refl is
 

@@ -6,11 +6,11 @@ use Rattle.command_explore_text.specs.Report.{explored_report}
 use Rattle.command_core.specs.declared.fault.Verdict.{Verdict}
 use Rattle.command_core.specs.declared.fault.Verdict.TheVariants.{AllMet, NotMet}
 
-abbrev pub verdict_of : Bool → Verdict
-verdict_of well = cond well AllMet NotMet
+abbrev pub explore_verdict : Bool → Verdict
+explore_verdict well = cond well AllMet NotMet
 
 abbrev pub with_verdict : List ℕ × Bool → List ℕ × Verdict
-with_verdict report = (report.0, verdict_of report.1)
+with_verdict report = (report.0, explore_verdict report.1)
 
 -- the report on a set-up, with the verdict
 unfoldable pub explored_in : ProfileName → ℕ → ℕ → SetupView → List ℕ × Verdict

@@ -15,6 +15,6 @@ IsTextOfTable (Some table) text verdict = (document_of text ≡ Ok table) × (ve
 IsTextOfTable None text verdict = (text ≡ []) × (verdict ≡ Absent)
 
 -- of the set-up that makes the calls of a witness, or of none where no order is told for it
-abbrev pub IsWitness : ℕ → ℕ → Witness → ProfileName → ReadView → List ℕ → Verdict → Type 0
-IsWitness first states witness p read text verdict =
+abbrev pub IsExploreWitness : ℕ → ℕ → Witness → ProfileName → ReadView → List ℕ → Verdict → Type 0
+IsExploreWitness first states witness p read text verdict =
     IsTextOfTable (witness_of p read.setup first states witness read.table) text verdict

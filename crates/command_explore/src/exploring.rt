@@ -1,7 +1,7 @@
 //! The exploration of a set-up, as the answer of a command.
 ghost use Rattle.std.specs.Prelude.{◌≡◌, IfOk};
 ghost use Rattle.kernel_abstract.specs.Plan.{IsPlan};
-ghost use Rattle.command_explore.specs.Explorations.{explored_in, verdict_of};
+ghost use Rattle.command_explore.specs.Explorations.{explored_in, explore_verdict};
 
 use cap_core::Profile;
 use command_check::Command;
@@ -21,7 +21,7 @@ pub struct ExploreOptions {
 
 /// The verdict on an exploration, by whether all is well.
 fn verdict_on(is_well: bool) -> Verdict
-    ensures { result ≡ verdict_of is_well }
+    ensures { result ≡ explore_verdict is_well }
 {
     if is_well {
         Verdict::AllMet

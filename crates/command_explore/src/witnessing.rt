@@ -36,9 +36,9 @@ pub struct WriteWitness {
 }
 
 impl Command for WriteWitness {
-    ghost use Rattle.command_explore.specs.Witnessed.{IsWitness};
+    ghost use Rattle.command_explore.specs.Witnessed.{IsExploreWitness};
 
-    ghost answers = { λ write. IsWitness write.options.first write.options.states write.witness };
+    ghost answers = { λ write. IsExploreWitness write.options.first write.options.states write.witness };
 
     fn answer<P: Profile, S: MakeStore<P> + DerivationStore<P>, W: MakeWaiters<P>>(
         &self,

@@ -9,8 +9,8 @@ use Rattle.setup_format.specs.Views.{CallView}
 use Rattle.query_orders.specs.Answers.{Answered}
 use Rattle.query_orders.specs.declared.exploring.found.FoundAnswer.{FoundAnswer}
 use Rattle.query_orders.specs.Found.{answers_of}
-use Rattle.command_explore_text.specs.Text.{is_of, meets, answer_line, answer_lines, some_met, some_missed, mark_text, expectation_text, one_met, call_head, call_block}
-use Rattle.command_explore_text.specs.Rows.{AreEmpty, HasMore}
+use Rattle.command_explore_text.specs.Text.{is_answer_of, meets_expectation, call_answer_line, answer_lines, some_met, some_missed, orders_mark_text, expected_in_orders, met_one, call_head, call_block}
+use Rattle.command_explore_text.specs.Rows.{AreEmptyRows, HasMore}
 
 -- what holds of what is there
 pub if_some : {X : Type 0} (o : Option X) {P Q : X → Type 0} → IfSome o P → ((x : X) → P x → Q x) → IfSome o Q
@@ -25,11 +25,11 @@ each_pushed P [] x all one (suc n) = tt
 each_pushed P (y ∷ xs) x all one zero = all zero
 each_pushed P (y ∷ xs) x all one (suc n) = each_pushed P xs x (λ k. all (suc k)) one n
 
-pub empty_none : (rows : List (Vec FoundAnswer)) → rows ≡ [] → AreEmpty rows
-empty_none rows none = subst AreEmpty (sym none) (λ n. tt)
+pub empty_none : (rows : List (Vec FoundAnswer)) → rows ≡ [] → AreEmptyRows rows
+empty_none rows none = subst AreEmptyRows (sym none) (λ n. tt)
 
-pub empty_more : (rows rows' : List (Vec FoundAnswer)) (row : Vec FoundAnswer) → AreEmpty rows → row.items ≡ [] → rows' ≡ rows ++ row ∷ [] → AreEmpty rows'
-empty_more rows rows' row are none more = subst AreEmpty (sym more) (each_pushed (λ (r : Vec FoundAnswer). r.items ≡ []) rows row are none)
+pub empty_more : (rows rows' : List (Vec FoundAnswer)) (row : Vec FoundAnswer) → AreEmptyRows rows → row.items ≡ [] → rows' ≡ rows ++ row ∷ [] → AreEmptyRows rows'
+empty_more rows rows' row are none more = subst AreEmptyRows (sym more) (each_pushed (λ (r : Vec FoundAnswer). r.items ≡ []) rows row are none)
 
 -- ---- one row written
 
@@ -84,13 +84,13 @@ twice p (x ∷ xs) =
 
 module _ (numbers : List (List ℕ)) (number : ℕ) where
   abbrev own : List Answered → List Answered
-  own answers = filter (is_of numbers number) answers
+  own answers = filter (is_answer_of numbers number) answers
 
   lines_alone : (place : ℕ) (expected : Option (List ℕ)) (answers : List Answered) → answer_lines numbers number place expected answers ≡ answer_lines numbers number place expected (own answers)
   lines_alone place expected [] = refl
   lines_alone place expected (a ∷ answers) =
-      let line = answer_line numbers number place expected a in
-      elim (is_of numbers number a) as (λ b. is_of numbers number a ≡ b →
+      let line = call_answer_line numbers number place expected a in
+      elim (is_answer_of numbers number a) as (λ b. is_answer_of numbers number a ≡ b →
       cond b (line ++ answer_lines numbers number (place + 1) expected answers) (answer_lines numbers number place expected answers) ≡ answer_lines numbers number place expected (cond b (a ∷ own answers) (own answers))) [
         | true ↦ λ h.
             ap (λ l. line ++ l) (lines_alone (place + 1) expected answers)
@@ -98,11 +98,11 @@ module _ (numbers : List (List ℕ)) (number : ℕ) where
         | false ↦ λ h. lines_alone place expected answers
       ] refl
 
-  any_alone : (t : Answered → Bool) (answers : List Answered) → list_any (λ (a : Answered). is_of numbers number a && t a) answers ≡ list_any (λ (a : Answered). is_of numbers number a && t a) (own answers)
+  any_alone : (t : Answered → Bool) (answers : List Answered) → list_any (λ (a : Answered). is_answer_of numbers number a && t a) answers ≡ list_any (λ (a : Answered). is_answer_of numbers number a && t a) (own answers)
   any_alone t [] = refl
   any_alone t (a ∷ answers) =
-      let f = λ (x : Answered). is_of numbers number x && t x in
-      elim (is_of numbers number a) as (λ b. is_of numbers number a ≡ b → ((b && t a) || list_any f answers) ≡ list_any f (cond b (a ∷ own answers) (own answers))) [
+      let f = λ (x : Answered). is_answer_of numbers number x && t x in
+      elim (is_answer_of numbers number a) as (λ b. is_answer_of numbers number a ≡ b → ((b && t a) || list_any f answers) ≡ list_any f (cond b (a ∷ own answers) (own answers))) [
         | true ↦ λ h. ap (λ r. t a || r) (any_alone t answers) ∙ sym (ap (λ b. (b && t a) || list_any f (own answers)) h)
         | false ↦ λ h. any_alone t answers
       ] refl
@@ -111,21 +111,21 @@ module _ (numbers : List (List ℕ)) (number : ℕ) where
   module _ (answers answers' : List Answered) (same : own answers ≡ own answers') where
     met_same : (expected : List ℕ) → some_met numbers number expected answers ≡ some_met numbers number expected answers'
     met_same expected =
-        let t = λ (a : Answered). meets expected a.answer in
-        any_alone t answers ∙ ap (list_any (λ (a : Answered). is_of numbers number a && t a)) same ∙ sym (any_alone t answers')
+        let t = λ (a : Answered). meets_expectation expected a.answer in
+        any_alone t answers ∙ ap (list_any (λ (a : Answered). is_answer_of numbers number a && t a)) same ∙ sym (any_alone t answers')
 
     missed_same : (expected : List ℕ) → some_missed numbers number expected answers ≡ some_missed numbers number expected answers'
     missed_same expected =
-        let t = λ (a : Answered). not (meets expected a.answer) in
-        any_alone t answers ∙ ap (list_any (λ (a : Answered). is_of numbers number a && t a)) same ∙ sym (any_alone t answers')
+        let t = λ (a : Answered). not (meets_expectation expected a.answer) in
+        any_alone t answers ∙ ap (list_any (λ (a : Answered). is_answer_of numbers number a && t a)) same ∙ sym (any_alone t answers')
 
-    expectation_same : (expected : Option (List ℕ)) (whole : Bool) → expectation_text numbers number expected whole answers ≡ expectation_text numbers number expected whole answers'
+    expectation_same : (expected : Option (List ℕ)) (whole : Bool) → expected_in_orders numbers number expected whole answers ≡ expected_in_orders numbers number expected whole answers'
     expectation_same None whole = refl
     expectation_same (Some expected) whole =
-        ap (λ b. mark_text whole b (some_missed numbers number expected answers) expected) (met_same expected)
-        ∙ ap (λ b. mark_text whole (some_met numbers number expected answers') b expected) (missed_same expected)
+        ap (λ b. orders_mark_text whole b (some_missed numbers number expected answers) expected) (met_same expected)
+        ∙ ap (λ b. orders_mark_text whole (some_met numbers number expected answers') b expected) (missed_same expected)
 
-    pub one_met_same : (expected : Option (List ℕ)) (whole : Bool) → one_met numbers number expected whole answers ≡ one_met numbers number expected whole answers'
+    pub one_met_same : (expected : Option (List ℕ)) (whole : Bool) → met_one numbers number expected whole answers ≡ met_one numbers number expected whole answers'
     one_met_same None whole = refl
     one_met_same (Some expected) whole =
         ap (λ b. cond (whole && b && not (some_missed numbers number expected answers)) 1 0) (met_same expected)
@@ -135,5 +135,5 @@ module _ (numbers : List (List ℕ)) (number : ℕ) where
     block_same whole call =
         let head = call_head number call.client call.call in
         ap (λ l. head ++ (l ++ (codes "\n" ++ answer_lines numbers number 1 call.expect answers))) (expectation_same call.expect whole)
-        ∙ ap (λ l. head ++ (expectation_text numbers number call.expect whole answers' ++ (codes "\n" ++ l)))
+        ∙ ap (λ l. head ++ (expected_in_orders numbers number call.expect whole answers' ++ (codes "\n" ++ l)))
         (lines_alone 1 call.expect answers ∙ ap (answer_lines numbers number 1 call.expect) same ∙ sym (lines_alone 1 call.expect answers'))

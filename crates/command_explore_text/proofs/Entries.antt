@@ -10,9 +10,9 @@ use Rattle.toml.specs.Data.{Data, Members, table, member, same_key, get_item, as
 use Rattle.toml.specs.View.{view, items_view, members_view}
 use Rattle.toml.specs.declared.value.Value.{Value}
 use Rattle.setup_migrate.proofs.Parts.{Entry, at_text}
-use Rattle.command_explore_text.specs.Witnesses.{without, unexpecting}
+use Rattle.command_explore_text.specs.Witnesses.{table_without, unexpecting}
 
-pub view_without : (k : List ℕ) (es : List Entry) → members_view (remove_entry (is_at (at_text k)) es) ≡ without k (members_view es)
+pub view_without : (k : List ℕ) (es : List Entry) → members_view (remove_entry (is_at (at_text k)) es) ≡ table_without k (members_view es)
 view_without k [] = refl
 view_without k (x ∷ es) =
     elim (cases_Bool (same_key k (string_bytes x.0))) [
@@ -30,8 +30,8 @@ pub next : (n i : ℕ) → 1 ≤ n → i ≡ n - 1 → n ≡ suc i
 next n i some e = omega arith
 
 -- a call that is a table, and any other value
-pub unexpecting_table : (d : Data) (ms : Members) → Some ms ≡ as_table d → unexpecting d ≡ table (without (codes "expect") ms)
-unexpecting_table (table t) ms e = ap (λ u. table (without (codes "expect") u)) (sym (same_Some ms t e))
+pub unexpecting_table : (d : Data) (ms : Members) → Some ms ≡ as_table d → unexpecting d ≡ table (table_without (codes "expect") ms)
+unexpecting_table (table t) ms e = ap (λ u. table (table_without (codes "expect") u)) (sym (same_Some ms t e))
 unexpecting_table d ms e = absurd (none-some ms (sym e))
 
 pub unexpecting_none : (d : Data) → None ≡ as_table d → unexpecting d ≡ d

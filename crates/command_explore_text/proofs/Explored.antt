@@ -18,7 +18,7 @@ use Rattle.query_orders.specs.Nodes.{layer}
 use Rattle.query_orders.specs.Counts.{saturated, states_before, ends_before}
 use Rattle.query_orders.specs.Found.{answers_of, stuck_of, same_left}
 use Rattle.query_orders.specs.Explorations.{depth, IsExplored}
-use Rattle.command_explore_text.specs.Clients.{own_calls, first_clients}
+use Rattle.command_explore_text.specs.Clients.{calls_of_each, first_clients}
 use Rattle.command_explore_text.specs.Views.{ExploredView, explored_view}
 use Rattle.command_explore_text.specs.Report.{exploration}
 
@@ -49,10 +49,10 @@ module _ (p : ProfileName) (own : List (List Call)) (A : State) (begin : List �
       ∙ ap (λ (k : ℕ). view (length (layer p own w begin n) == 0) n (at n).answers (at n).stuck (at n).states (at n).ends (at n).orders k) t.stuck_orders_are
       ∙ ap at is.calls_are
 
-pub exploration_is : (p : ProfileName) (setup : SetupView) (first limit : ℕ) (own : List (List Call)) (begin : List ℕ) (e : Explored) → own ≡ own_calls setup → begin ≡ first_clients setup first →
+pub exploration_is : (p : ProfileName) (setup : SetupView) (first limit : ℕ) (own : List (List Call)) (begin : List ℕ) (e : Explored) → own ≡ calls_of_each setup → begin ≡ first_clients setup first →
     IsExplored p own (boot p setup.plan) begin answer_eq.ghosts.eq limit (length setup.calls + 1) e → explored_view e ≡ exploration p setup first limit
 unfolding exploration
 exploration_is p setup first limit own begin e is_own is_begin is =
     viewed p own (boot p setup.plan) begin limit (length setup.calls + 1) e is
     ∙ ap (λ (l : List (List Call)). at p l (boot p setup.plan) begin (depth p l (start l (boot p setup.plan)) begin limit (length setup.calls + 1))) is_own
-    ∙ ap (λ (b : List ℕ). at p (own_calls setup) (boot p setup.plan) b (depth p (own_calls setup) (start (own_calls setup) (boot p setup.plan)) b limit (length setup.calls + 1))) is_begin
+    ∙ ap (λ (b : List ℕ). at p (calls_of_each setup) (boot p setup.plan) b (depth p (calls_of_each setup) (start (calls_of_each setup) (boot p setup.plan)) b limit (length setup.calls + 1))) is_begin

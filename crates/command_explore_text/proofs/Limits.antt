@@ -9,12 +9,12 @@ use Rattle.kernel_abstract.specs.Boot.{boot}
 use Rattle.setup_format.specs.Views.{CallView, SetupView}
 use Rattle.kernel_lists.specs.Firsts.{firsts}
 use Rattle.query_orders.specs.World.{World}
-use Rattle.query_orders.specs.Orders.{below, orders}
+use Rattle.query_orders.specs.Orders.{numbers_below, orders}
 use Rattle.command_explore_text.proofs.NoLonger.{no_order_is_longer}
 use Rattle.query_orders.specs.Nodes.{lead_alike, layer}
-use Rattle.query_orders.specs.Explorations.{is_last_layer, depth_from, depth}
+use Rattle.query_orders.specs.Explorations.{is_last_layer, layers_from, depth}
 use Rattle.query_orders.proofs.Exploration.Explorations.{no_orders_behind}
-use Rattle.command_explore_text.specs.Clients.{client_calls, own_calls, first_clients}
+use Rattle.command_explore_text.specs.Clients.{calls_of_client, calls_of_each, first_clients}
 use Rattle.command_explore_text.specs.Report.{exploration}
 use Rattle.command_explore_text.specs.Laws.{begins, states_with_more, EndsAtItsLimit, IsOnAllOrders}
 
@@ -23,49 +23,49 @@ use Rattle.command_explore_text.specs.Laws.{begins, states_with_more, EndsAtItsL
 abbrev hits : ℕ → ℕ → ℕ
 hits c j = cond (c == j) 1 0
 
-one-client : (c n : ℕ) → sum_by (hits c) (below n) ≤ 1
+one-client : (c n : ℕ) → sum_by (hits c) (numbers_below n) ≤ 1
 one-client c n = at-most c n
   where
-    none : (c n : ℕ) → n ≤ c → sum_by (hits c) (below n) ≡ 0
+    none : (c n : ℕ) → n ≤ c → sum_by (hits c) (numbers_below n) ≡ 0
     none c zero le = refl
     none c (suc n) le =
-        let a = sum_by_push (hits c) (below n) n in
+        let a = sum_by_push (hits c) (numbers_below n) n in
         let r = none c n (omega (arith, le)) in
-        elim (eqb_tells c n) as (λ _. sum_by (hits c) (below n ++ n ∷ []) ≡ 0) [
+        elim (eqb_tells c n) as (λ _. sum_by (hits c) (numbers_below n ++ n ∷ []) ≡ 0) [
           | inl same ↦ absurd (let e = same.1 in omega (arith, e, le))
           | inr other ↦ (let z : hits c n ≡ 0 = ap (λ b. cond b 1 0) other.0 in omega (arith, a, r, z))
         ]
 
-    at-most : (c n : ℕ) → sum_by (hits c) (below n) ≤ 1
+    at-most : (c n : ℕ) → sum_by (hits c) (numbers_below n) ≤ 1
     at-most c zero = omega arith
     at-most c (suc n) =
-        let a = sum_by_push (hits c) (below n) n in
-        elim (eqb_tells c n) as (λ _. sum_by (hits c) (below n ++ n ∷ []) ≤ 1) [
+        let a = sum_by_push (hits c) (numbers_below n) n in
+        elim (eqb_tells c n) as (λ _. sum_by (hits c) (numbers_below n ++ n ∷ []) ≤ 1) [
           | inl same ↦ (let e = same.1 in let r = none c n (omega (arith, e)) in let one : hits c n ≡ 1 = ap (λ b. cond b 1 0) same.0 in omega (arith, a, r, one))
           | inr other ↦ (let r = at-most c n in let z : hits c n ≡ 0 = ap (λ b. cond b 1 0) other.0 in omega (arith, a, r, z))
         ]
 
-one-call : (call : CallView) (calls : List CallView) (j : ℕ) → length (client_calls (call ∷ calls) j) ≡ hits call.client j + length (client_calls calls j)
-one-call call calls j = elim (call.client == j) as (λ b. length (map (λ (c : CallView). c.call) (cond b (call ∷ filter (λ (c : CallView). c.client == j) calls) (filter (λ (c : CallView). c.client == j) calls))) ≡ cond b 1 0 + length (client_calls calls j)) [ true ↦ omega arith | false ↦ omega arith ]
+one-call : (call : CallView) (calls : List CallView) (j : ℕ) → length (calls_of_client (call ∷ calls) j) ≡ hits call.client j + length (calls_of_client calls j)
+one-call call calls j = elim (call.client == j) as (λ b. length (map (λ (c : CallView). c.call) (cond b (call ∷ filter (λ (c : CallView). c.client == j) calls) (filter (λ (c : CallView). c.client == j) calls))) ≡ cond b 1 0 + length (calls_of_client calls j)) [ true ↦ omega arith | false ↦ omega arith ]
 
-sums : (f g h : ℕ → ℕ) (n : ℕ) → ((j : ℕ) → f j ≡ g j + h j) → sum_by f (below n) ≡ sum_by g (below n) + sum_by h (below n)
+sums : (f g h : ℕ → ℕ) (n : ℕ) → ((j : ℕ) → f j ≡ g j + h j) → sum_by f (numbers_below n) ≡ sum_by g (numbers_below n) + sum_by h (numbers_below n)
 sums f g h zero e = refl
 sums f g h (suc n) e =
-    let a = sum_by_push f (below n) n in
-    let b = sum_by_push g (below n) n in
-    let c = sum_by_push h (below n) n in
+    let a = sum_by_push f (numbers_below n) n in
+    let b = sum_by_push g (numbers_below n) n in
+    let c = sum_by_push h (numbers_below n) n in
     let i = sums f g h n e in
     let at = e n in
     omega (arith, a, b, c, i, at)
 
-no-call : (n : ℕ) → sum_by (λ j. length (client_calls [] j)) (below n) ≡ 0
+no-call : (n : ℕ) → sum_by (λ j. length (calls_of_client [] j)) (numbers_below n) ≡ 0
 no-call zero = refl
-no-call (suc n) = let a = sum_by_push (λ j. length (client_calls [] j)) (below n) n in let i = no-call n in omega (arith, a, i)
+no-call (suc n) = let a = sum_by_push (λ j. length (calls_of_client [] j)) (numbers_below n) n in let i = no-call n in omega (arith, a, i)
 
-all-clients : (calls : List CallView) (n : ℕ) → sum_by (λ j. length (client_calls calls j)) (below n) ≤ length calls
+all-clients : (calls : List CallView) (n : ℕ) → sum_by (λ j. length (calls_of_client calls j)) (numbers_below n) ≤ length calls
 all-clients [] n = let a = no-call n in omega (arith, a)
 all-clients (call ∷ calls) n =
-    let a = sums (λ j. length (client_calls (call ∷ calls) j)) (hits call.client) (λ j. length (client_calls calls j)) n (one-call call calls) in
+    let a = sums (λ j. length (calls_of_client (call ∷ calls) j)) (hits call.client) (λ j. length (calls_of_client calls j)) n (one-call call calls) in
     let b = one-client call.client n in
     let i = all-clients calls n in
     omega (arith, a, b, i)
@@ -74,18 +74,18 @@ sum-map : {X : Type 0} (f : ℕ → List X) (ns : List ℕ) → sum_by length (m
 sum-map f [] = refl
 sum-map f (n ∷ ns) = let a = sum_by-cons length (f n) (map f ns) in let b = sum_by-cons (λ j. length (f j)) n ns in let i = sum-map f ns in omega (arith, a, b, i)
 
-pub own-length : (setup : SetupView) → sum_by length (own_calls setup) ≤ length setup.calls
-own-length setup = let a = sum-map (client_calls setup.calls) (below setup.clients) in let b = all-clients setup.calls setup.clients in omega (arith, a, b)
+pub own-length : (setup : SetupView) → sum_by length (calls_of_each setup) ≤ length setup.calls
+own-length setup = let a = sum-map (calls_of_client setup.calls) (numbers_below setup.clients) in let b = all-clients setup.calls setup.clients in omega (arith, a, b)
 
 -- ---- how far it goes
 
 module _ (p : ProfileName) (own : List (List Call)) (w : World) (first : List ℕ) (limit : ℕ) where
-  depth_ends : (further n : ℕ) → (is_last_layer p own w first limit (depth_from p own w first limit further n) ≡ true) ⊎ (depth_from p own w first limit further n ≡ n + further)
+  depth_ends : (further n : ℕ) → (is_last_layer p own w first limit (layers_from p own w first limit further n) ≡ true) ⊎ (layers_from p own w first limit further n ≡ n + further)
   depth_ends zero n = inr (omega arith)
   depth_ends (suc further) n =
-      elim (is_last_layer p own w first limit n) as (λ b. is_last_layer p own w first limit n ≡ b → (is_last_layer p own w first limit (cond b n (depth_from p own w first limit further (suc n))) ≡ true) ⊎ (cond b n (depth_from p own w first limit further (suc n)) ≡ n + suc further)) [
+      elim (is_last_layer p own w first limit n) as (λ b. is_last_layer p own w first limit n ≡ b → (is_last_layer p own w first limit (cond b n (layers_from p own w first limit further (suc n))) ≡ true) ⊎ (cond b n (layers_from p own w first limit further (suc n)) ≡ n + suc further)) [
         | true ↦ λ e. inl e
-        | false ↦ λ e. elim (depth_ends further (suc n)) as (λ _. (is_last_layer p own w first limit (depth_from p own w first limit further (suc n)) ≡ true) ⊎ (depth_from p own w first limit further (suc n) ≡ n + suc further)) [ inl last ↦ inl last | inr all ↦ inr (omega (arith, all)) ]
+        | false ↦ λ e. elim (depth_ends further (suc n)) as (λ _. (is_last_layer p own w first limit (layers_from p own w first limit further (suc n)) ≡ true) ⊎ (layers_from p own w first limit further (suc n) ≡ n + suc further)) [ inl last ↦ inl last | inr all ↦ inr (omega (arith, all)) ]
       ] refl
 
 or_cases : (s t : Bool) → s ≡ false → (s || t) ≡ true → t ≡ true
@@ -95,7 +95,7 @@ or_cases false t h k = k
 pub ends_at_limit : (p : ProfileName) (setup : SetupView) (first limit : ℕ) → EndsAtItsLimit p setup first limit
 unfolding exploration
 ends_at_limit p setup first limit some =
-    let own = own_calls setup in
+    let own = calls_of_each setup in
     let w = begins p setup in
     let begin = first_clients setup first in
     let n = depth p own w begin limit (length setup.calls + 1) in
@@ -112,7 +112,7 @@ ends_at_limit p setup first limit some =
 pub on_all_orders : (p : ProfileName) (setup : SetupView) (first limit : ℕ) → IsOnAllOrders p setup first limit
 unfolding exploration
 on_all_orders p setup first limit whole more =
-    let own = own_calls setup in
+    let own = calls_of_each setup in
     let w = begins p setup in
     let begin = first_clients setup first in
     let n = depth p own w begin limit (length setup.calls + 1) in

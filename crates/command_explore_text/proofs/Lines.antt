@@ -3,7 +3,7 @@ use Rattle.std.proofs.Common.{◌≡◌, ℕ, ◌+◌, ◌≤◌, codes, Bool, t
 use Rattle.kernel_abstract.specs.declared.call.Call.{Call}
 use Rattle.setup_format.specs.Views.{CallView}
 use Rattle.query_orders.specs.Answers.{Answered}
-use Rattle.command_explore_text.specs.Text.{call_head, expectation_text, answer_lines, call_block, call_blocks, one_met, one_expected, met_count, expectation_count}
+use Rattle.command_explore_text.specs.Text.{call_head, expected_in_orders, answer_lines, call_block, call_blocks, met_one, expected_one, met_in_orders, expectations_of_calls}
 use Rattle.command_explore_text.proofs.Places.{IsAt}
 
 module _ (numbers : List (List ℕ)) (whole : Bool) (answers : List Answered) (calls : List CallView) (i : ℕ) (a : IsAt calls i) where
@@ -17,28 +17,28 @@ module _ (numbers : List (List ℕ)) (whole : Bool) (answers : List Answered) (c
       ∙ ap (λ l. before ++ call_blocks numbers (i + 1) whole answers l) (sym a.there)
       ∙ so
 
-  pub met_added : (total met one : ℕ) → met + met_count numbers (i + 1) whole answers (drop i calls) ≡ total → one ≡ one_met numbers (i + 1) (a.view).expect whole answers →
-      (met + one) + met_count numbers (i + 1 + 1) whole answers (drop (i + 1) calls) ≡ total
+  pub met_added : (total met one : ℕ) → met + met_in_orders numbers (i + 1) whole answers (drop i calls) ≡ total → one ≡ met_one numbers (i + 1) (a.view).expect whole answers →
+      (met + one) + met_in_orders numbers (i + 1 + 1) whole answers (drop (i + 1) calls) ≡ total
   met_added total met one so now =
-      let here : met_count numbers (i + 1) whole answers (drop i calls) ≡ one_met numbers (i + 1) (a.view).expect whole answers + met_count numbers (i + 1 + 1) whole answers (drop (i + 1) calls) =
-      ap (met_count numbers (i + 1) whole answers) a.there ∙ ap (λ n. one_met numbers (i + 1) (a.view).expect whole answers + met_count numbers (i + 1 + 1) whole answers (drop n calls)) (sym (add-one i)) in
+      let here : met_in_orders numbers (i + 1) whole answers (drop i calls) ≡ met_one numbers (i + 1) (a.view).expect whole answers + met_in_orders numbers (i + 1 + 1) whole answers (drop (i + 1) calls) =
+      ap (met_in_orders numbers (i + 1) whole answers) a.there ∙ ap (λ n. met_one numbers (i + 1) (a.view).expect whole answers + met_in_orders numbers (i + 1 + 1) whole answers (drop n calls)) (sym (add-one i)) in
       omega arith
 
-  pub expected_added : (total expected one : ℕ) → expected + expectation_count (drop i calls) ≡ total → one ≡ one_expected (a.view).expect → (expected + one) + expectation_count (drop (i + 1) calls) ≡ total
+  pub expected_added : (total expected one : ℕ) → expected + expectations_of_calls (drop i calls) ≡ total → one ≡ expected_one (a.view).expect → (expected + one) + expectations_of_calls (drop (i + 1) calls) ≡ total
   expected_added total expected one so now =
-      let here : expectation_count (drop i calls) ≡ one_expected (a.view).expect + expectation_count (drop (i + 1) calls) =
-      ap expectation_count a.there ∙ ap (λ n. one_expected (a.view).expect + expectation_count (drop n calls)) (sym (add-one i)) in
+      let here : expectations_of_calls (drop i calls) ≡ expected_one (a.view).expect + expectations_of_calls (drop (i + 1) calls) =
+      ap expectations_of_calls a.there ∙ ap (λ n. expected_one (a.view).expect + expectations_of_calls (drop n calls)) (sym (add-one i)) in
       omega arith
 
 at_most_one : (b : Bool) → cond b 1 0 ≤ 1
 at_most_one true = omega arith
 at_most_one false = omega arith
 
-pub one_met-le : (numbers : List (List ℕ)) (number : ℕ) (expected : Option (List ℕ)) (whole : Bool) (answers : List Answered) → one_met numbers number expected whole answers ≤ 1
+pub one_met-le : (numbers : List (List ℕ)) (number : ℕ) (expected : Option (List ℕ)) (whole : Bool) (answers : List Answered) → met_one numbers number expected whole answers ≤ 1
 one_met-le numbers number None whole answers = omega arith
 one_met-le numbers number (Some expected) whole answers = at_most_one _
 
-pub one_expected-le : (expected : Option (List ℕ)) → one_expected expected ≤ 1
+pub one_expected-le : (expected : Option (List ℕ)) → expected_one expected ≤ 1
 one_expected-le None = omega arith
 one_expected-le (Some expected) = omega arith
 
@@ -47,15 +47,15 @@ within_more m i one one' le is small = omega arith
 
 -- the block of a call, written in four parts
 pub block_written : (numbers : List (List ℕ)) (whole : Bool) (answers : List Answered) (number : ℕ) (v call : CallView) → v ≡ call → (client : ℕ) (made : Call) (expected : Option (List ℕ)) (out out1 out2 out3 out4 : List ℕ) →
-    v.client ≡ client → made ≡ v.call → v.expect ≡ expected → out1 ≡ out ++ call_head number client made → out2 ≡ out1 ++ expectation_text numbers number expected whole answers → out3 ≡ out2 ++ codes "\n" → out4 ≡ out3 ++ answer_lines numbers number 1 expected answers →
+    v.client ≡ client → made ≡ v.call → v.expect ≡ expected → out1 ≡ out ++ call_head number client made → out2 ≡ out1 ++ expected_in_orders numbers number expected whole answers → out3 ≡ out2 ++ codes "\n" → out4 ≡ out3 ++ answer_lines numbers number 1 expected answers →
     out4 ≡ out ++ call_block numbers number whole answers call
 block_written numbers whole answers number v call same client made expected out out1 out2 out3 out4 is_client is_made is_expected w1 w2 w3 w4 =
     let head = call_head number client made in
-    let mark = expectation_text numbers number expected whole answers in
+    let mark = expected_in_orders numbers number expected whole answers in
     let lines = answer_lines numbers number 1 expected answers in
     w4 ∙ ap (λ l. l ++ lines) (w3 ∙ ap (λ l. l ++ codes "\n") (w2 ∙ ap (λ l. l ++ mark) w1))
     ∙ append_assoc ((out ++ head) ++ mark) (codes "\n") lines ∙ append_assoc (out ++ head) mark (codes "\n" ++ lines) ∙ append_assoc out head (mark ++ (codes "\n" ++ lines))
     ∙ ap (λ (n : ℕ). out ++ (call_head number n made ++ (mark ++ (codes "\n" ++ lines)))) (sym is_client)
     ∙ ap (λ (k : Call). out ++ (call_head number v.client k ++ (mark ++ (codes "\n" ++ lines)))) is_made
-    ∙ ap (λ (o : Option (List ℕ)). out ++ (call_head number v.client v.call ++ (expectation_text numbers number o whole answers ++ (codes "\n" ++ answer_lines numbers number 1 o answers)))) (sym is_expected)
+    ∙ ap (λ (o : Option (List ℕ)). out ++ (call_head number v.client v.call ++ (expected_in_orders numbers number o whole answers ++ (codes "\n" ++ answer_lines numbers number 1 o answers)))) (sym is_expected)
     ∙ ap (λ (k : CallView). out ++ call_block numbers number whole answers k) same

@@ -7,8 +7,8 @@ use Rattle.std.proofs.lemmas.List.{map-append, length-map, take_all, take_more}
 use Rattle.std.proofs.lemmas.Option.{slice_get-map, slice_get-get_or, get_or_from_slice_get, slice_get_within}
 use Rattle.kernel_abstract.specs.declared.call.Call.{Call}
 use Rattle.setup_format.specs.Views.{CallView}
-use Rattle.query_orders.specs.Orders.{below}
-use Rattle.command_explore_text.specs.Clients.{client_calls}
+use Rattle.query_orders.specs.Orders.{numbers_below}
+use Rattle.command_explore_text.specs.Clients.{calls_of_client}
 use Rattle.command_explore_text.specs.Numbers.{client_numbers}
 
 -- the call at a place
@@ -65,19 +65,19 @@ module _ {X : Type 0} (client : ℕ) (given : ℕ → List CallView → List X) 
       ∙ so
 
 -- a list for one client more
-pub lists_more : {X L : Type 0} (items : L → X) (f : ℕ → X) (lists lists' : List L) (own : L) (client : ℕ) → map items lists ≡ map f (below client) → items own ≡ f client → lists' ≡ lists ++ own ∷ [] → map items lists' ≡ map f (below (client + 1))
+pub lists_more : {X L : Type 0} (items : L → X) (f : ℕ → X) (lists lists' : List L) (own : L) (client : ℕ) → map items lists ≡ map f (numbers_below client) → items own ≡ f client → lists' ≡ lists ++ own ∷ [] → map items lists' ≡ map f (numbers_below (client + 1))
 lists_more {X} items f lists lists' own client so is pushed =
-    ap (map items) pushed ∙ map-append items lists (own ∷ []) ∙ ap (λ l. l ++ items own ∷ []) so ∙ ap (λ (x : X). map f (below client) ++ x ∷ []) is
-    ∙ sym (ap (λ n. map f (below n)) (add-one client) ∙ map-append f (below client) (client ∷ []))
+    ap (map items) pushed ∙ map-append items lists (own ∷ []) ∙ ap (λ l. l ++ items own ∷ []) so ∙ ap (λ (x : X). map f (numbers_below client) ++ x ∷ []) is
+    ∙ sym (ap (λ n. map f (numbers_below n)) (add-one client) ∙ map-append f (numbers_below client) (client ∷ []))
 
 -- ---- those of one client
 
 abbrev own : ℕ → CallView → Bool
 own client v = v.client == client
 
-pub calls_steps : (client n : ℕ) (v : CallView) (vs : List CallView) → client_calls (v ∷ vs) client ≡ cond (v.client == client) (v.call ∷ client_calls vs client) (client_calls vs client)
+pub calls_steps : (client n : ℕ) (v : CallView) (vs : List CallView) → calls_of_client (v ∷ vs) client ≡ cond (v.client == client) (v.call ∷ calls_of_client vs client) (calls_of_client vs client)
 calls_steps client n v vs =
-    elim (v.client == client) as (λ b. map (λ (c : CallView). c.call) (cond b (v ∷ filter (own client) vs) (filter (own client) vs)) ≡ cond b (v.call ∷ client_calls vs client) (client_calls vs client)) [ true ↦ refl | false ↦ refl ]
+    elim (v.client == client) as (λ b. map (λ (c : CallView). c.call) (cond b (v ∷ filter (own client) vs) (filter (own client) vs)) ≡ cond b (v.call ∷ calls_of_client vs client) (calls_of_client vs client)) [ true ↦ refl | false ↦ refl ]
 
 pub within : (calls : List CallView) (items : List Call) (i : ℕ) → items ≡ map (λ (c : CallView). c.call) calls → i < length items → i < length calls
 within calls items i is lt = let n = length-map calls (λ (c : CallView). c.call) in let m = ap length is in omega arith

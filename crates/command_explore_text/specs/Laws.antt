@@ -7,16 +7,16 @@ use Rattle.query_orders.specs.World.{World, start}
 use Rattle.query_orders.specs.Orders.{orders}
 use Rattle.query_orders.specs.Nodes.{layer}
 use Rattle.query_orders.specs.Counts.{saturated, states_before}
-use Rattle.command_explore_text.specs.Clients.{own_calls, first_clients}
+use Rattle.command_explore_text.specs.Clients.{calls_of_each, first_clients}
 use Rattle.command_explore_text.specs.Report.{exploration}
 
 abbrev pub begins : ProfileName → SetupView → World
-begins p setup = start (own_calls setup) (boot p setup.plan)
+begins p setup = start (calls_of_each setup) (boot p setup.plan)
 
 -- how many states there are with those of one call more
 abbrev pub states_with_more : ProfileName → SetupView → ℕ → ℕ → ℕ
 states_with_more p setup first n =
-    saturated (saturated (states_before p (own_calls setup) (begins p setup) (first_clients setup first) n) + length (layer p (own_calls setup) (begins p setup) (first_clients setup first) n))
+    saturated (saturated (states_before p (calls_of_each setup) (begins p setup) (first_clients setup first) n) + length (layer p (calls_of_each setup) (begins p setup) (first_clients setup first) n))
 
 -- where not all orders are explored, the states of one call more are more than the limit leaves
 abbrev pub EndsAtItsLimit : ProfileName → SetupView → ℕ → ℕ → Type 0
@@ -26,4 +26,4 @@ EndsAtItsLimit p setup first limit =
 -- where all are explored, there is none of so many calls more, or of more than these
 abbrev pub IsOnAllOrders : ProfileName → SetupView → ℕ → ℕ → Type 0
 IsOnAllOrders p setup first limit =
-    (exploration p setup first limit).whole ≡ true → (more : ℕ) → orders p (own_calls setup) (begins p setup) (first_clients setup first) ((exploration p setup first limit).calls + more) ≡ []
+    (exploration p setup first limit).whole ≡ true → (more : ℕ) → orders p (calls_of_each setup) (begins p setup) (first_clients setup first) ((exploration p setup first limit).calls + more) ≡ []

@@ -3,7 +3,7 @@ use Rattle.std.specs.Prelude.{codes, ℕ, ◌+◌, ◌==◌, cond, List, [], ◌
 use Rattle.std.specs.Fmt.{decimal}
 use Rattle.std.specs.Global.{Vec}
 use Rattle.setup_format.specs.Views.{CallView, SetupView}
-use Rattle.query_orders.specs.Orders.{below}
+use Rattle.query_orders.specs.Orders.{numbers_below}
 
 -- the numbers of a client's calls, where the first of the calls has this number
 abbrev pub client_numbers : ℕ → ℕ → List CallView → List ℕ
@@ -12,24 +12,24 @@ client_numbers client number (call ∷ calls) =
     cond (call.client == client) (number ∷ client_numbers client (number + 1) calls) (client_numbers client (number + 1) calls)
 
 -- those of each client
-abbrev pub numbers_of : SetupView → List (List ℕ)
-numbers_of setup = map (λ client. client_numbers client 1 setup.calls) (below setup.clients)
+abbrev pub client_numbers_of : SetupView → List (List ℕ)
+client_numbers_of setup = map (λ client. client_numbers client 1 setup.calls) (numbers_below setup.clients)
 
 -- the numbers in lists that the code keeps
 abbrev pub numbers_in : List (Vec ℕ) → List (List ℕ)
 numbers_in lists = map (λ (v : Vec ℕ). v.items) lists
 
 -- the number of the call of a client at a place among its calls
-abbrev pub number_in : List (List ℕ) → ℕ → ℕ → ℕ
-number_in numbers client place = unwrap_or (option_and_then (λ (own : List ℕ). slice_get own place) (slice_get numbers client)) 0
+abbrev pub call_number_at : List (List ℕ) → ℕ → ℕ → ℕ
+call_number_at numbers client place = unwrap_or (option_and_then (λ (own : List ℕ). slice_get own place) (slice_get numbers client)) 0
 
 -- the numbers of an order's calls behind others, each after a space
 abbrev pub order_text : List (List ℕ) → List ℕ → List ℕ → List ℕ
 order_text numbers made [] = []
 order_text numbers made (client ∷ order) =
-    codes " " ++ (decimal (number_in numbers client (count_by (λ c. c == client) made)) ++ order_text numbers (made ++ client ∷ []) order)
+    codes " " ++ (decimal (call_number_at numbers client (count_by (λ c. c == client) made)) ++ order_text numbers (made ++ client ∷ []) order)
 
 -- the numbers of an order's calls behind others
 abbrev pub order_numbers : List (List ℕ) → List ℕ → List ℕ → List ℕ
 order_numbers numbers made [] = []
-order_numbers numbers made (client ∷ order) = number_in numbers client (count_by (λ c. c == client) made) ∷ order_numbers numbers (made ++ client ∷ []) order
+order_numbers numbers made (client ∷ order) = call_number_at numbers client (count_by (λ c. c == client) made) ∷ order_numbers numbers (made ++ client ∷ []) order

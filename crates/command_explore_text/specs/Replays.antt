@@ -15,16 +15,16 @@ use Rattle.setup_format.specs.Views.{CallView, SetupView}
 use Rattle.query_orders.specs.declared.answer.Answer.{Answer}
 use Rattle.query_orders.specs.declared.answer.Answer.TheVariants.{Replied, Served, Cancelled, Waits, NotMade}
 use Rattle.query_orders.specs.declared.left.LeftCall.{LeftCall}
-use Rattle.query_orders.specs.World.{World, call_at, is_waiting}
+use Rattle.query_orders.specs.World.{World, call_of_client_at, is_waiting}
 use Rattle.query_orders.specs.Orders.{is_end, is_stuck}
 use Rattle.query_orders.specs.Answers.{Answered}
 use Rattle.query_orders.specs.Ends.{StuckEnd, left_calls}
-use Rattle.query_orders.specs.Laws.{calls_made}
+use Rattle.query_orders.specs.Laws.{calls_of_orders}
 use Rattle.command_explore_text.specs.declared.witness.Witness.{Witness}
 use Rattle.command_explore_text.specs.declared.witness.Witness.TheVariants as witnesses
-use Rattle.command_explore_text.specs.Clients.{own_calls}
+use Rattle.command_explore_text.specs.Clients.{calls_of_each}
 use Rattle.command_explore_text.specs.Laws.{begins}
-use Rattle.command_explore_text.specs.Numbers.{numbers_of, order_numbers}
+use Rattle.command_explore_text.specs.Numbers.{client_numbers_of, order_numbers}
 use Rattle.command_explore_text.specs.Report.{exploration}
 use Rattle.command_explore_text.specs.Views.{ExploredView}
 use Rattle.command_explore_text.specs.Witnesses.{answer_numbered, stuck_numbered, named_order, expecting, witness_of}
@@ -63,24 +63,24 @@ pub record MakesOrder (setup : SetupView) (order : List ℕ) (kept : ℕ) (made 
   pub plan : made.plan ≡ setup.plan
   pub clients : made.clients ≡ setup.clients
   pub limit : HasLimitOf setup made
-  pub numbers : made.calls ≡ chosen_views kept setup.calls (order_numbers (numbers_of setup) [] order)
-  pub calls : called made.calls ≡ calls_made setup.profile (own_calls setup) (begins setup.profile setup) order
+  pub numbers : made.calls ≡ chosen_views kept setup.calls (order_numbers (client_numbers_of setup) [] order)
+  pub calls : called made.calls ≡ calls_of_orders setup.profile (calls_of_each setup) (begins setup.profile setup) order
 
 -- ---- its run
 
-abbrev pub calls_in : SetupView → List Call
-calls_in setup = map (λ (c : CallView). c.call) setup.calls
+abbrev pub replayed_calls : SetupView → List Call
+replayed_calls setup = map (λ (c : CallView). c.call) setup.calls
 
 -- what the abstract kernel answers to the calls, from the boot on, and its state at their end
 abbrev pub run_replies : SetupView → List Reply
-run_replies setup = replies_of setup.profile (boot setup.profile setup.plan) (calls_in setup)
+run_replies setup = replies_of setup.profile (boot setup.profile setup.plan) (replayed_calls setup)
 
 abbrev pub run_end : SetupView → State
-run_end setup = state_after setup.profile (boot setup.profile setup.plan) (calls_in setup)
+run_end setup = state_after setup.profile (boot setup.profile setup.plan) (replayed_calls setup)
 
 -- how many calls each client has made, and the kernel at the end; of the calls that wait nothing is said
 abbrev pub run_world : SetupView → World
-run_world setup = record { made = map length (own_calls setup); waits = []; kernel = run_end setup }
+run_world setup = record { made = map length (calls_of_each setup); waits = []; kernel = run_end setup }
 
 -- the replies to the calls of one client, in order
 abbrev pub client_replies : ℕ → List CallView → List Reply → List Reply
@@ -98,35 +98,35 @@ abbrev pub EndsWith : SetupView → Reply → Type 0
 EndsWith made reply = (before : List Reply) × (run_replies made ≡ before ++ reply ∷ [])
 
 -- whether the thread of a call is shown to wait
-abbrev pub waits_in : Shown → Option Call → Bool
-waits_in v None = false
-waits_in v (Some call) = is_waiting (state_at v call.thread)
+abbrev pub is_shown_waiting : Shown → Option Call → Bool
+is_shown_waiting v None = false
+is_shown_waiting v (Some call) = is_waiting (state_at v call.thread)
 
 -- whether the thread of a client's call at a place of its own list waits at the end
 abbrev pub waits_at_end : SetupView → SetupView → ℕ → ℕ → Bool
-waits_at_end setup made client place = waits_in (shown (run_end made)) (call_at (own_calls setup) client place)
+waits_at_end setup made client place = is_shown_waiting (shown (run_end made)) (call_of_client_at (calls_of_each setup) client place)
 
 -- ---- what it comes to
 
 -- a client's call at a place of its own list comes to an answer: it is the last reply; or the call waits, and the last reply serves
 -- it; or it waits, and its thread does not wait at the end; or its thread waits there, or it is not made, and no client can go on
-abbrev pub ComesTo : SetupView → SetupView → ℕ → ℕ → Answer → Type 0
-ComesTo setup made client place (Replied reply) = (reply_at made client place ≡ Some reply) × EndsWith made reply
-ComesTo setup made client place (Served reply) = (reply_at made client place ≡ Some Waiting) × EndsWith made reply × (waits_at_end setup made client place ≡ false)
-ComesTo setup made client place Cancelled = (reply_at made client place ≡ Some Waiting) × (waits_at_end setup made client place ≡ false)
-ComesTo setup made client place Waits =
-    (reply_at made client place ≡ Some Waiting) × (waits_at_end setup made client place ≡ true) × (is_end (own_calls setup) (run_world made) ≡ true)
-ComesTo setup made client place NotMade = (reply_at made client place ≡ None) × (is_end (own_calls setup) (run_world made) ≡ true)
+abbrev pub ComesToAnswer : SetupView → SetupView → ℕ → ℕ → Answer → Type 0
+ComesToAnswer setup made client place (Replied reply) = (reply_at made client place ≡ Some reply) × EndsWith made reply
+ComesToAnswer setup made client place (Served reply) = (reply_at made client place ≡ Some Waiting) × EndsWith made reply × (waits_at_end setup made client place ≡ false)
+ComesToAnswer setup made client place Cancelled = (reply_at made client place ≡ Some Waiting) × (waits_at_end setup made client place ≡ false)
+ComesToAnswer setup made client place Waits =
+    (reply_at made client place ≡ Some Waiting) × (waits_at_end setup made client place ≡ true) × (is_end (calls_of_each setup) (run_world made) ≡ true)
+ComesToAnswer setup made client place NotMade = (reply_at made client place ≡ None) × (is_end (calls_of_each setup) (run_world made) ≡ true)
 
 -- it ends stuck, with these calls left
 abbrev pub EndsStuck : SetupView → SetupView → List LeftCall → Type 0
 EndsStuck setup made left =
-    (is_stuck (own_calls setup) (run_world made) ≡ true) × (left ≡ left_calls (own_calls setup) (run_world made).made (shown (run_end made)))
+    (is_stuck (calls_of_each setup) (run_world made) ≡ true) × (left ≡ left_calls (calls_of_each setup) (run_world made).made (shown (run_end made)))
 
 -- it comes to what is told of the witness
 abbrev pub ComesToTold : SetupView → ExploredView → Witness → SetupView → Type 0
 ComesToTold setup e (witnesses.Answer call place) made =
-    (a : Answered) × (answer_numbered (numbers_of setup) call place 1 e.answers ≡ Some a) × ComesTo setup made a.client a.place a.answer
+    (a : Answered) × (answer_numbered (client_numbers_of setup) call place 1 e.answers ≡ Some a) × ComesToAnswer setup made a.client a.place a.answer
 ComesToTold setup e (witnesses.Stuck place) made = (s : StuckEnd) × (stuck_numbered place 1 e.stuck ≡ Some s) × EndsStuck setup made s.left
 
 -- ---- the laws
@@ -138,7 +138,7 @@ explored setup first limit = exploration setup.profile setup first limit
 -- can be booted from the plan
 pub record IsAccepted (setup : SetupView) (first limit : ℕ) (witness : Witness) (document table : Members) : Type 0 where
   pub order : List ℕ
-  pub told : named_order (numbers_of setup) (explored setup first limit) witness ≡ Some order
+  pub told : named_order (client_numbers_of setup) (explored setup first limit) witness ≡ Some order
   pub made : SetupView
   pub accepted : setup_of table ≡ Ok made
   pub lawful : IsPlan setup.profile setup.plan
@@ -154,5 +154,5 @@ IsWitnessAccepted setup first limit witness document table =
 -- a set-up that makes the calls of the order that is told comes to what is told
 abbrev pub IsWitnessReplayed : SetupView → ℕ → ℕ → Witness → List ℕ → SetupView → Type 0
 IsWitnessReplayed setup first limit witness order made =
-    IsPlan setup.profile setup.plan → named_order (numbers_of setup) (explored setup first limit) witness ≡ Some order
+    IsPlan setup.profile setup.plan → named_order (client_numbers_of setup) (explored setup first limit) witness ≡ Some order
     → MakesOrder setup order (expecting witness) made → ComesToTold setup (explored setup first limit) witness made

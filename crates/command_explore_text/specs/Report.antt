@@ -16,19 +16,19 @@ use Rattle.query_orders.specs.Nodes.{layer}
 use Rattle.query_orders.specs.Counts.{saturated, states_before, ends_before}
 use Rattle.query_orders.specs.Found.{same_left}
 use Rattle.query_orders.specs.Explorations.{depth}
-use Rattle.command_explore_text.specs.Clients.{own_calls, first_clients}
-use Rattle.command_explore_text.specs.Numbers.{numbers_of}
-use Rattle.command_explore_text.specs.Text.{met_count, expectation_count, call_blocks, stuck_blocks, count_text}
+use Rattle.command_explore_text.specs.Clients.{calls_of_each, first_clients}
+use Rattle.command_explore_text.specs.Numbers.{client_numbers_of}
+use Rattle.command_explore_text.specs.Text.{met_in_orders, expectations_of_calls, call_blocks, stuck_blocks, capped_count_text}
 use Rattle.command_explore_text.specs.Views.{ExploredView}
 
 -- the version of the report's form, and how large the set-up is
-abbrev pub head_line : SetupView → List ℕ
-head_line setup =
+abbrev pub explore_head_line : SetupView → List ℕ
+explore_head_line setup =
     terminated (codes "explore 1 " ++ (profile_text setup.profile ++ (codes " clients " ++ (decimal setup.clients ++ (codes " calls " ++ decimal (length setup.calls))))))
 
 abbrev pub count_lines : ℕ → ℕ → ℕ → ℕ → List ℕ
 count_lines states ends orders stuck =
-    codes "states " ++ (count_text states ++ (codes " ends " ++ (count_text ends ++ (codes "\norders " ++ (count_text orders ++ (codes " stuck " ++ (count_text stuck ++ codes "\n")))))))
+    codes "states " ++ (capped_count_text states ++ (codes " ends " ++ (capped_count_text ends ++ (codes "\norders " ++ (capped_count_text orders ++ (codes " stuck " ++ (capped_count_text stuck ++ codes "\n")))))))
 
 -- where the limit on states was reached: all of them are found, and the orders that are explored have fewer calls than so many
 abbrev pub limit_line : ℕ → ℕ → List ℕ
@@ -43,17 +43,17 @@ end_lines first limit met expected e =
 -- none ends stuck
 unfoldable pub report_on : SetupView → ℕ → ℕ → ExploredView → List ℕ × Bool
 report_on setup first limit e =
-    let numbers = numbers_of setup in
-    let met = met_count numbers 1 e.whole e.answers setup.calls in
-    let expected = expectation_count setup.calls in (
-      head_line setup ++ (call_blocks numbers 1 e.whole e.answers setup.calls ++ (stuck_blocks numbers 1 e.stuck ++ end_lines first limit met expected e)),
+    let numbers = client_numbers_of setup in
+    let met = met_in_orders numbers 1 e.whole e.answers setup.calls in
+    let expected = expectations_of_calls setup.calls in (
+      explore_head_line setup ++ (call_blocks numbers 1 e.whole e.answers setup.calls ++ (stuck_blocks numbers 1 e.stuck ++ end_lines first limit met expected e)),
       e.whole && (met == expected) && (length e.stuck == 0),
     )
 
 -- what the orders tell that begin with the first calls of a set-up, from its boot on, as far as the limit on states lets it go
 unfoldable pub exploration : ProfileName → SetupView → ℕ → ℕ → ExploredView
 exploration p setup first limit =
-    let own = own_calls setup in
+    let own = calls_of_each setup in
     let begin = first_clients setup first in
     let w = start own (boot p setup.plan) in
     let n = depth p own w begin limit (length setup.calls + 1) in

@@ -11,9 +11,9 @@ use Rattle.query_orders.specs.Answers.{Answered}
 use Rattle.query_orders.specs.Ends.{StuckEnd}
 use Rattle.command_explore_text.specs.declared.witness.Witness.{Witness}
 use Rattle.command_explore_text.specs.declared.witness.Witness.TheVariants.{Answer, Stuck}
-use Rattle.command_explore_text.specs.Numbers.{numbers_of, order_numbers}
+use Rattle.command_explore_text.specs.Numbers.{client_numbers_of, order_numbers}
 use Rattle.command_explore_text.specs.Report.{exploration}
-use Rattle.command_explore_text.specs.Text.{is_of}
+use Rattle.command_explore_text.specs.Text.{is_answer_of}
 use Rattle.command_explore_text.specs.Views.{ExploredView}
 
 -- ---- the order
@@ -22,7 +22,7 @@ use Rattle.command_explore_text.specs.Views.{ExploredView}
 abbrev pub answer_numbered : List (List ℕ) → ℕ → ℕ → ℕ → List Answered → Option Answered
 answer_numbered numbers number wanted place [] = None
 answer_numbered numbers number wanted place (a ∷ answers) =
-    cond (is_of numbers number a) (cond (place == wanted) (Some a) (answer_numbered numbers number wanted (place + 1) answers)) (answer_numbered numbers number wanted place answers)
+    cond (is_answer_of numbers number a) (cond (place == wanted) (Some a) (answer_numbered numbers number wanted (place + 1) answers)) (answer_numbered numbers number wanted place answers)
 
 -- the way to end stuck that it tells with this place, where the first has this one
 abbrev pub stuck_numbered : ℕ → ℕ → List StuckEnd → Option StuckEnd
@@ -42,13 +42,13 @@ expecting (Stuck place) = 0
 -- ---- the table
 
 -- a table without a key
-abbrev pub without : List ℕ → Members → Members
-without k no_members = no_members
-without k (member l d ms) = if same_key k l then ms else member l d (without k ms)
+abbrev pub table_without : List ℕ → Members → Members
+table_without k no_members = no_members
+table_without k (member l d ms) = if same_key k l then ms else member l d (table_without k ms)
 
 -- a call without its expectation
 abbrev pub unexpecting : Data → Data
-unexpecting (table ms) = table (without (codes "expect") ms)
+unexpecting (table ms) = table (table_without (codes "expect") ms)
 unexpecting d = d
 
 abbrev pub call_as : Bool → Data → Data
@@ -82,7 +82,7 @@ with_calls kept numbers document =
 -- that of the order which an exploration tells, where it tells one
 abbrev pub witness_in : SetupView → ExploredView → Witness → Members → Option Members
 witness_in setup e witness document =
-    option_map (λ (order : List ℕ). with_calls (expecting witness) (order_numbers (numbers_of setup) [] order) document) (named_order (numbers_of setup) e witness)
+    option_map (λ (order : List ℕ). with_calls (expecting witness) (order_numbers (client_numbers_of setup) [] order) document) (named_order (client_numbers_of setup) e witness)
 
 -- the table of a set-up's document, with the calls of the first order that tells what the witness is of
 unfoldable pub witness_of : ProfileName → SetupView → ℕ → ℕ → Witness → Members → Option Members

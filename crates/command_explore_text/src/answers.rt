@@ -17,7 +17,7 @@ use std::fmt::{self, Write};
 pub struct AnswerText(pub Answer);
 
 impl fmt::Display for AnswerText {
-    ghost output = { λ a. Some (spec.answer_text a.0) };
+    ghost output = { λ a. Some (spec.call_answer_text a.0) };
 
     fn fmt<W: fmt::Write>(&self, f: &mut fmt::Formatter<W>) -> fmt::Result {
         match self.0 {
@@ -58,7 +58,7 @@ fn reply_meets(alloc: Global, reply: Reply, expected: &str) -> Result<bool, Allo
 
 /// Whether the text of an answer is the expected one, or begins with it followed by a space.
 fn text_meets(alloc: Global, answer: Answer, expected: &str) -> Result<bool, AllocError>
-    ensures { IfOk result (λ met. met ≡ begins_as (spec.answer_text answer) expected.now) }
+    ensures { IfOk result (λ met. met ≡ begins_as (spec.call_answer_text answer) expected.now) }
 {
     let text = AnswerText(answer).to_string(alloc)?;
     Ok(begins_as(text.as_str(), expected))
@@ -66,7 +66,7 @@ fn text_meets(alloc: Global, answer: Answer, expected: &str) -> Result<bool, All
 
 /// Whether what a call comes to meets an expectation: by its text, or, where it waited, by what the wait came to.
 fn meets(alloc: Global, answer: Answer, expected: &str) -> Result<bool, AllocError>
-    ensures { IfOk result (λ met. met ≡ spec.meets expected.now answer) }
+    ensures { IfOk result (λ met. met ≡ spec.meets_expectation expected.now answer) }
 {
     let is_met = text_meets(alloc, answer, expected)?;
     match answer {
@@ -85,7 +85,7 @@ pub struct Judged {
 
 /// Whether an answer is one of the call with this number.
 pub fn is_of(numbers: &[Vec<usize>], number: usize, answer: &FoundAnswer) -> bool
-    ensures { result ≡ spec.is_of (numbers_in numbers.now) number (answer_of answer.now) }
+    ensures { result ≡ spec.is_answer_of (numbers_in numbers.now) number (answer_of answer.now) }
 {
     number_at(numbers, answer.client, answer.place) == number
 }
@@ -137,7 +137,7 @@ fn add_answer(
     answer: &FoundAnswer,
 ) -> Result<(), AllocError>
     ensures { OnOk result (string_bytes out.new ≡ string_bytes out.old
-        ++ spec.answer_line (numbers_in numbers.now) number place (option_copied expected.entry) (answer_of answer.now)) }
+        ++ spec.call_answer_line (numbers_in numbers.now) number place (option_copied expected.entry) (answer_of answer.now)) }
 {
     let text = AnswerText(answer.answer);
     write!(out, "  {number}.{place} {text}")?;

@@ -35,9 +35,9 @@ fn add_mark(
     answers: &[FoundAnswer],
 ) -> Result<ExpectationCount, AllocError>
     ensures text { OnOk result (string_bytes out.new ≡ string_bytes out.old
-        ++ spec.expectation_text (numbers_in numbers.now) number (option_copied expected.entry) is_whole (answers_of answers.now)) }
-    ensures met { IfOk result (λ e. e.met ≡ spec.one_met (numbers_in numbers.now) number (option_copied expected.entry) is_whole (answers_of answers.now)) }
-    ensures expected { IfOk result (λ e. e.expected ≡ spec.one_expected (option_copied expected.entry)) }
+        ++ spec.expected_in_orders (numbers_in numbers.now) number (option_copied expected.entry) is_whole (answers_of answers.now)) }
+    ensures met { IfOk result (λ e. e.met ≡ spec.met_one (numbers_in numbers.now) number (option_copied expected.entry) is_whole (answers_of answers.now)) }
+    ensures expected { IfOk result (λ e. e.expected ≡ spec.expected_one (option_copied expected.entry)) }
 {
     let Some(expected) = expected else {
         return Ok(ExpectationCount {
@@ -75,8 +75,8 @@ fn add_call(
     ensures lines { IfOk result (λ e. (call : CallView) → slice_get setup.now.calls i ≡ Some call → string_bytes out.new ≡ string_bytes out.old
         ++ spec.call_block (numbers_in numbers.now) number is_whole (answers_of answers.now) call) }
     ensures met { IfOk result (λ e. (call : CallView) → slice_get setup.now.calls i ≡ Some call
-        → e.met ≡ spec.one_met (numbers_in numbers.now) number call.expect is_whole (answers_of answers.now)) }
-    ensures expected { IfOk result (λ e. (call : CallView) → slice_get setup.now.calls i ≡ Some call → e.expected ≡ spec.one_expected call.expect) }
+        → e.met ≡ spec.met_one (numbers_in numbers.now) number call.expect is_whole (answers_of answers.now)) }
+    ensures expected { IfOk result (λ e. (call : CallView) → slice_get setup.now.calls i ≡ Some call → e.expected ≡ spec.expected_one call.expect) }
 {
     let expected = setup.expect(i);
     add_head(out, number, setup.client_of(i), &setup.calls()[i])?;
@@ -97,8 +97,8 @@ pub fn add_calls(
 ) -> Result<ExpectationCount, AllocError>
     ensures lines { OnOk result (string_bytes out.new ≡ string_bytes out.old
         ++ spec.call_blocks (numbers_in numbers.now) 1 is_whole (answers_of answers.now) setup.now.calls) }
-    ensures met { IfOk result (λ e. e.met ≡ spec.met_count (numbers_in numbers.now) 1 is_whole (answers_of answers.now) setup.now.calls) }
-    ensures expected { IfOk result (λ e. e.expected ≡ spec.expectation_count setup.now.calls) }
+    ensures met { IfOk result (λ e. e.met ≡ spec.met_in_orders (numbers_in numbers.now) 1 is_whole (answers_of answers.now) setup.now.calls) }
+    ensures expected { IfOk result (λ e. e.expected ≡ spec.expectations_of_calls setup.now.calls) }
 {
     let rows = answer_rows(alloc, numbers, setup.calls().len() + 1, answers)?;
     let mut met = 0;

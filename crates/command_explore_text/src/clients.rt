@@ -1,7 +1,7 @@
 //! The calls of a set-up by the clients that make them.
 ghost use Rattle.std.specs.Prelude.{◌≡◌, IfOk};
 ghost use Rattle.query_orders.specs.Nodes.{own_calls as items_of};
-ghost use Rattle.command_explore_text.specs.Clients.{client_calls, own_calls, first_clients};
+ghost use Rattle.command_explore_text.specs.Clients.{calls_of_client, calls_of_each, first_clients};
 
 use kernel_core::Call;
 use setup_format::Setup;
@@ -9,7 +9,7 @@ use std::alloc::{AllocError, Global};
 
 /// The calls of one client, in order.
 fn calls_of_client(alloc: Global, setup: &Setup, client: u32) -> Result<Vec<Call>, AllocError>
-    ensures { IfOk result (λ own. own.items ≡ client_calls setup.now.calls client) }
+    ensures { IfOk result (λ own. own.items ≡ calls_of_client setup.now.calls client) }
 {
     let mut own = Vec::new(alloc);
     for (i, call) in setup.calls().iter().enumerate() {
@@ -26,7 +26,7 @@ fn calls_of_client(alloc: Global, setup: &Setup, client: u32) -> Result<Vec<Call
 ///
 /// Memory was refused.
 pub fn calls_of_clients(alloc: Global, setup: &Setup) -> Result<Vec<Vec<Call>>, AllocError>
-    ensures { IfOk result (λ lists. items_of lists.items ≡ own_calls setup.now) }
+    ensures { IfOk result (λ lists. items_of lists.items ≡ calls_of_each setup.now) }
 {
     let mut lists = Vec::new(alloc);
     for client in 0..setup.clients() {

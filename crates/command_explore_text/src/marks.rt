@@ -14,7 +14,7 @@ pub struct MarkText<'a> {
 }
 
 impl fmt::Display for MarkText<'_> {
-    ghost output = { λ m. Some (spec.mark_text m.is_whole m.judged.met m.judged.missed m.expected.now) };
+    ghost output = { λ m. Some (spec.orders_mark_text m.is_whole m.judged.met m.judged.missed m.expected.now) };
 
     fn fmt<W: fmt::Write>(&self, f: &mut fmt::Formatter<W>) -> fmt::Result {
         let expected = self.expected;
@@ -34,7 +34,7 @@ impl fmt::Display for MarkText<'_> {
 pub struct CountText(pub u64);
 
 impl fmt::Display for CountText {
-    ghost output = { λ c. Some (spec.count_text c.0) };
+    ghost output = { λ c. Some (spec.capped_count_text c.0) };
 
     fn fmt<W: fmt::Write>(&self, f: &mut fmt::Formatter<W>) -> fmt::Result {
         let count = self.0;

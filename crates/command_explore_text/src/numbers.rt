@@ -1,6 +1,6 @@
 //! The numbers of a set-up's calls, from 1 on, by the clients that make them.
 ghost use Rattle.std.specs.Prelude.{◌≡◌, ◌++◌, ◌==◌, ℕ, IfOk, OnOk, [], count_by, string_bytes};
-ghost use Rattle.command_explore_text.specs.Numbers.{client_numbers, numbers_of, numbers_in, number_in, order_numbers as numbers_of_order, order_text};
+ghost use Rattle.command_explore_text.specs.Numbers.{client_numbers, client_numbers_of, numbers_in, call_number_at, order_numbers as numbers_of_order, order_text};
 
 use query_orders::Order;
 use setup_format::Setup;
@@ -26,7 +26,7 @@ fn numbers_of_client(alloc: Global, setup: &Setup, client: u32) -> Result<Vec<us
 ///
 /// Memory was refused.
 pub fn numbers_of_clients(alloc: Global, setup: &Setup) -> Result<Vec<Vec<usize>>, AllocError>
-    ensures { IfOk result (λ lists. numbers_in lists.items ≡ numbers_of setup.now) }
+    ensures { IfOk result (λ lists. numbers_in lists.items ≡ client_numbers_of setup.now) }
 {
     let mut lists = Vec::new(alloc);
     for client in 0..setup.clients() {
@@ -38,7 +38,7 @@ pub fn numbers_of_clients(alloc: Global, setup: &Setup) -> Result<Vec<Vec<usize>
 
 /// The number of the call of a client at a place among its calls; 0 where there is none.
 pub fn number_at(numbers: &[Vec<usize>], client: usize, place: usize) -> usize
-    ensures { result ≡ number_in (numbers_in numbers.now) client place }
+    ensures { result ≡ call_number_at (numbers_in numbers.now) client place }
 {
     match numbers.get(client) {
         Some(own) => own.get(place).copied().unwrap_or(0),

@@ -2,8 +2,8 @@
 ghost use Rattle.std.specs.Prelude.{◌≡◌, ℕ, ◌++◌, ◌∷◌, [], ◌==◌, IfOk, OnOk, cond, filter, slice_get};
 ghost use Rattle.query_orders.specs.Found.{answer_of, answers_of};
 ghost use Rattle.command_explore_text.specs.Numbers.{numbers_in};
-ghost use Rattle.command_explore_text.specs.Rows.{AreEmpty, AreRows, HasMore};
-ghost use Rattle.command_explore_text.specs.Text.{is_of};
+ghost use Rattle.command_explore_text.specs.Rows.{AreEmptyRows, AreRows, HasMore};
+ghost use Rattle.command_explore_text.specs.Text.{is_answer_of};
 
 use crate::numbers::number_at;
 use query_orders::FoundAnswer;
@@ -11,7 +11,7 @@ use std::alloc::{AllocError, Global};
 
 /// So many rows with nothing in them.
 fn empty_rows(alloc: Global, count: usize) -> Result<Vec<Vec<FoundAnswer>>, AllocError>
-    ensures { IfOk result (λ rows. AreEmpty rows.items) }
+    ensures { IfOk result (λ rows. AreEmptyRows rows.items) }
 {
     let mut rows = Vec::new(alloc);
     for _i in 0..count {
@@ -73,7 +73,7 @@ pub fn row_of<'a>(
     answers: &'a [FoundAnswer],
 ) -> &'a [FoundAnswer]
     ensures { (numbers : _) → AreRows numbers (answers_of answers.now) rows.now
-        → filter (is_of numbers number) (answers_of result.now) ≡ filter (is_of numbers number) (answers_of answers.now) }
+        → filter (is_answer_of numbers number) (answers_of result.now) ≡ filter (is_answer_of numbers number) (answers_of answers.now) }
 {
     match rows.get(number) {
         Some(row) => row.as_slice(),

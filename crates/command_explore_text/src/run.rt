@@ -35,7 +35,7 @@ pub struct ExploredText {
 
 /// Adds the first line: the version of the report's form, and how large the set-up is.
 fn add_head(out: &mut String, setup: &Setup) -> Result<(), AllocError>
-    ensures { OnOk result (string_bytes out.new ≡ string_bytes out.old ++ spec.head_line setup.now) }
+    ensures { OnOk result (string_bytes out.new ≡ string_bytes out.old ++ spec.explore_head_line setup.now) }
 {
     let profile = profile_text(setup.profile());
     let clients = setup.clients();

@@ -11,7 +11,7 @@ use toml::{Table, Value};
 
 /// Takes the expectation of a call out of its table.
 fn remove_expectation(call: &mut Table)
-    ensures { table_view call.new ≡ spec.without (codes "expect") (table_view call.old) }
+    ensures { table_view call.new ≡ spec.table_without (codes "expect") (table_view call.old) }
 {
     call.remove("expect");
 }

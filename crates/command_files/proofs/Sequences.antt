@@ -8,7 +8,7 @@ use Rattle.setup_format.specs.Views.{SetupView}
 use Rattle.setup_report.specs.declared.calls.ExpectationCount.{ExpectationCount}
 use Rattle.command_check.specs.Program.{HasCounts, IsTextOfSetup}
 use Rattle.command_check.specs.declared.run.CountedText.{CountedText}
-use Rattle.command_files.specs.Files.{Each, HasCountOf, IsFound, contents_line, lines_of, setup_line, tally_of}
+use Rattle.command_files.specs.Files.{Each, HasCountOf, IsFoundFile, contents_line, lines_of, setup_line, tally_of}
 use Rattle.command_files.specs.Private.{IsCountedFound, found_line, found_status, line_with, tally_size, with_status}
 use Rattle.command_files.specs.declared.tally.Tally.{Tally}
 use Rattle.command_files.proofs.Tallies.{found_status_is, size_more, tally_more}
@@ -46,7 +46,7 @@ made_is (Ok setup) made is = count_is setup made.text.items made.count is.1
 made_is (Err fault) made is = rw is.1 is.0
 
 -- the line of what was found is that of the contents
-pub found_is : (contents : Option (List ℕ)) (found : Option CountedText) → IsFound (λ bytes made. IsTextOfSetup (setup_of_bytes bytes) made) contents found
+pub found_is : (contents : Option (List ℕ)) (found : Option CountedText) → IsFoundFile (λ bytes made. IsTextOfSetup (setup_of_bytes bytes) made) contents found
     → found_line found ≡ contents_line contents
 found_is None None is = refl
 found_is None (Some made) is = absurd is
@@ -55,7 +55,7 @@ found_is (Some bytes) (Some made) is = made_is (setup_of_bytes bytes) made is
 
 -- ---- the files so far
 
-made_of : (strict : Bool) (IsMade : List ℕ → CountedText → Type 0) (contents : Option (List ℕ)) (found : Option CountedText) → IsCountedFound strict IsMade contents found → IsFound IsMade contents found
+made_of : (strict : Bool) (IsMade : List ℕ → CountedText → Type 0) (contents : Option (List ℕ)) (found : Option CountedText) → IsCountedFound strict IsMade contents found → IsFoundFile IsMade contents found
 made_of strict IsMade None None is = tt
 made_of strict IsMade None (Some made) is = absurd is
 made_of strict IsMade (Some bytes) None is = absurd is
@@ -93,12 +93,12 @@ module _ (strict : Bool) (head : List ℕ) (line : List ℕ → Option (List ℕ
   pub more : (IsMade : List ℕ → CountedText → Type 0) (names : List (Bor (List ℕ))) (i : ℕ) (d : Bor (List ℕ)) (out out' : List ℕ) (tally tally' : Tally)
       (contents : Option (List ℕ)) (found shown counted : Option CountedText) → shown ≡ found → counted ≡ found → i < length names
       → SoFar strict head line Is (map (λ (s : Bor (List ℕ)). s.now) (take i names)) i out tally → Is (get_or names i d).now contents → IsCountedFound strict IsMade contents found
-      → ((c : Option (List ℕ)) → IsFound IsMade c shown → out' ≡ out ++ line (get_or names i d).now c) → tally' ≡ with_status (found_status strict counted) tally
+      → ((c : Option (List ℕ)) → IsFoundFile IsMade c shown → out' ≡ out ++ line (get_or names i d).now c) → tally' ≡ with_status (found_status strict counted) tally
       → SoFar strict head line Is (map (λ (s : Bor (List ℕ)). s.now) (take (i + 1) names)) (i + 1) out' tally'
   more IsMade names i d out out' tally tally' contents found shown counted shows counts within so_far is was written has =
       subst (λ ns. SoFar strict head line Is ns (i + 1) out' tally') (sym (names_more names i d within))
       (with_found IsMade (map (λ (s : Bor (List ℕ)). s.now) (take i names)) i out out' tally tally' (get_or names i d).now contents found so_far is was
-      (written contents (subst (λ f. IsFound IsMade contents f) (sym shows) (made_of strict IsMade contents found was))) (has ∙ ap (λ f. with_status (found_status strict f) tally) counts))
+      (written contents (subst (λ f. IsFoundFile IsMade contents f) (sym shows) (made_of strict IsMade contents found was))) (has ∙ ap (λ f. with_status (found_status strict f) tally) counts))
 
   -- no names
   pub none : (out out' : List ℕ) → out ≡ [] → out' ≡ out ++ head → SoFar strict head line Is [] 0 out' (tally_of strict [])

@@ -58,11 +58,11 @@ HasCountOf (Ok setup) count = HasCounts setup.profile setup count
 HasCountOf (Err fault) count = count ≡ None
 
 -- what is made of the contents of a file: nothing, where it has none
-abbrev pub IsFound : (List ℕ → CountedText → Type 0) → Option (List ℕ) → Option CountedText → Type 0
-IsFound IsMade None None = ⊤
-IsFound IsMade None (Some made) = ⊥
-IsFound IsMade (Some bytes) None = ⊥
-IsFound IsMade (Some bytes) (Some made) = IsMade bytes made
+abbrev pub IsFoundFile : (List ℕ → CountedText → Type 0) → Option (List ℕ) → Option CountedText → Type 0
+IsFoundFile IsMade None None = ⊤
+IsFoundFile IsMade None (Some made) = ⊥
+IsFoundFile IsMade (Some bytes) None = ⊥
+IsFoundFile IsMade (Some bytes) (Some made) = IsMade bytes made
 
 -- ---- a line for each file
 

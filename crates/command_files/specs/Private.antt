@@ -8,13 +8,13 @@ use Rattle.command_check.specs.Notes.{unexpected_in}
 use Rattle.command_check.specs.Program.{verdict_in}
 use Rattle.command_check.specs.declared.run.CountedText.{CountedText}
 use Rattle.command_core.specs.Statuses.{verdict_status}
-use Rattle.command_files.specs.Files.{HasCountOf, IsFound}
+use Rattle.command_files.specs.Files.{HasCountOf, IsFoundFile}
 use Rattle.command_files.specs.Strict.{strict_verdict}
 use Rattle.command_files.specs.declared.tally.Tally.{Tally}
 
 -- what is made of the contents of a file, with their count, and, where it is strict, with the calls that count
 abbrev pub IsCountedFound : Bool → (List ℕ → CountedText → Type 0) → Option (List ℕ) → Option CountedText → Type 0
-IsCountedFound strict IsMade = IsFound (λ bytes made. IsMade bytes made × HasCountOf (setup_of_bytes bytes) made.count
+IsCountedFound strict IsMade = IsFoundFile (λ bytes made. IsMade bytes made × HasCountOf (setup_of_bytes bytes) made.count
     × (strict ≡ true → made.notes.refused.items ≡ unexpected_in (setup_of_bytes bytes)))
 
 abbrev pub count_text : ExpectationCount → List ℕ

@@ -16,7 +16,7 @@ pub trait Telling {
     ghost use Rattle.command_check.specs.Notes.{unexpected_in};
     ghost use Rattle.command_check.specs.declared.run.CountedText.{CountedText};
     ghost use Rattle.command_files.specs.declared.tally.Tally.{Tally};
-    ghost use Rattle.command_files.specs.Files.{HasCountOf, IsFound};
+    ghost use Rattle.command_files.specs.Files.{HasCountOf, IsFoundFile};
 
     /// A file with a call that is refused, and of which nothing was expected, counts as one that is not met.
     ghost strict: { Self → Bool };
@@ -68,7 +68,7 @@ pub trait Telling {
         name: &str,
         found: Option<&CountedText>,
     ) -> Result<(), AllocError>
-        ensures { OnOk result ((contents : Option (List ℕ)) → IsFound (is_made self.now) contents (option_map (λ m. m.now) found.entry)
+        ensures { OnOk result ((contents : Option (List ℕ)) → IsFoundFile (is_made self.now) contents (option_map (λ m. m.now) found.entry)
             → out.new.items ≡ out.old.items ++ line self.now name.now contents) };
 
     /// Adds what stands behind the lines.

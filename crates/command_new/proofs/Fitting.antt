@@ -5,7 +5,7 @@ use Rattle.cap_core.specs.Limits.{min_root_radix, max_root_radix}
 use Rattle.kernel_abstract.specs.Plan.{Plan, IsPlan}
 use Rattle.command_new.specs.declared.asked.NewSetup.{NewSetup}
 use Rattle.command_new.specs.New.{Fits}
-use Rattle.command_new.specs.Private.{IsWithin, NoneOfRadix, plan_in}
+use Rattle.command_new.specs.Private.{IsAskedWithin, NoneOfRadix, plan_in}
 
 module _ (p : ProfileName) (asked : NewSetup) where
   in_its_sizes : (plan : Plan) → Fits p asked plan → IsPlan p (plan_in asked plan.memory_bits plan.root_radix)
@@ -21,7 +21,7 @@ module _ (p : ProfileName) (asked : NewSetup) where
       } in
       subst (IsPlan p) same fits.sound
 
-  pub fits_within : (plan : Plan) → Fits p asked plan → IsWithin p asked
+  pub fits_within : (plan : Plan) → Fits p asked plan → IsAskedWithin p asked
   fits_within plan fits =
       let limits = (in_its_sizes plan fits).limits in
       record {

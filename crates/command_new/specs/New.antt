@@ -86,6 +86,6 @@ IsMadeOf asked text Refused = (text ≡ []) × ((plan : Plan) × Fits asked.prof
 IsMadeOf asked text Absent = (text ≡ []) × NoneFits asked
 
 -- what is written, and the verdict, whatever the input is; nothing, where no sizes are given
-abbrev pub IsMade : Option NewSetup → List ℕ → List ℕ → Verdict → Type 0
-IsMade None input text verdict = (text ≡ []) × (verdict ≡ Absent)
-IsMade (Some asked) input text verdict = IsMadeOf asked text verdict
+abbrev pub IsNewText : Option NewSetup → List ℕ → List ℕ → Verdict → Type 0
+IsNewText None input text verdict = (text ≡ []) × (verdict ≡ Absent)
+IsNewText (Some asked) input text verdict = IsMadeOf asked text verdict

@@ -10,7 +10,7 @@ use Rattle.command_new.specs.New.{HasObjects, AreNames, IsExample}
 use Rattle.command_new.specs.declared.asked.NewSetup.{NewSetup}
 
 -- what is asked for lies within the limits of a simulation
-pub record IsWithin (p : ProfileName) (asked : NewSetup) : Type 0 where
+pub record IsAskedWithin (p : ProfileName) (asked : NewSetup) : Type 0 where
   pub threads_least : min_boot_threads ≤ asked.threads
   pub threads_most : asked.threads ≤ max_boot_threads
   pub endpoints_most : asked.endpoints ≤ max_boot_endpoints

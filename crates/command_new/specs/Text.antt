@@ -49,10 +49,10 @@ abbrev pub untyped_text : ℕ × ℕ → List ℕ
 untyped_text region = codes "\n[[untyped]]\nbase = " ++ (decimal region.0 ++ (codes "\nbits = " ++ (decimal region.1 ++ codes "\n")))
 
 -- the table of the call
-abbrev pub call_text : Plan → List ℕ
-call_text plan =
+abbrev pub first_call_text : Plan → List ℕ
+first_call_text plan =
     if plan.endpoints == 0 then codes "\n[[call]]\nop = \"suspend\"\nthread = \"@thread_0\"\ncap = \"@tcb_0\"\n"
     else codes "\n[[call]]\nop = \"send\"\nthread = \"@thread_0\"\ncap = \"@ep_0\"\nlabel = 7\nwords = [1]\n"
 
 unfoldable pub new_text : ProfileName → Plan → List ℕ
-new_text p plan = format_text p ++ (sizes_text plan ++ (threads_text p plan ++ (objects_text plan ++ (flat_map untyped_text plan.untypeds ++ call_text plan))))
+new_text p plan = format_text p ++ (sizes_text plan ++ (threads_text p plan ++ (objects_text plan ++ (flat_map untyped_text plan.untypeds ++ first_call_text plan))))

@@ -2,7 +2,7 @@
 ghost use Rattle.std.specs.Prelude.{◌≡◌, ◌≤◌, ◌↔◌, All, IsTrue};
 ghost use Rattle.kernel_abstract.specs.Plan.{IsUntypedSize};
 ghost use Rattle.command_new.specs.New.{HasObjects};
-ghost use Rattle.command_new.specs.Private.{IsWithin};
+ghost use Rattle.command_new.specs.Private.{IsAskedWithin};
 
 use cap_core::limits::{
     MAX_BOOT_ENDPOINTS, MAX_BOOT_THREADS, MAX_BOOT_UNTYPEDS, MAX_ROOT_RADIX, MIN_BOOT_THREADS,
@@ -72,7 +72,7 @@ impl NewSetup {
 
     /// Whether the sizes and the regions lie within the limits of a simulation.
     pub(crate) fn is_within_limits<P: Profile>(&self) -> bool
-        ensures { IsTrue result ↔ IsWithin P.profile self.now }
+        ensures { IsTrue result ↔ IsAskedWithin P.profile self.now }
     {
         MIN_BOOT_THREADS <= self.threads
             && self.threads <= MAX_BOOT_THREADS

@@ -3,7 +3,7 @@ ghost use Rattle.std.specs.Prelude.{◌≡◌, ◌↔◌, [], option_copied, IfO
 ghost use Rattle.kernel_abstract.specs.Plan.{IsPlan};
 ghost use Rattle.setup_format.specs.Read.{read_view};
 ghost use Rattle.setup_format.specs.Setups.{read_of_bytes};
-ghost use Rattle.command_new.specs.New.{IsMade, IsMadeOf, IsNew};
+ghost use Rattle.command_new.specs.New.{IsNewText, IsMadeOf, IsNew};
 ghost use Rattle.command_new.specs.Private.{IsMetBy};
 
 use crate::asked::NewSetup;
@@ -97,7 +97,7 @@ pub struct Maker<'a> {
 impl Maker<'_> {
     /// The text that is written, and the verdict.
     fn made(self, alloc: Global) -> Result<Answer, AllocError>
-        ensures { IfOk result (λ made. IsMade (option_copied self.entry.asked) [] made.text.items made.verdict) }
+        ensures { IfOk result (λ made. IsNewText (option_copied self.entry.asked) [] made.text.items made.verdict) }
     {
         match self.asked {
             None => Ok(Answer::new(alloc, Vec::new(alloc), Verdict::Absent)),
@@ -107,7 +107,7 @@ impl Maker<'_> {
 }
 
 impl Engine for Maker<'_> {
-    ghost means = { λ maker. IsMade (option_copied maker.asked) };
+    ghost means = { λ maker. IsNewText (option_copied maker.asked) };
 
     fn make(&self, alloc: Global, input: &[u8]) -> Result<Answer, RunFault> {
         self.made(alloc).map_err(|_| RunFault::Memory)

@@ -2,7 +2,7 @@
 ghost use Rattle.std.specs.Prelude.{◌≤◌, IfOk, MatchOption};
 ghost use Rattle.kernel_abstract.specs.Plan.{Plan, IsPlan};
 ghost use Rattle.command_new.specs.New.{Fits};
-ghost use Rattle.command_new.specs.Private.{IsWithin, NoneOfRadix, plan_in};
+ghost use Rattle.command_new.specs.Private.{IsAskedWithin, NoneOfRadix, plan_in};
 
 use crate::asked::NewSetup;
 use cap_core::Profile;
@@ -19,7 +19,7 @@ fn plan_of_sizes<P: Profile>(
     memory_bits: u32,
     root_radix: u32,
 ) -> Result<Option<BootPlan>, AllocError>
-    requires within { IsWithin P.profile asked.now }
+    requires within { IsAskedWithin P.profile asked.now }
     requires least_memory { MIN_MEMORY_BITS ≤ memory_bits }
     requires most_memory { memory_bits ≤ MAX_MEMORY_BITS }
     requires least_radix { MIN_ROOT_RADIX ≤ root_radix }
@@ -43,7 +43,7 @@ fn plan_of_radix<P: Profile>(
     asked: &NewSetup,
     root_radix: u32,
 ) -> Result<Option<BootPlan>, AllocError>
-    requires within { IsWithin P.profile asked.now }
+    requires within { IsAskedWithin P.profile asked.now }
     requires least_radix { MIN_ROOT_RADIX ≤ root_radix }
     requires most_radix { root_radix ≤ MAX_ROOT_RADIX }
     ensures { IfOk result (λ made. MatchOption made (NoneOfRadix P.profile asked.now root_radix) (Fits P.profile asked.now)) }
@@ -59,7 +59,7 @@ fn plan_of_radix<P: Profile>(
 
 /// The plan of what is asked for with a root CNode of the greatest radix with which there is one.
 fn plan_of_some_radix<P: Profile>(asked: &NewSetup) -> Result<Option<BootPlan>, AllocError>
-    requires { IsWithin P.profile asked.now }
+    requires { IsAskedWithin P.profile asked.now }
     ensures { IfOk result (λ made. MatchOption made ((plan : Plan) → ¬ Fits P.profile asked.now plan) (Fits P.profile asked.now)) }
 {
     for root_radix in (MIN_ROOT_RADIX..MAX_ROOT_RADIX + 1).rev() {

@@ -5,7 +5,7 @@ use Rattle.std.proofs.lemmas.Option.{get_or_from_slice_get, slice_get-map}
 use Rattle.kernel_abstract.specs.declared.call.Call.{Call}
 use Rattle.kernel_abstract.specs.declared.call.Reply.{Reply}
 use Rattle.kernel_shared.specs.declared.entry.Entry.{Entry}
-use Rattle.kernel_shared.specs.Laws.{count_of, entry, is_numbered, replies_in}
+use Rattle.kernel_shared.specs.Laws.{count_of, client_entry, are_entries_numbered, replies_in}
 use Rattle.kernel_shared.proofs.Grows.{numbered-snoc}
 use Rattle.setup_format.specs.Views.{CallView}
 use Rattle.command_threads.specs.Private.Begun.{AreBehind, AreEntriesOf}
@@ -16,15 +16,15 @@ some_is : {A : Type 0} (x y : A) → Some x ≡ Some y → x ≡ y
 some_is x y e = cc
 
 -- one entry more, with the next number of its client
-pub numbered_more : (old kept new : List Entry) (e : Entry) → is_numbered [] old ≡ true → kept ≡ old → new ≡ kept ++ e ∷ [] → e.number ≡ count_of e.client old → is_numbered [] new ≡ true
+pub numbered_more : (old kept new : List Entry) (e : Entry) → are_entries_numbered [] old ≡ true → kept ≡ old → new ≡ kept ++ e ∷ [] → e.number ≡ count_of e.client old → are_entries_numbered [] new ≡ true
 numbered_more old kept new e so same pushed next =
-    ap (is_numbered []) (pushed ∙ ap (λ (l : List Entry). l ++ e ∷ []) same)
+    ap (are_entries_numbered []) (pushed ∙ ap (λ (l : List Entry). l ++ e ∷ []) same)
     ∙ numbered-snoc [] old e so (eq-eqb e.number (count_of e.client old) next)
 
 -- one call more of a set-up, with its reply
 pub first_more : (calls : List CallView) (items : List Call) (replies : List Reply) (old new : List Entry) (i who number : ℕ) (d : Call) (r : Reply)
     → items ≡ map (λ (c : CallView). c.call) calls → i < length calls → i < length replies → option_map (λ (c : CallView). c.client) (slice_get calls i) ≡ Some who
-    → AreEntriesOf (take i calls) (take i replies) old → new ≡ old ++ entry who number (get_or items i d) (get_or replies i r) ∷ []
+    → AreEntriesOf (take i calls) (take i replies) old → new ≡ old ++ client_entry who number (get_or items i d) (get_or replies i r) ∷ []
     → AreEntriesOf (take (i + 1) calls) (take (i + 1) replies) new
 first_more calls items replies old new i who number d r is lt short from so pushed =
     let v = some_there calls i lt in
@@ -32,7 +32,7 @@ first_more calls items replies old new i who number d r is lt short from so push
     let named : (v.0).client ≡ who = some_is _ _ (sym (ap (option_map (λ (c : CallView). c.client)) v.1) ∙ from) in
     let listed : slice_get items i ≡ Some (v.0).call = ap (λ l. slice_get l i) is ∙ (slice_get-map (λ (c : CallView). c.call) calls i ∙ ap (option_map (λ (c : CallView). c.call)) v.1) in
     let call : get_or items i d ≡ (v.0).call = get_or_from_slice_get items i (v.0).call d listed in
-    let e = entry who number (get_or items i d) (get_or replies i r) in
+    let e = client_entry who number (get_or items i d) (get_or replies i r) in
     let pair : call_made e ≡ call_asked v.0 = ap₂ (λ (a : ℕ) (b : Call). (a, b)) (sym named) call in record {
       calls_are =
           ap (map call_made) pushed

@@ -7,12 +7,12 @@ use Rattle.std.specs.List.{sum_by}
 use mathlib.Core.Logic.{◌⊎◌, inl, inr}
 use Rattle.kernel_abstract.specs.declared.call.Call.{Call}
 use Rattle.kernel_shared.specs.declared.entry.Entry.{Entry}
-use Rattle.kernel_shared.specs.Laws.{calls_of}
-use Rattle.kernel_shared.specs.ClientStates.{ClientState, client_state, is_below, calls_made, lost_calls, newly_lost, made}
+use Rattle.kernel_shared.specs.Laws.{entry_calls}
+use Rattle.kernel_shared.specs.ClientStates.{ClientState, client_state, is_earlier_entry, client_calls_made, lost_calls, newly_lost, made}
 use Rattle.kernel_shared.specs.declared.driving.Stop.{Stop}
 use Rattle.kernel_shared.specs.declared.driving.Stop.TheVariants.{Gate, Fault}
 use Rattle.kernel_shared.specs.declared.fault.SharedFault.TheVariants.{Full, Stray, NameTaken, Memory, NoEntry}
-use Rattle.kernel_shared.specs.Driving.{EachThree, IsRun, IsDriven}
+use Rattle.kernel_shared.specs.Driving.{EachThree, IsClientRun, IsDriven}
 use Rattle.setup_format.specs.Views.{CallView}
 use Rattle.command_threads.specs.SharedRuns.{client_calls, calls_by, IsBeginning}
 use Rattle.command_threads.specs.Private.Settled.{AreSettled, IsFinished}
@@ -24,7 +24,7 @@ use Rattle.kernel_lists.proofs.Shares.{each_begins, carry_all, carry_whole, coun
 -- were answered where what it saw has fewer entries than the limit, or the gate may end it before the next.
 pub record IsMade (ends : ℕ → ℕ → Type 0) (calls : List CallView) (limit i : ℕ) (t : ClientState) : Type 0 where
   pub id : t.id ≡ i
-  pub carry : calls_of (filter (is_below t.id t.done) t.front) ≡ take t.done (client_calls i calls)
+  pub carry : entry_calls (filter (is_earlier_entry t.id t.done) t.front) ≡ take t.done (client_calls i calls)
   pub within : t.done ≤ length (client_calls i calls)
   pub finished : length t.front < limit → (t.done ≡ length (client_calls i calls)) ⊎ ends i t.done
 
@@ -46,13 +46,13 @@ all_answered ends limit old own new n (Some (Fault NoEntry)) driven finished roo
 pub made_by : {N T : Type 0} (ends : ℕ → ℕ → Type 0) (calls : List CallView) (limit i : ℕ) (old : ClientState) (own : List Call) (new : ClientState) (n : ℕ) (stopped : Option (Stop N T))
     → old ≡ client_state i 0 [] None → own ≡ client_calls i calls → new.stray ≡ None → IsDriven ends limit old own new n stopped → IsFinished stopped → IsMade ends calls limit i new
 made_by ends calls limit i old own new n stopped is list whole driven finished =
-    let first : IsRun (client_state i 0 [] None) own new n = subst (λ (t : ClientState). IsRun t own new n) is driven.run in
+    let first : IsClientRun (client_state i 0 [] None) own new n = subst (λ (t : ClientState). IsClientRun t own new n) is driven.run in
     let done : new.done ≡ n = let d = first.done in omega arith in
     let lost : length (newly_lost None new.stray) ≡ 0 = ap (λ (s : _). length (newly_lost None s)) whole in
     let many : n + length (newly_lost None new.stray) ≡ new.done = omega arith in
-    let grown : calls_made new ≡ take new.done own = first.grown ∙ ap (λ k. take k own) many in
-    let kept : calls_made new ≡ calls_of (filter (is_below new.id new.done) new.front) =
-    ap (λ (s : _). calls_of (filter (is_below new.id new.done) new.front) ++ lost_calls s) whole ∙ append-nil (calls_of (filter (is_below new.id new.done) new.front)) in
+    let grown : client_calls_made new ≡ take new.done own = first.grown ∙ ap (λ k. take k own) many in
+    let kept : client_calls_made new ≡ entry_calls (filter (is_earlier_entry new.id new.done) new.front) =
+    ap (λ (s : _). entry_calls (filter (is_earlier_entry new.id new.done) new.front) ++ lost_calls s) whole ∙ append-nil (entry_calls (filter (is_earlier_entry new.id new.done) new.front)) in
     record {
       id = first.id;
       carry = sym kept ∙ grown ∙ ap (take new.done) list;
@@ -91,7 +91,7 @@ module _ (ends : ℕ → ℕ → Type 0) (calls : List CallView) (limit : ℕ) (
         rest = s.rest;
         passes = λ e. nat_lt e.number t.done;
         begins = s.is;
-        carry = subst (λ k. calls_of (filter (is_below k t.done) t.front) ≡ take (made t) (client_calls i calls)) is.id (is.carry ∙ ap (λ k. take k (client_calls i calls)) (sym many));
+        carry = subst (λ k. entry_calls (filter (is_earlier_entry k t.done) t.front) ≡ take (made t) (client_calls i calls)) is.id (is.carry ∙ ap (λ k. take k (client_calls i calls)) (sym many));
         within = let w = is.within in omega arith;
       }
 

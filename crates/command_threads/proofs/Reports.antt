@@ -13,11 +13,11 @@ use Rattle.kernel_abstract.specs.Step.{replies_of, state_after}
 use Rattle.kernel_shared.specs.declared.entry.Entry.{Entry}
 use Rattle.kernel_shared.specs.declared.driving.Stop.{Stop}
 use Rattle.kernel_shared.specs.Driving.{EachThree, IsDriven}
-use Rattle.kernel_shared.specs.Laws.{Lawful, StandsAfter, calls_of, replies_in}
+use Rattle.kernel_shared.specs.Laws.{Lawful, StandsAfter, entry_calls, replies_in}
 use Rattle.kernel_shared.specs.ClientStates.{ClientState, client_state}
 use Rattle.setup_format.specs.Views.{CallView}
 use Rattle.setup_threads.specs.SharedReport.{shared_report_of}
-use Rattle.command_threads.specs.Private.Begun.{IsRunFrom}
+use Rattle.command_threads.specs.Private.Begun.{IsSharedFrom}
 use Rattle.command_threads.specs.Private.Settled.{AreSettled, IsFinished}
 use Rattle.command_threads.specs.SharedRuns.{client_calls}
 use Rattle.command_threads.proofs.Histories.{IsMade, beginnings, each_made, unless_full, whole}
@@ -29,9 +29,9 @@ text_set x y = hlevel props
 
 -- the report of a history and of the kernel of a book is that of the state after the book's calls
 pub book_shows : (p : ProfileName) (A : State) (o k : Shown) (later h : List Entry) (n : ℕ) → IsReached p A → o ≡ shown A → ∥ StandsAfter p o later k ∥₁
-    → shared_report_of p n h k ≡ shared_report_of p n h (shown (state_after p A (calls_of later)))
+    → shared_report_of p n h k ≡ shared_report_of p n h (shown (state_after p A (entry_calls later)))
 book_shows p A o k later h n reached is b =
-    ∥∥₁_elim b (text_set (shared_report_of p n h k) (shared_report_of p n h (shown (state_after p A (calls_of later)))))
+    ∥∥₁_elim b (text_set (shared_report_of p n h k) (shared_report_of p n h (shown (state_after p A (entry_calls later)))))
     (λ s. ap (shared_report_of p n h) (s.stands A reached is))
 
 -- ---- the history of a book
@@ -39,9 +39,9 @@ book_shows p A o k later h n reached is b =
 replies_set : (x y : List Reply) → IsProp (x ≡ y)
 replies_set x y = hlevel props
 
-answered : (p : ProfileName) (A : State) (o : Shown) (h : List Entry) → IsReached p A → o ≡ shown A → ∥ Lawful p o h ∥₁ → replies_in h ≡ replies_of p A (calls_of h)
+answered : (p : ProfileName) (A : State) (o : Shown) (h : List Entry) → IsReached p A → o ≡ shown A → ∥ Lawful p o h ∥₁ → replies_in h ≡ replies_of p A (entry_calls h)
 answered p A o h reached is b =
-    ∥∥₁_elim b (replies_set (replies_in h) (replies_of p A (calls_of h)))
+    ∥∥₁_elim b (replies_set (replies_in h) (replies_of p A (entry_calls h)))
     (λ l. l.answered A reached is)
 
 -- ---- the whole
@@ -50,7 +50,7 @@ run_is : (ends : ℕ → ℕ → Type 0) (p : ProfileName) (A : State) (calls : 
     → IsReached p A → o ≡ shown A
     → All (λ (c : CallView). c.client < length clients) calls
     → ∥ Lawful p o h ∥₁ → length h ≤ limit → AreSettled h clients
-    → ((i : ℕ) (t : ClientState) → slice_get clients i ≡ Some t → IsMade ends calls limit i t) → IsRunFrom ends p A calls limit h
+    → ((i : ℕ) (t : ClientState) → slice_get clients i ≡ Some t → IsMade ends calls limit i t) → IsSharedFrom ends p A calls limit h
 run_is ends p A calls o limit h clients reached is few law short settled each = record {
   replies = answered p A o h reached is law;
   within = short;
@@ -67,7 +67,7 @@ pub run_settled : {N T D : Type 0} (ends : ℕ → ℕ → Type 0) (p : ProfileN
     → ((i : ℕ) (l : Vec Call Global) → slice_get lists i ≡ Some l → l.items ≡ client_calls i calls)
     → EachThree olds lists driven (λ t l d. IsDriven ends limit t l.items (client d) (many d) (stopped d))
     → All (λ d. IsFinished (stopped d)) driven
-    → ∥ Lawful p o h ∥₁ → length h ≤ limit → AreSettled h (map client driven) → IsRunFrom ends p A calls limit h
+    → ∥ Lawful p o h ∥₁ → length h ≤ limit → AreSettled h (map client driven) → IsSharedFrom ends p A calls limit h
 run_settled ends p A calls o limit many_clients client many stopped olds lists driven h reached is within n a b first listed ran finished law short settled =
     let few : length (map client driven) ≡ many_clients = length-map driven client ∙ (b ∙ n) in
     run_is ends p A calls o limit h (map client driven) reached is

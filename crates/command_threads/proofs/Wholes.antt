@@ -9,10 +9,10 @@ use Rattle.kernel_abstract.specs.Boot.{boot}
 use Rattle.kernel_abstract.specs.Step.{replies_of, state_after}
 use Rattle.kernel_abstract.proofs.Reached.Runs.{replies_of-append, state_after-append}
 use Rattle.kernel_shared.specs.declared.entry.Entry.{Entry}
-use Rattle.kernel_shared.specs.Laws.{calls_of, replies_in}
+use Rattle.kernel_shared.specs.Laws.{entry_calls, replies_in}
 use Rattle.setup_format.specs.Views.{CallView, SetupView}
-use Rattle.command_threads.specs.Private.Begun.{IsRunFrom, IsWhole, calls_in, state_begun}
-use Rattle.command_threads.specs.SharedRuns.{IsBeginning, IsSharedRun, calls_by, client_calls, count_first, first_calls, state_of}
+use Rattle.command_threads.specs.Private.Begun.{IsSharedFrom, IsWhole, calls_in, state_begun}
+use Rattle.command_threads.specs.SharedRuns.{IsBeginning, IsSharedRun, calls_by, client_calls, count_first, first_calls, history_state}
 use Rattle.command_threads.proofs.Histories.{or_map}
 
 -- ---- a client's own calls, of calls with their clients
@@ -59,7 +59,7 @@ module _ {X Y : Type 0} (f : X → ℕ) (g : X → Call) (f' : Y → ℕ) (g' : 
 by_append : (client : ℕ) (a b : List Entry) → calls_by client (a ++ b) ≡ calls_by client a ++ calls_by client b
 by_append client a b =
     let p : Entry → Bool = λ (e : Entry). e.client == client in
-    ap calls_of (filter-append p a b) ∙ map-append (λ (e : Entry). e.call) (filter p a) (filter p b)
+    ap entry_calls (filter-append p a b) ∙ map-append (λ (e : Entry). e.call) (filter p a) (filter p b)
 
 client_append : (client : ℕ) (a b : List CallView) → client_calls client (a ++ b) ≡ client_calls client a ++ client_calls client b
 client_append client a b =
@@ -104,17 +104,17 @@ module _ (first : ℕ) (setup : SetupView) (replies : List Reply) (later h : Lis
       ap (client_calls client) (sym (take-append-drop (count_first first setup) setup.calls))
       ∙ client_append client (first_calls first setup) (drop (count_first first setup) setup.calls)
 
-  pub calls_are : calls_of h ≡ calls_in (first_calls first setup) ++ calls_of later
+  pub calls_are : entry_calls h ≡ calls_in (first_calls first setup) ++ entry_calls later
   calls_are =
-      ap calls_of w.then.is
+      ap entry_calls w.then.is
       ∙ (map-append (λ (e : Entry). e.call) w.before w.then.behind
       ∙ ap₂ (λ (a b : List Call). a ++ b)
       (same_calls (λ (e : Entry). e.client) (λ (e : Entry). e.call) (λ (c : CallView). c.client) (λ (c : CallView). c.call) w.before (first_calls first setup) w.first.calls_are)
       (same_calls (λ (e : Entry). e.client) (λ (e : Entry). e.call) (λ (e : Entry). e.client) (λ (e : Entry). e.call) w.then.behind later w.then.same.same))
 
-  pub state_is : (p : ProfileName) → state_after p (state_begun p setup first) (calls_of later) ≡ state_of p setup h
+  pub state_is : (p : ProfileName) → state_after p (state_begun p setup first) (entry_calls later) ≡ history_state p setup h
   state_is p =
-      sym (state_after-append p (boot p setup.plan) (calls_in (first_calls first setup)) (calls_of later))
+      sym (state_after-append p (boot p setup.plan) (calls_in (first_calls first setup)) (entry_calls later))
       ∙ ap (state_after p (boot p setup.plan)) (sym calls_are)
 
   long : length h ≡ count_first first setup + length later
@@ -126,13 +126,13 @@ module _ (first : ℕ) (setup : SetupView) (replies : List Reply) (later h : Lis
       omega arith
 
   module _ (ends : ℕ → ℕ → Type 0) (p : ProfileName) (answered : replies ≡ replies_of p (boot p setup.plan) (calls_in (first_calls first setup)))
-      (run : IsRunFrom ends p (state_begun p setup first) (drop (count_first first setup) setup.calls) (setup.limit - count_first first setup) later) where
-    replies_are : replies_in h ≡ replies_of p (boot p setup.plan) (calls_of h)
+      (run : IsSharedFrom ends p (state_begun p setup first) (drop (count_first first setup) setup.calls) (setup.limit - count_first first setup) later) where
+    replies_are : replies_in h ≡ replies_of p (boot p setup.plan) (entry_calls h)
     replies_are =
         ap replies_in w.then.is
         ∙ (map-append (λ (e : Entry). e.reply) w.before w.then.behind
         ∙ (ap₂ (λ (a b : List Reply). a ++ b) (w.first.replies_are ∙ answered) (w.then.same.replies ∙ run.replies)
-        ∙ (sym (replies_of-append p (boot p setup.plan) (calls_in (first_calls first setup)) (calls_of later))
+        ∙ (sym (replies_of-append p (boot p setup.plan) (calls_in (first_calls first setup)) (entry_calls later))
         ∙ ap (replies_of p (boot p setup.plan)) (sym calls_are))))
 
     beginnings_are : (client : ℕ) → IsBeginning (calls_by client h) (client_calls client setup.calls)

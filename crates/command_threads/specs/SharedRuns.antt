@@ -6,7 +6,7 @@ use Rattle.kernel_abstract.specs.Boot.{boot}
 use Rattle.kernel_abstract.specs.State.{State, shown}
 use Rattle.kernel_abstract.specs.Step.{replies_of, state_after}
 use Rattle.kernel_shared.specs.declared.entry.Entry.{Entry}
-use Rattle.kernel_shared.specs.Laws.{calls_of, replies_in, is_numbered}
+use Rattle.kernel_shared.specs.Laws.{entry_calls, replies_in, are_entries_numbered}
 use Rattle.setup_format.specs.Views.{SetupView, CallView}
 use Rattle.setup_format.specs.Faults.{Fault}
 use Rattle.setup_format.specs.Setups.{setup_of_bytes}
@@ -22,7 +22,7 @@ client_calls client calls = map (λ (c : CallView). c.call) (filter (λ (c : Cal
 
 -- the calls of a client in a history, in order
 abbrev pub calls_by : ℕ → List Entry → List Call
-calls_by client history = calls_of (filter (λ (e : Entry). e.client == client) history)
+calls_by client history = entry_calls (filter (λ (e : Entry). e.client == client) history)
 
 -- the calls begin with these
 abbrev pub IsBeginning : List Call → List Call → Type 0
@@ -54,8 +54,8 @@ pub record IsSharedRun (ends : ℕ → ℕ → Type 0) (first : ℕ) (p : Profil
   pub behind : List Entry
   pub is : history ≡ before ++ behind
   pub first_made : map call_made before ≡ map call_asked (first_calls first setup)
-  pub replies : replies_in history ≡ replies_of p (boot p setup.plan) (calls_of history)
-  pub numbered : is_numbered [] history ≡ true
+  pub replies : replies_in history ≡ replies_of p (boot p setup.plan) (entry_calls history)
+  pub numbered : are_entries_numbered [] history ≡ true
   pub within : length history ≤ setup.limit
   pub beginnings : (client : ℕ) → IsBeginning (calls_by client history) (client_calls client setup.calls)
   pub unless_full : length history < setup.limit → (client : ℕ)
@@ -63,13 +63,13 @@ pub record IsSharedRun (ends : ℕ → ℕ → Type 0) (first : ℕ) (p : Profil
   pub whole : length history ≡ length setup.calls → (client : ℕ) → calls_by client history ≡ client_calls client setup.calls
 
 -- what the abstract kernel shows after the calls of a history
-abbrev pub state_of : ProfileName → SetupView → List Entry → State
-state_of p setup history = state_after p (boot p setup.plan) (calls_of history)
+abbrev pub history_state : ProfileName → SetupView → List Entry → State
+history_state p setup history = state_after p (boot p setup.plan) (entry_calls history)
 
 -- the report of a history, and its verdict: all calls of the set-up are made, or not all
 abbrev pub IsReportOf : ProfileName → SetupView → List Entry → List ℕ → Verdict → Type 0
 IsReportOf p setup history text verdict =
-    (text ≡ shared_report_of p (length setup.calls) history (shown (state_of p setup history)))
+    (text ≡ shared_report_of p (length setup.calls) history (shown (history_state p setup history)))
     × (verdict ≡ verdict_on (length history) (length setup.calls))
 
 -- the report of some shared run of the set-up

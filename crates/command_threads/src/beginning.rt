@@ -2,7 +2,7 @@
 ghost use Rattle.std.specs.Prelude.{◌≡◌, ◌<◌, ◌≤◌, ◌+◌, ◌^◌, IfOk, OnOk, length, take, vec_len};
 ghost use Rattle.kernel_abstract.specs.Plan.{IsPlan};
 ghost use Rattle.command_threads.specs.SharedRuns.{count_first};
-ghost use Rattle.command_threads.specs.Private.Begun.{AreBehind, AreEntriesOf, IsBegun, IsWhole};
+ghost use Rattle.command_threads.specs.Private.Begun.{AreBehind, AreEntriesOf, IsBegunKernel, IsWhole};
 
 use crate::numbered::Numbered;
 use cap_core::Profile;
@@ -38,7 +38,7 @@ pub fn begin<P: Profile, S: MakeStore<P>, W: MakeWaiters<P>>(
     first: usize,
 ) -> Result<Begun<P, S, W>, AllocError>
     requires { IsPlan P.profile setup.now.plan }
-    ensures begun { IfOk result (λ b. IsBegun P.profile setup.now first b.replies.items b.kernel) }
+    ensures begun { IfOk result (λ b. IsBegunKernel P.profile setup.now first b.replies.items b.kernel) }
     ensures many { IfOk result (λ b. vec_len b.replies ≡ count_first first setup.now) }
 {
     let calls = &setup.calls()[..first_count(setup, first)];

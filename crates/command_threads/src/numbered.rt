@@ -1,7 +1,7 @@
 //! A history that grows by a call at a time.
 ghost use Rattle.std.specs.Prelude.{◌≡◌, ◌<◌, ◌+◌, ◌^◌, ◌++◌, ◌∷◌, [], ◌==◌, true, ℕ, IfOk, OnOk, OnErr, cond, slice_index, vec_len};
 ghost use Rattle.cap_core.specs.declared.limits.TheConstants.{MAX_CLIENTS};
-ghost use Rattle.kernel_shared.specs.Laws.{AreCounts, count_of, entry, is_numbered};
+ghost use Rattle.kernel_shared.specs.Laws.{AreCounts, count_of, client_entry, are_entries_numbered};
 
 use cap_core::limits::MAX_CLIENTS;
 use kernel_core::{Call, Reply};
@@ -17,7 +17,7 @@ pub struct Numbered {
     pub entries: Vec<Entry>,
     /// How many entries each client has that a set-up can name.
     counts: [u32; COUNTED],
-    pub ghost numbered: { is_numbered [] entries.items ≡ true },
+    pub ghost numbered: { are_entries_numbered [] entries.items ≡ true },
     ghost counted: { AreCounts counts entries.items },
 }
 
@@ -56,7 +56,7 @@ impl Numbered {
     pub fn push(&mut self, client: u32, call: Call, reply: Reply) -> Result<(), AllocError>
         requires room { vec_len self.old.entries + 1 < 2 ^ 32 }
         ensures entries { OnOk result (self.new.entries.items ≡ self.old.entries.items
-            ++ entry client (count_of client self.old.entries.items) call reply ∷ []) }
+            ++ client_entry client (count_of client self.old.entries.items) call reply ∷ []) }
         ensures err { OnErr result (self.new.entries.items ≡ self.old.entries.items) }
     {
         let number = self.made_by(client) as u32;

@@ -7,7 +7,7 @@ ghost use Rattle.kernel_shared.specs.declared.settling.SettleFault.TheVariants a
 ghost use Rattle.command_threads.specs.declared.returning.ReturnFault.TheVariants as Returns;
 ghost use Rattle.kernel_abstract.specs.Reached.{IsReached};
 ghost use Rattle.kernel_abstract.specs.State.{shown};
-ghost use Rattle.command_threads.specs.Private.Begun.{IsRunFrom};
+ghost use Rattle.command_threads.specs.Private.Begun.{IsSharedFrom};
 ghost use Rattle.command_threads.specs.Private.Settled.{AreSettled, HadMemory, IsFinished, IsOwnFault};
 
 use crate::client_calls::calls_of_clients;
@@ -129,7 +129,7 @@ pub fn shared_run<
     requires reached { IsReached P.profile N.start }
     requires shows { N.opening ≡ shown N.start }
     requires limit { N.limit ≡ setup.now.limit - made }
-    ensures run { IfOk result (λ b. IsRunFrom G.ends P.profile N.start (drop made setup.now.calls) N.limit b.history.items) }
+    ensures run { IfOk result (λ b. IsSharedFrom G.ends P.profile N.start (drop made setup.now.calls) N.limit b.history.items) }
     ensures fault { IfErr result IsOwnFault }
 {
     let Ok(lists) = calls_of_clients(alloc, setup, made) else {

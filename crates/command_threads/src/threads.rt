@@ -7,7 +7,7 @@ ghost use Rattle.kernel_abstract.specs.Plan.{IsPlan};
 ghost use Rattle.kernel_abstract.specs.State.{shown};
 ghost use Rattle.command_check.specs.Program.{verdict_on as verdict_of_counts};
 ghost use Rattle.command_core.specs.Runs.{IsRun};
-ghost use Rattle.command_threads.specs.Private.Begun.{IsBegun, state_begun};
+ghost use Rattle.command_threads.specs.Private.Begun.{IsBegunKernel, state_begun};
 ghost use Rattle.command_threads.specs.Private.Settled.{IsOwnFault};
 ghost use Rattle.command_threads.specs.SharedRuns.{IsOutcomeIn, IsSharedProgram, count_first};
 
@@ -62,7 +62,7 @@ fn report_on<
     requires parts { blank.parts ≡ N.parts }
     requires clients { blank.parts ≡ setup.now.clients }
     requires plan { IsPlan P.profile setup.now.plan }
-    requires begun { IsBegun P.profile setup.now first begun.replies.items begun.kernel }
+    requires begun { IsBegunKernel P.profile setup.now first begun.replies.items begun.kernel }
     requires many { vec_len begun.replies ≡ count_first first setup.now }
     requires profile { N.profile ≡ P.profile }
     requires start { N.start ≡ state_begun P.profile setup.now first }

@@ -19,12 +19,12 @@ use Rattle.command_trace_lines.specs.Names.{name_lines}
 use Rattle.command_trace_lines.specs.Told.{ToldLines, told_lines, nothing_told, told_changes}
 use Rattle.command_why.specs.Tables.{call_table}
 pub use Rattle.command_check.specs.Program.{replies_to}
-use Rattle.command_why.specs.Why.{explained}
+use Rattle.command_why.specs.Why.{reason_lines_of}
 use Rattle.command_trace.specs.Words.{op_words}
 
 -- the first line: the version of the trace's form, and how large the set-up is
-abbrev pub head_line : SetupView → List ℕ
-head_line setup =
+abbrev pub trace_head_line : SetupView → List ℕ
+trace_head_line setup =
     terminated (codes "trace 2 " ++ (profile_text setup.profile ++ (codes " memory_bits " ++ (decimal setup.plan.memory_bits ++ (codes " calls " ++ decimal (length setup.calls))))))
 
 -- boot is the change from nothing
@@ -40,25 +40,25 @@ why_text None = []
 why_text (Some lines) = lines
 
 -- a call: the report's own line, its words, why it is refused, and what it changed
-abbrev pub call_lines : ℕ → CallView → Reply → Option (List ℕ) → ToldLines → ToldLines → List ℕ
-call_lines number call reply why old new =
+abbrev pub traced_call_lines : ℕ → CallView → Reply → Option (List ℕ) → ToldLines → ToldLines → List ℕ
+traced_call_lines number call reply why old new =
     terminated (call_text number call.call reply call.expect) ++ (words_line call.call.op ++ (why_text why ++ told_changes old new))
 
 -- why the call at the place `i` of a set-up is refused in a state, by the table that spells the set-up
 abbrev pub why_at : ProfileName → Members → ℕ → State → Call → Option (List ℕ)
-why_at p table i A call = explained p (shown A) (record { call = call; table = call_table table i })
+why_at p table i A call = reason_lines_of p (shown A) (record { call = call; table = call_table table i })
 
 -- the calls of a set-up that its table spells, from the place `i` and from a state on
-unfoldable pub calls_lines : ProfileName → Members → ℕ → State → List CallView → List ℕ
-calls_lines p table i A [] = []
-calls_lines p table i A (call ∷ calls) =
-    call_lines (i + 1) call (step p A call.call).reply (why_at p table i A call.call) (told_lines p (shown A)) (told_lines p (shown (step p A call.call).state))
-    ++ calls_lines p table (i + 1) (step p A call.call).state calls
+unfoldable pub traced_calls_lines : ProfileName → Members → ℕ → State → List CallView → List ℕ
+traced_calls_lines p table i A [] = []
+traced_calls_lines p table i A (call ∷ calls) =
+    traced_call_lines (i + 1) call (step p A call.call).reply (why_at p table i A call.call) (told_lines p (shown A)) (told_lines p (shown (step p A call.call).state))
+    ++ traced_calls_lines p table (i + 1) (step p A call.call).state calls
 
 -- the trace of a set-up, of the table that spells it, and of the names in it
 unfoldable pub trace_of : ProfileName → Members → Names → SetupView → List ℕ
 trace_of p table names setup =
-    (head_line setup ++ name_lines names)
+    (trace_head_line setup ++ name_lines names)
     ++ (boot_lines (told_lines p (shown (boot p setup.plan)))
-    ++ (calls_lines p table 0 (boot p setup.plan) setup.calls
+    ++ (traced_calls_lines p table 0 (boot p setup.plan) setup.calls
     ++ count_line (met_count setup.calls (replies_to p setup)) (expectation_count setup.calls (replies_to p setup))))

@@ -6,10 +6,10 @@ ghost use Rattle.kernel_abstract.specs.State.{State, shown};
 ghost use Rattle.kernel_abstract.specs.Step.{replies_of};
 ghost use Rattle.setup_format.specs.Views.{CallView};
 ghost use Rattle.command_trace_lines.specs.Told.{told_lines};
-ghost use Rattle.command_trace_lines.specs.Views.{IsTold};
+ghost use Rattle.command_trace_lines.specs.Views.{IsStateTold};
 ghost use Rattle.command_why.specs.Tables.{call_table as call_table_of};
-ghost use Rattle.command_why.specs.Why.{explained};
-ghost use Rattle.command_trace.specs.Trace.{words_line, why_text, call_lines, calls_lines};
+ghost use Rattle.command_why.specs.Why.{reason_lines_of};
+ghost use Rattle.command_trace.specs.Trace.{words_line, why_text, traced_call_lines, traced_calls_lines};
 
 use crate::words::OpWords;
 use cap_core::Profile;
@@ -56,15 +56,15 @@ fn make_call<P: Profile, S: DerivationStore<P> + Drop, W: Waiters<P> + Drop>(
 ) -> Result<(Told, Reply), AllocError>
     requires within { i < length setup.now.calls }
     requires reached { (A : State) × IsReached P.profile A × (kernel.old ≡ shown A) }
-    requires told { IsTold P.profile kernel.old told }
+    requires told { IsStateTold P.profile kernel.old told }
     ensures steps { IfOk result (λ r. (A : State) (call : CallView) → IsReached P.profile A → kernel.old ≡ shown A
         → slice_get setup.now.calls i ≡ Some call → StepsTo P.profile A call.call r.1 kernel.new) }
     ensures text { IfOk result (λ r. (call : CallView) → slice_get setup.now.calls i ≡ Some call
         → string_bytes out.new ≡ string_bytes out.old
-        ++ call_lines (i + 1) call r.1
-        (explained P.profile kernel.old (record { call = call.call; table = call_table_of (table_view table.now) i }))
+        ++ traced_call_lines (i + 1) call r.1
+        (reason_lines_of P.profile kernel.old (record { call = call.call; table = call_table_of (table_view table.now) i }))
         (told_lines P.profile kernel.old) (told_lines P.profile kernel.new)) }
-    ensures told { IfOk result (λ r. IsTold P.profile kernel.new r.0) }
+    ensures told { IfOk result (λ r. IsStateTold P.profile kernel.new r.0) }
 {
     let call = setup.calls()[i];
     let asked = Asked {
@@ -91,12 +91,12 @@ pub fn add_calls<P: Profile, S: DerivationStore<P> + Drop, W: Waiters<P> + Drop>
     first: Told,
 ) -> Result<Vec<Reply>, AllocError>
     requires reached { (A : State) × IsReached P.profile A × (kernel.old ≡ shown A) }
-    requires told { IsTold P.profile kernel.old first }
+    requires told { IsStateTold P.profile kernel.old first }
     ensures replies { IfOk result (λ replies. (A : State) → IsReached P.profile A → kernel.old ≡ shown A
         → replies.items ≡ replies_of P.profile A (map (λ c. c.call) setup.now.calls)) }
     ensures text { IfOk result (λ replies. (A : State) → IsReached P.profile A → kernel.old ≡ shown A
         → string_bytes out.new ≡ string_bytes out.old
-        ++ calls_lines P.profile (table_view table.now) 0 A setup.now.calls) }
+        ++ traced_calls_lines P.profile (table_view table.now) 0 A setup.now.calls) }
 {
     let mut told = first;
     let mut replies = Vec::with_capacity(alloc, setup.calls().len())?;

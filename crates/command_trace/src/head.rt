@@ -9,7 +9,7 @@ use std::fmt::Write;
 
 /// Adds the first line: the version of the trace's form, and how large the set-up is.
 pub fn add_head(out: &mut String, setup: &Setup) -> Result<(), AllocError>
-    ensures { OnOk result (string_bytes out.new ≡ string_bytes out.old ++ spec.head_line setup.now) }
+    ensures { OnOk result (string_bytes out.new ≡ string_bytes out.old ++ spec.trace_head_line setup.now) }
 {
     let profile = profile_text(setup.profile());
     let memory_bits = setup.plan().memory_bits();

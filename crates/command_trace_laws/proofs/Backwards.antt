@@ -14,8 +14,8 @@ use Rattle.kernel_abstract.specs.Step.{step, state_after}
 use Rattle.setup_report.specs.State.{is_in, rising}
 use Rattle.setup_report.proofs.Addresses.Rising.{rising_same}
 use Rattle.command_trace_lines.specs.Lines.{Lines}
-use Rattle.command_trace_lines.specs.Changes.{StateLines, addresses, text_at, state_lines, no_lines}
-use Rattle.command_trace_laws.specs.Laws.{Difference, StateDifferences, difference_at, is_same, is_difference, differences, applied, Rise, state_differences, state_applied, call_differences, boot_differences, run_differences, replayed, flipped, state_flipped, backwards}
+use Rattle.command_trace_lines.specs.Changes.{StateLines, line_addresses, text_at, lines_of_state, no_lines}
+use Rattle.command_trace_laws.specs.Laws.{Difference, StateDifferences, difference_at, is_same_line, is_difference, differences, applied, Rise, state_differences, state_applied, call_differences, boot_differences, run_differences, replayed, flipped, state_flipped, backwards}
 use Rattle.command_trace_lines.specs.Calls.{lines_in}
 use Rattle.command_trace_laws.proofs.Applied.{all_applied}
 use Rattle.command_trace_laws.proofs.Replays.{AllRise, lines_rise, none_rise, rising_applied}
@@ -31,7 +31,7 @@ same_swap [] (y ∷ u) = refl
 same_swap (x ∷ t) [] = refl
 same_swap (x ∷ t) (y ∷ u) = λ i. eq_swap x y i && same_swap t u i
 
-is_same_swap : (old new : Option (List ℕ)) → is_same old new ≡ is_same new old
+is_same_swap : (old new : Option (List ℕ)) → is_same_line old new ≡ is_same_line new old
 is_same_swap None None = refl
 is_same_swap None (Some new) = refl
 is_same_swap (Some old) None = refl
@@ -59,13 +59,13 @@ flipped_each : (old new : Lines) (xs : List ℕ) → map flipped (filter is_diff
 flipped_each old new [] = refl
 flipped_each old new (x ∷ xs) =
     let others = filter is_difference (map (difference_at new old) xs) in
-    flipped_one (difference_at old new x) (filter is_difference (map (difference_at old new) xs)) others (is_same (text_at x old) (text_at x new)) (flipped_each old new xs)
+    flipped_one (difference_at old new x) (filter is_difference (map (difference_at old new) xs)) others (is_same_line (text_at x old) (text_at x new)) (flipped_each old new xs)
     ∙ ap (λ b. cond (not b) (difference_at new old x ∷ others) others) (is_same_swap (text_at x old) (text_at x new))
 
 flipped_are : (old new : Lines) → map flipped (differences old new) ≡ differences new old
 flipped_are old new =
-    flipped_each old new (rising (addresses old ++ addresses new))
-    ∙ ap (λ xs. filter is_difference (map (difference_at new old) xs)) (addresses_swap (addresses old) (addresses new))
+    flipped_each old new (rising (line_addresses old ++ line_addresses new))
+    ∙ ap (λ xs. filter is_difference (map (difference_at new old) xs)) (addresses_swap (line_addresses old) (line_addresses new))
 
 pub lead_back : (old new : Lines) → Rise old → Rise new → applied new (map flipped (differences old new)) ≡ old
 lead_back old new a b = ap (applied new) (flipped_are old new) ∙ all_applied new old b a
@@ -85,8 +85,8 @@ states_flipped a b =
 rising_back : (a b : StateLines) → AllRise a → AllRise b → state_applied b (state_flipped (state_differences a b)) ≡ a
 rising_back a b h k = ap (state_applied b) (states_flipped a b) ∙ rising_applied b a k h
 
-pub states_back : (p : ProfileName) (v w : Shown) → state_applied (state_lines p w) (state_flipped (state_differences (state_lines p v) (state_lines p w))) ≡ state_lines p v
-states_back p v w = rising_back (state_lines p v) (state_lines p w) (lines_rise p v) (lines_rise p w)
+pub states_back : (p : ProfileName) (v w : Shown) → state_applied (lines_of_state p w) (state_flipped (state_differences (lines_of_state p v) (lines_of_state p w))) ≡ lines_of_state p v
+states_back p v w = rising_back (lines_of_state p v) (lines_of_state p w) (lines_rise p v) (lines_rise p w)
 
 -- ---- runs
 

@@ -10,7 +10,7 @@ use Rattle.setup_report.specs.Text.{cap_text}
 use Rattle.setup_report_laws.specs.Laws.{Stops, is_digit}
 use Rattle.setup_report_laws.proofs.Parts.{numbers_apart}
 use Rattle.setup_report_laws.proofs.Capabilities.{capabilities_apart}
-use Rattle.command_trace_lines.specs.Lines.{parent_text, slot_text}
+use Rattle.command_trace_lines.specs.Lines.{parent_text, traced_slot_text}
 use Rattle.command_trace_lines.specs.Siblings.{sibling_text}
 
 -- what is told of a full slot: its address, its capability, and whether it is original
@@ -57,7 +57,7 @@ same_parent (Some slot) (Some place) a b h k same =
     (ap (λ n. Some n) (decimal_injective slot place h k both.0), same_original a b both.1)
 
 -- equal lines of slots tell the same
-pub same_slot_told : (d e : Derived) → IsShort (Some d.0.slot) → IsShort (Some e.0.slot) → IsShort d.1 → IsShort e.1 → slot_text d ≡ slot_text e → (told_slot d.0 ≡ told_slot e.0) × (d.1 ≡ e.1)
+pub same_slot_told : (d e : Derived) → IsShort (Some d.0.slot) → IsShort (Some e.0.slot) → IsShort d.1 → IsShort e.1 → traced_slot_text d ≡ traced_slot_text e → (told_slot d.0 ≡ told_slot e.0) × (d.1 ≡ e.1)
 same_slot_told (a, above) (b, over) ha hb k l same =
     let tail = λ (x : Entry) (o : Option ℕ). cap_text x.cap ++ (parent_text o ++ original_text x.original) in
     let first : (decimal a.slot ≡ decimal b.slot) × (codes " " ++ tail a above ≡ codes " " ++ tail b over) =

@@ -12,11 +12,11 @@ use Rattle.kernel_abstract.specs.State.{State, shown}
 use Rattle.kernel_abstract.specs.Step.{step, state_after}
 use Rattle.setup_report.specs.declared.naming.NamedObject.{NamedObject}
 use Rattle.setup_report.specs.State.{slot_of, named, holding_themselves}
-use Rattle.command_trace_lines.specs.Lines.{thread_at, inbox_line_at, endpoint_at, slot_at, selfheld_at}
-use Rattle.command_trace_lines.specs.Changes.{StateLines, state_lines, no_lines, changes}
+use Rattle.command_trace_lines.specs.Lines.{thread_text_at, inbox_line_at, endpoint_text_at, slot_at, selfheld_at}
+use Rattle.command_trace_lines.specs.Changes.{StateLines, lines_of_state, no_lines, changes}
 use Rattle.command_trace_laws.specs.Laws.{Rise, state_differences, state_told, state_applied, boot_differences, run_differences, replayed}
 use Rattle.command_trace_lines.specs.Calls.{lines_in, call_changes}
-use Rattle.command_trace_lines.specs.Views.{Follows}
+use Rattle.command_trace_lines.specs.Views.{FollowsReply}
 use Rattle.command_trace_laws.proofs.Applied.{all_told, all_applied}
 use Rattle.command_trace_lines.proofs.Views.{rises_at, nothing_changes}
 use Rattle.command_trace_lines.proofs.Steps.{step_follows}
@@ -38,13 +38,13 @@ pub record AllRise (s : StateLines) : Type 0 where
   pub slots : Rise s.slots
   pub selfheld : Rise s.selfheld
 
-pub lines_rise : (p : ProfileName) (v : Shown) → AllRise (state_lines p v)
+pub lines_rise : (p : ProfileName) (v : Shown) → AllRise (lines_of_state p v)
 lines_rise p v =
     let list = derivations_of v.derivations in
     record {
-      threads = rises_at (thread_at v) (named p NamedObject.Thread list) _ refl;
+      threads = rises_at (thread_text_at v) (named p NamedObject.Thread list) _ refl;
       inboxes = rises_at (inbox_line_at v) (named p NamedObject.Thread list) _ refl;
-      endpoints = rises_at (endpoint_at v) (named p NamedObject.Endpoint list) _ refl;
+      endpoints = rises_at (endpoint_text_at v) (named p NamedObject.Endpoint list) _ refl;
       slots = rises_at (slot_at list) (map slot_of list) _ refl;
       selfheld = rises_at selfheld_at (holding_themselves p list) _ refl;
     }
@@ -66,8 +66,8 @@ rising_applied a b h k =
       selfheld = all_applied a.selfheld b.selfheld h.selfheld k.selfheld i;
     }
 
-pub states_applied : (p : ProfileName) (v w : Shown) → state_applied (state_lines p v) (state_differences (state_lines p v) (state_lines p w)) ≡ state_lines p w
-states_applied p v w = rising_applied (state_lines p v) (state_lines p w) (lines_rise p v) (lines_rise p w)
+pub states_applied : (p : ProfileName) (v w : Shown) → state_applied (lines_of_state p v) (state_differences (lines_of_state p v) (lines_of_state p w)) ≡ lines_of_state p w
+states_applied p v w = rising_applied (lines_of_state p v) (lines_of_state p w) (lines_rise p v) (lines_rise p w)
 
 -- ---- runs
 
@@ -86,8 +86,8 @@ run_replayed p plan calls =
 -- ---- calls without effect
 
 pub same_told : (p : ProfileName) (A : State) (call : Call) → shown (step p A call).state ≡ shown A → call_changes p A call ≡ []
-same_told p A call same = nothing_changes (lines_in p A) (lines_in p (step p A call).state) (ap (state_lines p) (sym same))
+same_told p A call same = nothing_changes (lines_in p A) (lines_in p (step p A call).state) (ap (lines_of_state p) (sym same))
 
 -- what a reply says of the states shown before and after
-pub reply_says : (p : ProfileName) (A : State) (call : Call) (reply : Reply) → (step p A call).reply ≡ reply → Follows reply (shown A) (shown (step p A call).state)
-reply_says p A call reply is = subst (λ r. Follows r (shown A) (shown (step p A call).state)) is (step_follows p A call)
+pub reply_says : (p : ProfileName) (A : State) (call : Call) (reply : Reply) → (step p A call).reply ≡ reply → FollowsReply reply (shown A) (shown (step p A call).state)
+reply_says p A call reply is = subst (λ r. FollowsReply r (shown A) (shown (step p A call).state)) is (step_follows p A call)

@@ -20,8 +20,8 @@ use Rattle.setup_report.specs.State.{Derived, slot_of, found, rising, threads, e
 use Rattle.setup_report.specs.Report.{thread_line, thread_line_with, endpoint_line, slot_line, slot_text as report_slot_text, terminated, selfheld_line}
 use Rattle.setup_report.proofs.Addresses.Rising.{all_rising}
 use Rattle.setup_report.proofs.Addresses.Slots.{slots_are}
-use Rattle.command_trace_lines.specs.Lines.{slot_text, slot_at, slot_lines, line_of, line_at, thread_at, thread_text, endpoint_at, selfheld_at}
-use Rattle.command_trace_lines.specs.Changes.{addresses}
+use Rattle.command_trace_lines.specs.Lines.{traced_slot_text, slot_at, traced_slot_lines, address_line, line_at, thread_text_at, traced_thread_text, endpoint_text_at, selfheld_at}
+use Rattle.command_trace_lines.specs.Changes.{line_addresses}
 use Rattle.command_trace_laws.specs.Laws.{lines_text, TellsTheThreads, TellsTheEndpoints, TellsTheSlots, TellsTheSlotLines, TellsTheCapabilities, TellsTheSelfheld, slot_line_of, report_slot_line, held_slot_line}
 use Rattle.command_trace_laws.proofs.Children.{child_is_under, held_there}
 use Rattle.command_trace_lines.proofs.Listed.{found_is}
@@ -57,11 +57,11 @@ each_held (e ∷ es) apart =
 
 -- ---- threads
 
-threads_told : (v : Shown) (xs : List ℕ) → flat_map (thread_line v) (addresses (flat_map (line_at (thread_at v)) xs)) ≡ flat_map (thread_line v) xs
+threads_told : (v : Shown) (xs : List ℕ) → flat_map (thread_line v) (line_addresses (flat_map (line_at (thread_text_at v)) xs)) ≡ flat_map (thread_line v) xs
 threads_told v [] = refl
 threads_told v (x ∷ xs) =
     elim (state_at v x) as (λ o. state_at v x ≡ o →
-    flat_map (thread_line v) (addresses (line_of x (option_map (λ (s : ThreadState). thread_text x s (offer_at v x)) o) ++ flat_map (line_at (thread_at v)) xs))
+    flat_map (thread_line v) (line_addresses (address_line x (option_map (λ (s : ThreadState). traced_thread_text x s (offer_at v x)) o) ++ flat_map (line_at (thread_text_at v)) xs))
     ≡ thread_line v x ++ flat_map (thread_line v) xs) [
       | None ↦ λ e. threads_told v xs ∙ ap (λ o. thread_line_with x o (inbox_at v x) ++ flat_map (thread_line v) xs) (sym e)
       | Some s ↦ λ e. ap (λ l. thread_line v x ++ l) (threads_told v xs)
@@ -69,7 +69,7 @@ threads_told v (x ∷ xs) =
 
 -- ---- endpoints
 
-endpoints_told : (v : Shown) (xs : List ℕ) → lines_text (flat_map (line_at (endpoint_at v)) xs) ≡ flat_map (endpoint_line v) xs
+endpoints_told : (v : Shown) (xs : List ℕ) → lines_text (flat_map (line_at (endpoint_text_at v)) xs) ≡ flat_map (endpoint_line v) xs
 endpoints_told v [] = refl
 endpoints_told v (x ∷ xs) = ap (λ l. endpoint_line v x ++ l) (endpoints_told v xs)
 
@@ -88,7 +88,7 @@ HasLine list slot = is_some (slot_at list slot) ≡ true
 still_found : (d : Derived) (list : List Derived) (xs : List ℕ) → Each (HasLine list) xs → Each (HasLine (d ∷ list)) xs
 still_found d list [] h = tt
 still_found d list (x ∷ xs) h = (
-  elim (slot_of d == x) as (λ b. is_some (option_map slot_text (cond b (Some d) (find (λ (e : Derived). slot_of e == x) list))) ≡ true) [
+  elim (slot_of d == x) as (λ b. is_some (option_map traced_slot_text (cond b (Some d) (find (λ (e : Derived). slot_of e == x) list))) ≡ true) [
     | true ↦ refl
     | false ↦ h.0
   ],
@@ -98,26 +98,26 @@ still_found d list (x ∷ xs) h = (
 each_found : (list : List Derived) → Each (HasLine list) (map slot_of list)
 each_found [] = tt
 each_found (d ∷ list) = (
-  ap (λ b. is_some (option_map slot_text (cond b (Some d) (find (λ (e : Derived). slot_of e == slot_of d) list)))) (eq-eqb (slot_of d) (slot_of d) refl),
+  ap (λ b. is_some (option_map traced_slot_text (cond b (Some d) (find (λ (e : Derived). slot_of e == slot_of d) list)))) (eq-eqb (slot_of d) (slot_of d) refl),
   still_found d list (map slot_of list) (each_found list),
 )
 
-addresses_of : (f : ℕ → Option (List ℕ)) (xs : List ℕ) → Each (λ x. is_some (f x) ≡ true) xs → addresses (flat_map (line_at f) xs) ≡ xs
+addresses_of : (f : ℕ → Option (List ℕ)) (xs : List ℕ) → Each (λ x. is_some (f x) ≡ true) xs → line_addresses (flat_map (line_at f) xs) ≡ xs
 addresses_of f [] h = refl
 addresses_of f (x ∷ xs) h =
-    elim (f x) as (λ o. is_some o ≡ true → addresses (line_of x o ++ flat_map (line_at f) xs) ≡ x ∷ xs) [
+    elim (f x) as (λ o. is_some o ≡ true → line_addresses (address_line x o ++ flat_map (line_at f) xs) ≡ x ∷ xs) [
       | None ↦ λ e. cc
       | Some t ↦ λ e. ap (λ l. x ∷ l) (addresses_of f xs h.1)
     ] h.0
 
-slots_told : (list : List Derived) → addresses (slot_lines list) ≡ rising (map slot_of list)
+slots_told : (list : List Derived) → line_addresses (traced_slot_lines list) ≡ rising (map slot_of list)
 slots_told list = addresses_of (slot_at list) (rising (map slot_of list)) (all_rising (HasLine list) (map slot_of list) (each_found list))
 
 -- the report's line of a slot that has a line
 slot_alike : (v : Shown) → IsDistinct (λ (a b : ℕ). a == b) (slots v.derivations) → (slot : ℕ) → HasLine (derivations_of v.derivations) slot → report_slot_line (derivations_of v.derivations) slot ≡ held_slot_line v slot
 slot_alike v apart slot has =
     let list = derivations_of v.derivations in
-    elim (found list slot) as (λ o. found list slot ≡ o → is_some (option_map slot_text o) ≡ true → slot_line_of list slot o ≡ held_slot_line v slot) [
+    elim (found list slot) as (λ o. found list slot ≡ o → is_some (option_map traced_slot_text o) ≡ true → slot_line_of list slot o ≡ held_slot_line v slot) [
       | None ↦ λ there some. cc
       | Some d ↦ λ there some. λ i. terminated (report_slot_text slot ((sym (held_there list slot d there) ∙ ap (cap_in slot) (entries_are v.derivations)) i) (child_is_under slot v.derivations apart i))
     ] refl has

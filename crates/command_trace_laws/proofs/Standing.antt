@@ -23,7 +23,7 @@ use Rattle.kernel_abstract.specs.Step.{state_after}
 use Rattle.kernel_abstract.proofs.Reached.Simulation.{reached_is}
 use Rattle.setup_report.specs.State.{Derived, slot_of, found, is_in}
 use Rattle.setup_report.proofs.Addresses.Slots.{slots_are}
-use Rattle.command_trace_lines.specs.Lines.{Lines, slot_at, slot_text, slot_lines}
+use Rattle.command_trace_lines.specs.Lines.{Lines, slot_at, traced_slot_text, traced_slot_lines}
 use Rattle.command_trace_lines.specs.Siblings.{Sibling, siblings, in_front, sibling_at, sibling_text, sibling_lines}
 use Rattle.command_trace_lines.specs.Changes.{StateLines, text_at, no_lines}
 use Rattle.command_trace_lines.specs.Calls.{lines_in}
@@ -160,10 +160,10 @@ each_both P Q (x ∷ xs) h k = ((h.0, k.0), each_both P Q xs h.1 k.1)
 
 -- ---- what the lines tell
 
-slot_told : (f : Forest Entry) (k : ℕ) → text_at k (slot_lines (derivations_of f)) ≡ slot_at (derivations_of f) k
+slot_told : (f : Forest Entry) (k : ℕ) → text_at k (traced_slot_lines (derivations_of f)) ≡ slot_at (derivations_of f) k
 slot_told f k =
     let list = derivations_of f in
-    text_told (slot_at list) (map slot_of list) k (λ out. ap (option_map slot_text) (not_found slot_of k list out))
+    text_told (slot_at list) (map slot_of list) k (λ out. ap (option_map traced_slot_text) (not_found slot_of k list out))
 
 order_told : (f : Forest Entry) (k : ℕ) → text_at k (sibling_lines f) ≡ sibling_at (siblings None f) k
 order_told f k =
@@ -210,7 +210,7 @@ module _ (f : Forest Entry) (plain : IsPlain f) where
       (each_front list (subst (IsDistinct (λ (a b : ℕ). a == b)) (sym (siblings_slots_are f)) plain.distinct))
       (short_siblings None f tt plain.short)
 
-module _ (f g : Forest Entry) (plain : IsPlain f) (other : IsPlain g) (lines : slot_lines (derivations_of f) ≡ slot_lines (derivations_of g)) (order : sibling_lines f ≡ sibling_lines g) where
+module _ (f g : Forest Entry) (plain : IsPlain f) (other : IsPlain g) (lines : traced_slot_lines (derivations_of f) ≡ traced_slot_lines (derivations_of g)) (order : sibling_lines f ≡ sibling_lines g) where
   same_slots : (k : ℕ) → slot_at (derivations_of f) k ≡ slot_at (derivations_of g) k
   same_slots k = sym (slot_told f k) ∙ (ap (text_at k) lines ∙ slot_told g k)
 
@@ -223,8 +223,8 @@ module _ (f g : Forest Entry) (plain : IsPlain f) (other : IsPlain g) (lines : s
   found_stands e a b h k d is =
       let list = derivations_of g in
       let here : slot_of d ≡ e.slot = found_is list e.slot d is in
-      let texts : ◌≡◌ {A = Option (List ℕ)} (Some (slot_text (e, a))) (Some (slot_text d)) =
-      sym (ap (option_map slot_text) h.0) ∙ (same_slots e.slot ∙ ap (option_map slot_text) is) in
+      let texts : ◌≡◌ {A = Option (List ℕ)} (Some (traced_slot_text (e, a))) (Some (traced_slot_text d)) =
+      sym (ap (option_map traced_slot_text) h.0) ∙ (same_slots e.slot ∙ ap (option_map traced_slot_text) is) in
       let lawful : IsFound g d = found_each (IsFound g) (λ (x : Derived). slot_of x == e.slot) list d (derivations_found g other) is in
       let same : (told_slot e ≡ told_slot d.0) × (a ≡ d.1) = same_slot_told (e, a) d h.1 lawful.1 h.2 lawful.2 cc in
       let stands : (c : Option ℕ) × Stands address None None (told g) (told_slot d.0) d.1 c =
@@ -243,7 +243,7 @@ module _ (f g : Forest Entry) (plain : IsPlain f) (other : IsPlain g) (lines : s
   all_found e a b h k =
       let list = derivations_of g in
       elim (found list e.slot) as (λ o. found list e.slot ≡ o → Stands address None None (told g) (told_slot e) a b) [
-        | None ↦ λ is. absurd (let w : ◌≡◌ {A = Option (List ℕ)} (Some (slot_text (e, a))) None = sym (ap (option_map slot_text) h.0) ∙ (same_slots e.slot ∙ ap (option_map slot_text) is) in cc)
+        | None ↦ λ is. absurd (let w : ◌≡◌ {A = Option (List ℕ)} (Some (traced_slot_text (e, a))) None = sym (ap (option_map traced_slot_text) h.0) ∙ (same_slots e.slot ∙ ap (option_map traced_slot_text) is) in cc)
         | Some d ↦ λ is. found_stands e a b h k d is
       ] refl
 
@@ -252,7 +252,7 @@ module _ (f g : Forest Entry) (plain : IsPlain f) (other : IsPlain g) (lines : s
       let among = all_among (IsFound f) (IsFront f) None None f (derivations_found f plain) (siblings_in_front f plain) x a b stands in
       subst (λ y. Stands address None None (told g) y a b) (sym among.1) (all_found among.0 a b among.2 among.3)
 
-same_told : (f g : Forest Entry) → IsPlain f → IsPlain g → slot_lines (derivations_of f) ≡ slot_lines (derivations_of g) → sibling_lines f ≡ sibling_lines g → told f ≡ told g
+same_told : (f g : Forest Entry) → IsPlain f → IsPlain g → traced_slot_lines (derivations_of f) ≡ traced_slot_lines (derivations_of g) → sibling_lines f ≡ sibling_lines g → told f ≡ told g
 same_told f g plain other lines order =
     same_forest address (told f) (told g)
     (told_apart f (λ slot. once_at slot (preorder f) plain.distinct)) (told_apart g (λ slot. once_at slot (preorder g) other.distinct))
@@ -265,7 +265,7 @@ same_entry a b h k same =
     λ i. record { slot = (same i).0; cap = cap i; original = (same i).2 }
 
 -- the same forest
-pub same_lines : (f g : Forest Entry) → IsPlain f → IsPlain g → slot_lines (derivations_of f) ≡ slot_lines (derivations_of g) → sibling_lines f ≡ sibling_lines g → f ≡ g
+pub same_lines : (f g : Forest Entry) → IsPlain f → IsPlain g → traced_slot_lines (derivations_of f) ≡ traced_slot_lines (derivations_of g) → sibling_lines f ≡ sibling_lines g → f ≡ g
 same_lines f g plain other lines order =
     sym (renamed_as_it_is f)
     ∙ (same_renamed told_slot (λ (e : Entry). e) (λ (e : Entry). IsWithinWords e.cap) same_entry f g plain.words other.words (same_told f g plain other lines order)

@@ -4,7 +4,7 @@ use Rattle.std.specs.List.{AllByRecursion as Each, find, flat_map}
 use Rattle.std.proofs.lemmas.Bool.Decides.{eqb_tells}
 use Rattle.setup_report.specs.State.{is_in, rising}
 use Rattle.setup_report.proofs.Addresses.Rising.{any_rising}
-use Rattle.command_trace_lines.specs.Lines.{Lines, line_of, line_at, lines_at}
+use Rattle.command_trace_lines.specs.Lines.{Lines, address_line, line_at, lines_at}
 use Rattle.command_trace_lines.specs.Changes.{text_at}
 
 other_way : (a b : ℕ) → (a == b) ≡ (b == a)
@@ -30,20 +30,20 @@ here_or_there true there o = refl
 here_or_there false there o = refl
 
 text_first : (text : ℕ → Option (List ℕ)) (address k : ℕ) (lines : Lines) (there : Bool) → text_at k lines ≡ cond there (text k) None
-    → text_at k (line_of address (text address) ++ lines) ≡ cond ((k == address) || there) (text k) None
+    → text_at k (address_line address (text address) ++ lines) ≡ cond ((k == address) || there) (text k) None
 text_first text address k lines there rest =
     elim (eqb_tells k address) [
       | inl same ↦ at_it (text address) refl (ap text same.1) same.0
       | inr apart ↦ past_it (text address) apart.0
     ]
   where
-    at_it : (o : Option (List ℕ)) → text address ≡ o → text k ≡ text address → (k == address) ≡ true → text_at k (line_of address o ++ lines) ≡ cond ((k == address) || there) (text k) None
+    at_it : (o : Option (List ℕ)) → text address ≡ o → text k ≡ text address → (k == address) ≡ true → text_at k (address_line address o ++ lines) ≡ cond ((k == address) || there) (text k) None
     at_it None e same is = rest ∙ or_none (k == address) there (text k) (same ∙ e)
     at_it (Some t) e same is =
         ap (λ b. cond b (Some t) (text_at k lines)) (other_way address k ∙ is)
         ∙ (sym (same ∙ e) ∙ ap (λ b. cond (b || there) (text k) None) (sym is))
 
-    past_it : (o : Option (List ℕ)) → (k == address) ≡ false → text_at k (line_of address o ++ lines) ≡ cond ((k == address) || there) (text k) None
+    past_it : (o : Option (List ℕ)) → (k == address) ≡ false → text_at k (address_line address o ++ lines) ≡ cond ((k == address) || there) (text k) None
     past_it None apart = rest ∙ ap (λ b. cond (b || there) (text k) None) (sym apart)
     past_it (Some t) apart =
         ap (λ b. cond b (Some t) (text_at k lines)) (other_way address k ∙ apart)

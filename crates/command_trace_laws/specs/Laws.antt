@@ -18,9 +18,9 @@ use Rattle.kernel_abstract.specs.Step.{step}
 use Rattle.setup_report.specs.State.{Derived, found, rising}
 use Rattle.setup_report.specs.Report.{terminated, thread_line}
 use Rattle.setup_report.specs.Report as report
-use Rattle.command_trace_lines.specs.Lines.{Lines, thread_lines, endpoint_lines, slot_lines, selfheld_lines}
+use Rattle.command_trace_lines.specs.Lines.{Lines, traced_thread_lines, traced_endpoint_lines, traced_slot_lines, traced_selfheld_lines}
 use Rattle.command_trace_lines.specs.Siblings.{Sibling, siblings, in_front, sibling_lines}
-use Rattle.command_trace_lines.specs.Changes.{StateLines, no_lines, addresses, text_at, removed, added}
+use Rattle.command_trace_lines.specs.Changes.{StateLines, no_lines, line_addresses, text_at, removed_line, added}
 use Rattle.command_trace_lines.specs.Told.{told_lines, told_changes}
 use Rattle.command_trace_lines.specs.Calls.{lines_in, lines_after}
 
@@ -36,34 +36,34 @@ abbrev pub difference_at : Lines → Lines → ℕ → Difference
 difference_at old new address = record { address = address; old = text_at address old; new = text_at address new }
 
 -- whether two lines are the same, or neither is there
-abbrev pub is_same : Option (List ℕ) → Option (List ℕ) → Bool
-is_same None None = true
-is_same None (Some new) = false
-is_same (Some old) None = false
-is_same (Some old) (Some new) = pointwise nat_eq old new
+abbrev pub is_same_line : Option (List ℕ) → Option (List ℕ) → Bool
+is_same_line None None = true
+is_same_line None (Some new) = false
+is_same_line (Some old) None = false
+is_same_line (Some old) (Some new) = pointwise nat_eq old new
 
 abbrev pub is_difference : Difference → Bool
-is_difference d = not (is_same d.old d.new)
+is_difference d = not (is_same_line d.old d.new)
 
 -- each address of the old lines or of the new ones, in rising order, where the line differs
 abbrev pub differences : Lines → Lines → List Difference
-differences old new = filter is_difference (map (difference_at old new) (rising (addresses old ++ addresses new)))
+differences old new = filter is_difference (map (difference_at old new) (rising (line_addresses old ++ line_addresses new)))
 
 -- its text: the old line is removed, and the new one is added
-abbrev pub told : Difference → List ℕ
-told d = removed d.old ++ added d.new
+abbrev pub difference_text : Difference → List ℕ
+difference_text d = removed_line d.old ++ added d.new
 
 -- ---- differences applied to lines: the line at the address is taken away, and the new one is put in by its address
 
-abbrev pub without : ℕ → Lines → Lines
-without address lines = filter (λ (l : ℕ × List ℕ). not (l.0 == address)) lines
+abbrev pub lines_without : ℕ → Lines → Lines
+lines_without address lines = filter (λ (l : ℕ × List ℕ). not (l.0 == address)) lines
 
 abbrev pub with_line : ℕ → Option (List ℕ) → Lines → Lines
 with_line address None lines = lines
 with_line address (Some text) lines = insert_entry nat_cmp lines address text
 
 abbrev pub apply : Lines → Difference → Lines
-apply lines d = with_line d.address d.new (without d.address lines)
+apply lines d = with_line d.address d.new (lines_without d.address lines)
 
 -- one after another
 abbrev pub applied : Lines → List Difference → Lines
@@ -72,7 +72,7 @@ applied lines (d ∷ ds) = applied (apply lines d) ds
 
 -- the lines are in the order of their addresses, and no address has two
 abbrev pub Rise : Lines → Type 0
-Rise lines = IsStrictlySortedBy nat_cmp (addresses lines)
+Rise lines = IsStrictlySortedBy nat_cmp (line_addresses lines)
 
 -- the difference that leads back: the new line is taken away, and the old one is put in
 abbrev pub flipped : Difference → Difference
@@ -101,11 +101,11 @@ state_differences old new =
 -- the text of the differences of two states
 abbrev pub state_told : StateDifferences → List ℕ
 state_told d =
-    flat_map told d.threads
-    ++ (flat_map told d.inboxes
-    ++ (flat_map told d.endpoints
-    ++ (flat_map told d.slots
-    ++ flat_map told d.selfheld)))
+    flat_map difference_text d.threads
+    ++ (flat_map difference_text d.inboxes
+    ++ (flat_map difference_text d.endpoints
+    ++ (flat_map difference_text d.slots
+    ++ flat_map difference_text d.selfheld)))
 
 -- the lines of a state with the differences applied, for each sort of line
 abbrev pub state_applied : StateLines → StateDifferences → StateLines
@@ -195,26 +195,26 @@ lines_text lines = flat_map (λ (l : ℕ × List ℕ). terminated l.1) lines
 -- The report's lines of threads are of the threads that the trace has lines of, in that order. The two lines of a
 -- thread differ in what follows its state: the trace tells what it waits to send, and the report what it received last.
 abbrev pub TellsTheThreads : ProfileName → Shown → Type 0
-TellsTheThreads p v = flat_map (thread_line v) (addresses (thread_lines p v)) ≡ report.thread_lines p v
+TellsTheThreads p v = flat_map (thread_line v) (line_addresses (traced_thread_lines p v)) ≡ report.thread_lines p v
 
 -- the lines of endpoints, and those of CNodes that hold themselves, are the report's
 abbrev pub TellsTheEndpoints : ProfileName → Shown → Type 0
-TellsTheEndpoints p v = lines_text (endpoint_lines p v) ≡ report.endpoint_lines p v
+TellsTheEndpoints p v = lines_text (traced_endpoint_lines p v) ≡ report.endpoint_lines p v
 
 -- a trace has the same lines as the report of CNodes that only their own slots name
 abbrev pub TellsTheSelfheld : ProfileName → Shown → Type 0
-TellsTheSelfheld p v = lines_text (selfheld_lines p (derivations_of v.derivations)) ≡ report.selfheld_lines p v
+TellsTheSelfheld p v = lines_text (traced_selfheld_lines p (derivations_of v.derivations)) ≡ report.selfheld_lines p v
 
 -- the slots that hold a capability
-abbrev pub is_full : Shown → ℕ → Bool
-is_full v slot = not (is_null (cap_at v.derivations slot))
+abbrev pub is_slot_full : Shown → ℕ → Bool
+is_slot_full v slot = not (is_null (cap_at v.derivations slot))
 
 abbrev pub full_slots : Shown → List ℕ
-full_slots v = filter (is_full v) (slots v.derivations)
+full_slots v = filter (is_slot_full v) (slots v.derivations)
 
 -- the slots that have a line are the full ones
 abbrev pub TellsTheSlots : Shown → Type 0
-TellsTheSlots v = addresses (slot_lines (derivations_of v.derivations)) ≡ rising (full_slots v)
+TellsTheSlots v = line_addresses (traced_slot_lines (derivations_of v.derivations)) ≡ rising (full_slots v)
 
 -- whether some slot stands right below one, which the trace tells by `under`
 abbrev pub is_under : ℕ → Option ℕ → Bool
@@ -236,7 +236,7 @@ report_slot_line list slot = slot_line_of list slot (found list slot)
 -- the report's lines of slots are those, of the slots that have a line
 abbrev pub TellsTheSlotLines : Shown → Type 0
 TellsTheSlotLines v =
-    flat_map (report_slot_line (derivations_of v.derivations)) (addresses (slot_lines (derivations_of v.derivations))) ≡ report.slot_lines v
+    flat_map (report_slot_line (derivations_of v.derivations)) (line_addresses (traced_slot_lines (derivations_of v.derivations))) ≡ report.slot_lines v
 
 -- each of them tells the capability that its slot holds, and whether the slot has a child
 abbrev pub held_slot_line : Shown → ℕ → List ℕ

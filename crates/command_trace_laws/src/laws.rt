@@ -15,19 +15,19 @@ ghost use Rattle.kernel_forest.specs.Forest.{Forest, children, tops};
 ghost use Rattle.kernel_forest.specs.Entries.{Entry, is_at, slot_of};
 ghost use Rattle.command_trace_lines.specs.Lines.{Lines};
 ghost use Rattle.command_trace_lines.specs.Siblings.{sibling_lines};
-ghost use Rattle.command_trace_lines.specs.Changes.{StateLines, changes, line_changes, no_lines, state_lines};
-ghost use Rattle.command_trace_laws.specs.Laws.{Rise, all_changes, applied, backwards, boot_differences, differences, flipped, of_slots, order_differences, order_in, replayed, run_differences, state_applied, state_differences, state_flipped, state_told, told, TellsTheOrder, TellsTheThreads, TellsTheEndpoints, TellsTheSlots, TellsTheSlotLines, TellsTheCapabilities, TellsTheSelfheld};
+ghost use Rattle.command_trace_lines.specs.Changes.{StateLines, changes, line_changes, no_lines, lines_of_state};
+ghost use Rattle.command_trace_laws.specs.Laws.{Rise, all_changes, applied, backwards, boot_differences, differences, flipped, of_slots, order_differences, order_in, replayed, run_differences, state_applied, state_differences, state_flipped, state_told, difference_text, TellsTheOrder, TellsTheThreads, TellsTheEndpoints, TellsTheSlots, TellsTheSlotLines, TellsTheCapabilities, TellsTheSelfheld};
 ghost use Rattle.command_trace_lines.specs.Calls.{call_changes, lines_in};
 
 /// The changes that are told of lines, applied to the old ones, give the new ones; and so with all lines of two states.
 /// The changes of boot and of any calls behind it, applied one after another to nothing, give the lines of the state
 /// after those calls.
 pub fn changes_give_the_lines_after()
-    ensures told { (old new : Lines) → line_changes old new ≡ flat_map told (differences old new) }
+    ensures told { (old new : Lines) → line_changes old new ≡ flat_map difference_text (differences old new) }
     ensures applied { (old new : Lines) → Rise old → Rise new → applied old (differences old new) ≡ new }
     ensures told_of_states { (old new : StateLines) → changes old new ≡ state_told (state_differences old new) }
     ensures applied_to_states { (p : ProfileName) (v w : Shown)
-        → state_applied (state_lines p v) (state_differences (state_lines p v) (state_lines p w)) ≡ state_lines p w }
+        → state_applied (lines_of_state p v) (state_differences (lines_of_state p v) (lines_of_state p w)) ≡ lines_of_state p w }
     ensures replayed { (p : ProfileName) (plan : Plan) (calls : List Call)
         → replayed no_lines (boot_differences p plan ∷ run_differences p (boot p plan) calls)
         ≡ lines_in p (state_after p (boot p plan) calls) }
@@ -39,8 +39,8 @@ pub fn changes_give_the_lines_after()
 pub fn changes_lead_back()
     ensures applied { (old new : Lines) → Rise old → Rise new → applied new (map flipped (differences old new)) ≡ old }
     ensures applied_to_states { (p : ProfileName) (v w : Shown)
-        → state_applied (state_lines p w) (state_flipped (state_differences (state_lines p v) (state_lines p w)))
-        ≡ state_lines p v }
+        → state_applied (lines_of_state p w) (state_flipped (state_differences (lines_of_state p v) (lines_of_state p w)))
+        ≡ lines_of_state p v }
     ensures replayed { (p : ProfileName) (plan : Plan) (calls : List Call)
         → replayed (lines_in p (state_after p (boot p plan) calls))
         (backwards (boot_differences p plan ∷ run_differences p (boot p plan) calls))

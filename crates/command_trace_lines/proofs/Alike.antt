@@ -8,10 +8,10 @@ use Rattle.std.proofs.lemmas.List.Sorted.{All-permutation, IsPermutation-map}
 use Rattle.setup_report.specs.State.{is_in, rising}
 use Rattle.setup_report.proofs.Addresses.Rising.{any_rising, filter_rising, in_filter, rising_same, sorted_rising}
 use Rattle.setup_report.proofs.Addresses.Slots.{sorted_numbers}
-use Rattle.command_trace_lines.specs.Lines.{Lines, line_of, line_at, lines_at}
-use Rattle.command_trace_lines.specs.Changes.{text_at, change, change_at, addresses, line_changes}
+use Rattle.command_trace_lines.specs.Lines.{Lines, address_line, line_at, lines_at}
+use Rattle.command_trace_lines.specs.Changes.{text_at, change, change_at, line_addresses, line_changes}
 use Rattle.command_trace_lines.specs.Views.{line_view}
-use Rattle.command_trace_lines.specs.Private.Rows.{Apart}
+use Rattle.command_trace_lines.specs.Private.Rows.{AreLinesApart}
 use Rattle.command_trace_lines.specs.declared.changes.StateLine.{StateLine}
 use Rattle.command_trace_lines.proofs.Views.{no_change}
 
@@ -61,10 +61,10 @@ other_way q x h =
       | inr w ↦ w.0
     ]
 
-pub not_there : (q : ℕ) (l : Lines) → is_in q (addresses l) ≡ false → text_at q l ≡ None
+pub not_there : (q : ℕ) (l : Lines) → is_in q (line_addresses l) ≡ false → text_at q l ≡ None
 not_there q [] h = refl
 not_there q (x ∷ l) h =
-    let both = or_false (q == x.0) (is_in q (addresses l)) h in
+    let both = or_false (q == x.0) (is_in q (line_addresses l)) h in
     ap (λ b. cond b (Some x.1) (text_at q l)) (other_way q x.0 both.0) ∙ not_there q l both.1
 
 any_append : (q : ℕ) (xs ys : List ℕ) → is_in q (xs ++ ys) ≡ false → (is_in q xs ≡ false) × (is_in q ys ≡ false)
@@ -74,9 +74,9 @@ any_append q (x ∷ xs) ys h =
     let rest = any_append q xs ys both.1 in
     (λ i. both.0 i || rest.0 i, rest.1)
 
-within_both : (a b : Lines) → TellsWithin (change_at a b) (addresses a ++ addresses b)
+within_both : (a b : Lines) → TellsWithin (change_at a b) (line_addresses a ++ line_addresses b)
 within_both a b q h =
-    let both = any_append q (addresses a) (addresses b) h in
+    let both = any_append q (line_addresses a) (line_addresses b) h in
     λ i. is_some_text (change (not_there q a both.0 i) (not_there q b both.1 i))
 
 flat_same : (f g : ℕ → List ℕ) (xs : List ℕ) → ((q : ℕ) → f q ≡ g q) → flat_map f xs ≡ flat_map g xs
@@ -86,8 +86,8 @@ flat_same f g (x ∷ xs) h = λ i. h x i ++ flat_same f g xs h i
 -- lines that change alike at each address are told alike
 pub told_alike : (a b c d : Lines) → ((q : ℕ) → change_at a b q ≡ change_at c d q) → line_changes a b ≡ line_changes c d
 told_alike a b c d h =
-    let us = addresses a ++ addresses b in
-    let vs = addresses c ++ addresses d in
+    let us = line_addresses a ++ line_addresses b in
+    let vs = line_addresses c ++ line_addresses d in
     told_within (change_at a b) us vs (within_both a b) (λ q e. ap is_some_text (h q) ∙ within_both c d q e)
     ∙ flat_same (change_at a b) (change_at c d) (rising vs) h
 
@@ -108,35 +108,35 @@ text_behind q (x ∷ a) b =
       | false ↦ text_behind q a b
     ]
 
-off_there : (q : ℕ) (l : Lines) → Each (λ (y : ℕ). (q == y) ≡ false) (addresses l) → is_in q (addresses l) ≡ false
+off_there : (q : ℕ) (l : Lines) → Each (λ (y : ℕ). (q == y) ≡ false) (line_addresses l) → is_in q (line_addresses l) ≡ false
 off_there q [] h = refl
 off_there q (x ∷ l) h = λ i. h.0 i || off_there q l h.1 i
 
-each_behind : (P : ℕ → Type 0) (a b : Lines) → Each P (addresses (a ++ b)) → Each P (addresses b)
+each_behind : (P : ℕ → Type 0) (a b : Lines) → Each P (line_addresses (a ++ b)) → Each P (line_addresses b)
 each_behind P [] b h = h
 each_behind P (x ∷ a) b h = each_behind P a b h.1
 
-each_front : (P : ℕ → Type 0) (a b : Lines) → Each P (addresses (a ++ b)) → Each P (addresses a)
+each_front : (P : ℕ → Type 0) (a b : Lines) → Each P (line_addresses (a ++ b)) → Each P (line_addresses a)
 each_front P [] b h = tt
 each_front P (x ∷ a) b h = (h.0, each_front P a b h.1)
 
-pub apart_behind : (a b : Lines) → Apart (a ++ b) → Apart b
+pub apart_behind : (a b : Lines) → AreLinesApart (a ++ b) → AreLinesApart b
 unfolding IsDistinct
 apart_behind [] b h = h
 apart_behind (x ∷ a) b h = apart_behind a b h.1
 
-pub apart_front : (a b : Lines) → Apart (a ++ b) → Apart a
+pub apart_front : (a b : Lines) → AreLinesApart (a ++ b) → AreLinesApart a
 unfolding IsDistinct
 apart_front [] b h = tt
 apart_front (x ∷ a) b h = (each_front (λ y. (x.0 == y) ≡ false) a b h.0, apart_front a b h.1)
 
 -- an address of the first lines is none of those behind them
-none_behind : (q : ℕ) (a b : Lines) → Apart (a ++ b) → (t : List ℕ) → text_at q a ≡ Some t → text_at q b ≡ None
+none_behind : (q : ℕ) (a b : Lines) → AreLinesApart (a ++ b) → (t : List ℕ) → text_at q a ≡ Some t → text_at q b ≡ None
 unfolding IsDistinct
 none_behind q [] b h t is = cc
 none_behind q (x ∷ a) b h t is =
     elim (eqb_tells x.0 q) [
-      | inl w ↦ not_there q b (off_there q b (subst (λ y. Each (λ (z : ℕ). (y == z) ≡ false) (addresses b)) w.1 (each_behind (λ y. (x.0 == y) ≡ false) a b h.0)))
+      | inl w ↦ not_there q b (off_there q b (subst (λ y. Each (λ (z : ℕ). (y == z) ≡ false) (line_addresses b)) w.1 (each_behind (λ y. (x.0 == y) ≡ false) a b h.0)))
       | inr w ↦ none_behind q a b h.1 t (sym (ap (λ e. cond e (Some x.1) (text_at q a)) w.0) ∙ is)
     ]
 
@@ -158,13 +158,13 @@ front_only : (x o z : Option (List ℕ)) → NotBoth x (or_else o z) → NotBoth
 front_only x None z h = λ t e. refl
 front_only x (Some s) z h = h
 
-module _ (before old new after : Lines) (a : Apart (before ++ (old ++ after))) (b : Apart (before ++ (new ++ after))) where
-  apart_from : (q : ℕ) (l : Lines) → Apart (before ++ (l ++ after)) → NotBoth (text_at q before) (text_at q l)
+module _ (before old new after : Lines) (a : AreLinesApart (before ++ (old ++ after))) (b : AreLinesApart (before ++ (new ++ after))) where
+  apart_from : (q : ℕ) (l : Lines) → AreLinesApart (before ++ (l ++ after)) → NotBoth (text_at q before) (text_at q l)
   apart_from q l h =
       front_only (text_at q before) (text_at q l) (text_at q after)
       (λ t e. sym (text_behind q l after) ∙ none_behind q before (l ++ after) h t e)
 
-  behind : (q : ℕ) (l : Lines) → Apart (before ++ (l ++ after)) → NotBoth (text_at q l) (text_at q after)
+  behind : (q : ℕ) (l : Lines) → AreLinesApart (before ++ (l ++ after)) → NotBoth (text_at q l) (text_at q after)
   behind q l h = none_behind q l after (apart_behind before (l ++ after) h)
 
   placed : (q : ℕ) (l : Lines) → text_at q (before ++ (l ++ after)) ≡ or_else (text_at q before) (or_else (text_at q l) (text_at q after))
@@ -178,10 +178,10 @@ module _ (before old new after : Lines) (a : Apart (before ++ (old ++ after))) (
 
 -- ---- lines in another order
 
-found_in : (q : ℕ) (all l : Lines) → Each (λ (x : ℕ × List ℕ). text_at x.0 all ≡ Some x.1) l → is_in q (addresses all) ≡ is_in q (addresses l) → text_at q l ≡ text_at q all
+found_in : (q : ℕ) (all l : Lines) → Each (λ (x : ℕ × List ℕ). text_at x.0 all ≡ Some x.1) l → is_in q (line_addresses all) ≡ is_in q (line_addresses l) → text_at q l ≡ text_at q all
 found_in q all l h same = by l h (λ none. not_there q all (same ∙ none))
   where
-    by : (l : Lines) → Each (λ (x : ℕ × List ℕ). text_at x.0 all ≡ Some x.1) l → (is_in q (addresses l) ≡ false → text_at q all ≡ None) → text_at q l ≡ text_at q all
+    by : (l : Lines) → Each (λ (x : ℕ × List ℕ). text_at x.0 all ≡ Some x.1) l → (is_in q (line_addresses l) ≡ false → text_at q all ≡ None) → text_at q l ≡ text_at q all
     by [] h none = sym (none refl)
     by (x ∷ l) h none =
         elim (eqb_tells x.0 q) [
@@ -189,13 +189,13 @@ found_in q all l h same = by l h (λ none. not_there q all (same ∙ none))
           | inr w ↦ ap (λ e. cond e (Some x.1) (text_at q l)) w.0 ∙ by l h.1 (λ e. none (λ i. other_way x.0 q w.0 i || e i))
         ]
 
-each_past : (x : ℕ × List ℕ) (all l : Lines) → Each (λ (y : ℕ). (x.0 == y) ≡ false) (addresses l) → Each (λ (y : ℕ × List ℕ). text_at y.0 all ≡ Some y.1) l →
+each_past : (x : ℕ × List ℕ) (all l : Lines) → Each (λ (y : ℕ). (x.0 == y) ≡ false) (line_addresses l) → Each (λ (y : ℕ × List ℕ). text_at y.0 all ≡ Some y.1) l →
     Each (λ (y : ℕ × List ℕ). text_at y.0 (x ∷ all) ≡ Some y.1) l
 each_past x all [] h k = tt
 each_past x all (y ∷ l) h k = (ap (λ e. cond e (Some x.1) (text_at y.0 all)) h.0 ∙ k.0, each_past x all l h.1 k.1)
 
 -- each line of lines that are apart is found there
-pub each_found : (l : Lines) → Apart l → Each (λ (x : ℕ × List ℕ). text_at x.0 l ≡ Some x.1) l
+pub each_found : (l : Lines) → AreLinesApart l → Each (λ (x : ℕ × List ℕ). text_at x.0 l ≡ Some x.1) l
 unfolding IsDistinct
 each_found [] h = tt
 each_found (x ∷ l) h = (
@@ -203,8 +203,8 @@ each_found (x ∷ l) h = (
   each_past x l l h.0 (each_found l h.1),
 )
 
-pub in_other_order : (xs ys : Lines) → Each (λ (x : ℕ × List ℕ). text_at x.0 xs ≡ Some x.1) ys → addresses ys ≡ rising (addresses xs) → (q : ℕ) → text_at q ys ≡ text_at q xs
-in_other_order xs ys h same q = found_in q xs ys h (sym (ap (is_in q) same ∙ any_rising (λ a. q == a) (addresses xs)))
+pub in_other_order : (xs ys : Lines) → Each (λ (x : ℕ × List ℕ). text_at x.0 xs ≡ Some x.1) ys → line_addresses ys ≡ rising (line_addresses xs) → (q : ℕ) → text_at q ys ≡ text_at q xs
+in_other_order xs ys h same q = found_in q xs ys h (sym (ap (is_in q) same ∙ any_rising (λ a. q == a) (line_addresses xs)))
 
 each_all : {X : Type 0} (P : X → Type 0) (xs : List X) → Each P xs → All P xs
 each_all P [] h k d lt = absurd (omega (arith, lt))
@@ -215,20 +215,20 @@ all_each : {X : Type 0} (P : X → Type 0) (xs : List X) → All P xs → Each P
 all_each P [] h = tt
 all_each P (x ∷ xs) h = (h 0 x (omega arith), all_each P xs (λ k d lt. h (suc k) d (omega (arith, lt))))
 
-addressed : (lines : List StateLine) → addresses (map line_view lines) ≡ map (λ (l : StateLine). l.address) lines
+addressed : (lines : List StateLine) → line_addresses (map line_view lines) ≡ map (λ (l : StateLine). l.address) lines
 addressed [] = refl
 addressed (l ∷ lines) = ap (λ xs. l.address ∷ xs) (addressed lines)
 
 -- lines that are sorted by their addresses
-module _ (xs ys : List StateLine) (moved : IsPermutation xs ys) (order : IsNonDecreasingBy (λ (l : StateLine). l.address) ys) (apart : Apart (map line_view xs)) where
-  sorted_addresses : addresses (map line_view ys) ≡ rising (addresses (map line_view xs))
+module _ (xs ys : List StateLine) (moved : IsPermutation xs ys) (order : IsNonDecreasingBy (λ (l : StateLine). l.address) ys) (apart : AreLinesApart (map line_view xs)) where
+  sorted_addresses : line_addresses (map line_view ys) ≡ rising (line_addresses (map line_view xs))
   sorted_addresses =
       addressed ys
       ∙ sorted_numbers (λ (l : StateLine). l.address) xs ys moved order (subst (IsDistinct (λ (a b : ℕ). a == b)) (addressed xs) apart)
       ∙ ap rising (sym (addressed xs))
 
-  pub sorted_rise : IsStrictlySortedBy nat_cmp (addresses (map line_view ys))
-  sorted_rise = subst (IsStrictlySortedBy nat_cmp) (sym sorted_addresses) (sorted_rising (addresses (map line_view xs)))
+  pub sorted_rise : IsStrictlySortedBy nat_cmp (line_addresses (map line_view ys))
+  sorted_rise = subst (IsStrictlySortedBy nat_cmp) (sym sorted_addresses) (sorted_rising (line_addresses (map line_view xs)))
 
   pub sorted_same : (q : ℕ) → text_at q (map line_view ys) ≡ text_at q (map line_view xs)
   sorted_same =
@@ -238,7 +238,7 @@ module _ (xs ys : List StateLine) (moved : IsPermutation xs ys) (order : IsNonDe
 
 -- ---- the line at an address of those at some addresses
 
-pub line_first : (q x : ℕ) (l : Lines) (o : Option (List ℕ)) → text_at q (line_of x o ++ l) ≡ or_else (cond (x == q) o None) (text_at q l)
+pub line_first : (q x : ℕ) (l : Lines) (o : Option (List ℕ)) → text_at q (address_line x o ++ l) ≡ or_else (cond (x == q) o None) (text_at q l)
 line_first q x l None = elim (x == q) as (λ b. text_at q l ≡ or_else (cond b None None) (text_at q l)) [ true ↦ refl | false ↦ refl ]
 line_first q x l (Some t) = elim (x == q) as (λ b. cond b (Some t) (text_at q l) ≡ or_else (cond b (Some t) None) (text_at q l)) [ true ↦ refl | false ↦ refl ]
 

@@ -5,7 +5,7 @@ use Rattle.std.proofs.lemmas.List.{length-drop, take_all, take-append-drop}
 use Rattle.std.proofs.lemmas.List.Concat.{flat_map-append}
 use Rattle.command_trace_lines.specs.Lines.{Lines}
 use Rattle.command_trace_lines.specs.Changes.{line_changes}
-use Rattle.command_trace_lines.specs.Private.Rows.{Apart}
+use Rattle.command_trace_lines.specs.Private.Rows.{AreLinesApart}
 use Rattle.command_trace_lines.proofs.Alike.{apart_behind, apart_front, ends_apart}
 
 -- what follows where there is a value
@@ -39,13 +39,13 @@ module _ {R : Type 0} (f : R → Lines) where
       in_parts xs n
       ∙ ap (λ l. flat_map f (take n xs) ++ l) (ap (flat_map f) (sym (behind_is xs n)) ∙ in_parts (behind xs n) (length (behind xs n) - b))
 
-  pub between_apart : (xs : List R) (n b : ℕ) → Apart (flat_map f xs) → Apart (flat_map f (between xs n b))
+  pub between_apart : (xs : List R) (n b : ℕ) → AreLinesApart (flat_map f xs) → AreLinesApart (flat_map f (between xs n b))
   between_apart xs n b apart =
       apart_front (flat_map f (between xs n b)) (rest xs n b)
-      (apart_behind (flat_map f (take n xs)) (flat_map f (between xs n b) ++ rest xs n b) (subst Apart (in_three xs n b) apart))
+      (apart_behind (flat_map f (take n xs)) (flat_map f (between xs n b) ++ rest xs n b) (subst AreLinesApart (in_three xs n b) apart))
 
   -- only what stands between is told
-  pub between_told : (xs ys : List R) (n b : ℕ) → flat_map f (take n xs) ≡ flat_map f (take n ys) → rest xs n b ≡ rest ys n b → Apart (flat_map f xs) → Apart (flat_map f ys) →
+  pub between_told : (xs ys : List R) (n b : ℕ) → flat_map f (take n xs) ≡ flat_map f (take n ys) → rest xs n b ≡ rest ys n b → AreLinesApart (flat_map f xs) → AreLinesApart (flat_map f ys) →
       line_changes (flat_map f xs) (flat_map f ys) ≡ line_changes (flat_map f (between xs n b)) (flat_map f (between ys n b))
   between_told xs ys n b front back a c =
       let before = flat_map f (take n xs) in
@@ -54,4 +54,4 @@ module _ {R : Type 0} (f : R → Lines) where
       let new = flat_map f (between ys n b) in
       let here : flat_map f xs ≡ before ++ (old ++ after) = in_three xs n b in
       let there : flat_map f ys ≡ before ++ (new ++ after) = in_three ys n b ∙ (λ i. sym front i ++ (new ++ sym back i)) in
-      (λ i. line_changes (here i) (there i)) ∙ ends_apart before old new after (subst Apart here a) (subst Apart there c)
+      (λ i. line_changes (here i) (there i)) ∙ ends_apart before old new after (subst AreLinesApart here a) (subst AreLinesApart there c)

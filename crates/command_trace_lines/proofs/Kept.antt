@@ -14,15 +14,15 @@ use Rattle.kernel_abstract.specs.Shown.{Shown}
 use Rattle.setup_report.specs.declared.naming.NamedObject.{NamedObject}
 use Rattle.setup_report.specs.State.{Derived, slot_of, found, is_in, named, holding_themselves, rising}
 use Rattle.setup_report.proofs.Addresses.Slots.{slots_are as derived_slots}
-use Rattle.command_trace_lines.specs.Lines.{Lines, line_of, slot_text, slot_at, slot_lines, thread_at, inbox_line_at, endpoint_at, selfheld_at, selfheld_lines}
+use Rattle.command_trace_lines.specs.Lines.{Lines, address_line, traced_slot_text, slot_at, traced_slot_lines, thread_text_at, inbox_line_at, endpoint_text_at, selfheld_at, traced_selfheld_lines}
 use Rattle.command_trace_lines.specs.Siblings.{Sibling, siblings, in_front, sibling_text, sibling_at, sibling_lines, row_view}
-use Rattle.command_trace_lines.specs.Changes.{StateLines, state_lines, addresses, text_at, line_changes, changes}
+use Rattle.command_trace_lines.specs.Changes.{StateLines, lines_of_state, line_addresses, text_at, line_changes, changes}
 use Rattle.command_trace_lines.specs.Told.{ToldLines, told_lines, nothing_told, told_changes}
-use Rattle.command_trace_lines.specs.Views.{seen, thread_line, inbox_line, endpoint_line, ShowsMemory, ShowsMessages, IsViewOf, IsTold}
+use Rattle.command_trace_lines.specs.Views.{lines_seen, thread_row_line, inbox_line, endpoint_row_line, ShowsMemory, ShowsMessages, IsViewOf, IsStateTold}
 use Rattle.command_trace_lines.specs.Private.Listed.{derivation_line}
-use Rattle.command_trace_lines.specs.Private.Path.{sibling_line, walked}
-use Rattle.command_trace_lines.specs.Private.Rows.{Apart}
-use Rattle.command_trace_lines.specs.Private.Kept.{thread_rows, inbox_rows, endpoint_rows, slot_rows, sibling_rows, message_changes, view_rows, told_rows, IsApartMemory, IsApartMessages, IsApartView, IsApartTold, HaveSameSlots}
+use Rattle.command_trace_lines.specs.Private.Path.{sibling_line, siblings_walked}
+use Rattle.command_trace_lines.specs.Private.Rows.{AreLinesApart}
+use Rattle.command_trace_lines.specs.Private.Kept.{thread_rows, inbox_rows, endpoint_rows, kept_slot_lines, sibling_rows, message_changes, view_rows, told_rows, IsApartMemory, IsApartMessages, IsApartView, IsApartTold, HaveSameSlots}
 use Rattle.command_trace_lines.specs.declared.siblings.SiblingRow.{SiblingRow}
 use Rattle.command_trace_lines.specs.declared.state.Memory.{Memory}
 use Rattle.command_trace_lines.specs.declared.state.Messages.{Messages}
@@ -53,32 +53,32 @@ row_lines list = map row_line list
 slot_told : (q : ℕ) (list : List Derived) → text_at q (row_lines list) ≡ slot_at list q
 slot_told q [] = refl
 slot_told q (d ∷ list) =
-    elim (slot_of d == q) as (λ b. cond b (Some (slot_text d)) (text_at q (row_lines list)) ≡ option_map slot_text (cond b (Some d) (found list q))) [
+    elim (slot_of d == q) as (λ b. cond b (Some (traced_slot_text d)) (text_at q (row_lines list)) ≡ option_map traced_slot_text (cond b (Some d) (found list q))) [
       | true ↦ refl
       | false ↦ slot_told q list
     ]
 
-row_addresses : (list : List Derived) → addresses (row_lines list) ≡ map slot_of list
+row_addresses : (list : List Derived) → line_addresses (row_lines list) ≡ map slot_of list
 row_addresses [] = refl
 row_addresses (d ∷ list) = ap (λ l. slot_of d ∷ l) (row_addresses list)
 
-slots_told : (list : List Derived) → Same (row_lines list) (slot_lines list)
+slots_told : (list : List Derived) → Same (row_lines list) (traced_slot_lines list)
 slots_told list q =
     slot_told q list
     ∙ sym (text_of_rising (slot_at list) q (map slot_of list) (λ e. sym (slot_told q list) ∙ not_there q (row_lines list) (ap (is_in q) (row_addresses list) ∙ e)))
 
 module _ (p : ProfileName) (v : Shown) (m : Memory) (h : ShowsMemory p v m) where
-  slots_viewed : slot_rows p m ≡ row_lines (derivations_of v.derivations)
+  slots_viewed : kept_slot_lines p m ≡ row_lines (derivations_of v.derivations)
   slots_viewed = as_map (derivation_line p) m.slots.items ∙ rows_viewed p m.slots.items ∙ ap row_lines h.slots
 
-  slots_same : Same (slot_rows p m) (slot_lines (derivations_of v.derivations))
+  slots_same : Same (kept_slot_lines p m) (traced_slot_lines (derivations_of v.derivations))
   slots_same q = ap (text_at q) slots_viewed ∙ slots_told (derivations_of v.derivations) q
 
   pub memory_apart : IsApartMemory p m
   memory_apart =
       record {
         slots = subst (IsDistinct (λ (a b : ℕ). a == b))
-            (sym (ap addresses slots_viewed ∙ row_addresses (derivations_of v.derivations) ∙ derived_slots v.derivations)) h.apart;
+            (sym (ap line_addresses slots_viewed ∙ row_addresses (derivations_of v.derivations) ∙ derived_slots v.derivations)) h.apart;
         selfheld = rises_at selfheld_at (holding_themselves p (derivations_of v.derivations)) _ h.selfheld;
       }
 
@@ -97,21 +97,21 @@ module _ (p : ProfileName) (v : Shown) (m : Messages) (h : ShowsMessages p v m) 
   abbrev list : List Derived
   list = derivations_of v.derivations
 
-  threads_are : thread_rows m ≡ (state_lines p v).threads
-  threads_are = as_map thread_line m.threads.items ∙ h.threads
+  threads_are : thread_rows m ≡ (lines_of_state p v).threads
+  threads_are = as_map thread_row_line m.threads.items ∙ h.threads
 
-  inboxes_are : inbox_rows m ≡ (state_lines p v).inboxes
+  inboxes_are : inbox_rows m ≡ (lines_of_state p v).inboxes
   inboxes_are = as_map inbox_line m.inboxes.items ∙ h.inboxes
 
-  endpoints_are : endpoint_rows m ≡ (state_lines p v).endpoints
-  endpoints_are = as_map endpoint_line m.endpoints.items ∙ h.endpoints
+  endpoints_are : endpoint_rows m ≡ (lines_of_state p v).endpoints
+  endpoints_are = as_map endpoint_row_line m.endpoints.items ∙ h.endpoints
 
   pub messages_apart : IsApartMessages m
   messages_apart =
       record {
-        threads = rising_apart _ (rises_at (thread_at v) (named p NamedObject.Thread list) (thread_rows m) threads_are);
+        threads = rising_apart _ (rises_at (thread_text_at v) (named p NamedObject.Thread list) (thread_rows m) threads_are);
         inboxes = rising_apart _ (rises_at (inbox_line_at v) (named p NamedObject.Thread list) (inbox_rows m) inboxes_are);
-        endpoints = rising_apart _ (rises_at (endpoint_at v) (named p NamedObject.Endpoint list) (endpoint_rows m) endpoints_are);
+        endpoints = rising_apart _ (rises_at (endpoint_text_at v) (named p NamedObject.Endpoint list) (endpoint_rows m) endpoints_are);
       }
 
 -- ---- siblings
@@ -162,19 +162,19 @@ none_in_front q (x ∷ xs) h =
     let both = either_false (q == x.0) (is_in q (map first_of xs)) h in
     ap (λ b. option_and_then (λ (y : Sibling). y.1) (cond b (Some x) (find (λ (y : Sibling). y.0 == q) xs))) (other_way q x.0 both.0) ∙ none_in_front q xs both.1
 
-each_line : (P : ℕ → Type 0) (xs : List Sibling) → Each P (map first_of xs) → Each P (addresses (flat_map sibling_line xs))
+each_line : (P : ℕ → Type 0) (xs : List Sibling) → Each P (map first_of xs) → Each P (line_addresses (flat_map sibling_line xs))
 each_line P [] h = tt
 each_line P (x ∷ xs) h =
-    elim x.1 as (λ o. Each P (addresses (line_of x.0 (option_map (sibling_text x.0) o) ++ flat_map sibling_line xs))) [
+    elim x.1 as (λ o. Each P (line_addresses (address_line x.0 (option_map (sibling_text x.0) o) ++ flat_map sibling_line xs))) [
       | None ↦ each_line P xs h.1
       | Some before ↦ (h.0, each_line P xs h.1)
     ]
 
-siblings_apart : (xs : List Sibling) → IsDistinct (λ (a b : ℕ). a == b) (map first_of xs) → Apart (flat_map sibling_line xs)
+siblings_apart : (xs : List Sibling) → IsDistinct (λ (a b : ℕ). a == b) (map first_of xs) → AreLinesApart (flat_map sibling_line xs)
 unfolding IsDistinct
 siblings_apart [] h = tt
 siblings_apart (x ∷ xs) h =
-    elim x.1 as (λ o. Apart (line_of x.0 (option_map (sibling_text x.0) o) ++ flat_map sibling_line xs)) [
+    elim x.1 as (λ o. AreLinesApart (address_line x.0 (option_map (sibling_text x.0) o) ++ flat_map sibling_line xs)) [
       | None ↦ siblings_apart xs h.1
       | Some before ↦ (each_line (λ y. (x.0 == y) ≡ false) xs h.0, siblings_apart xs h.1)
     ]
@@ -189,8 +189,8 @@ module _ (f : Forest Entry) (rows : List SiblingRow) (is : map row_view rows ≡
   order_viewed : flat_map (λ (r : SiblingRow). sibling_line (row_view r)) rows ≡ flat_map sibling_line order
   order_viewed = flat_of_map rows ∙ ap (flat_map sibling_line) is
 
-  pub order_is_apart : Apart (flat_map (λ (r : SiblingRow). sibling_line (row_view r)) rows)
-  order_is_apart = subst Apart (sym order_viewed) (siblings_apart order order_apart)
+  pub order_is_apart : AreLinesApart (flat_map (λ (r : SiblingRow). sibling_line (row_view r)) rows)
+  order_is_apart = subst AreLinesApart (sym order_viewed) (siblings_apart order order_apart)
 
   order_same : Same (flat_map (λ (r : SiblingRow). sibling_line (row_view r)) rows) (sibling_lines f)
   order_same q =
@@ -198,17 +198,17 @@ module _ (f : Forest Entry) (rows : List SiblingRow) (is : map row_view rows ≡
       ∙ sym (text_of_rising (sibling_at order) q (slots f) (λ e. ap (option_map (sibling_text q)) (none_in_front q order (ap (is_in q) (slots_are f) ∙ e))))
 
 -- the rows that a walk finds are those of the forest
-pub walk_is : (p : ProfileName) (slots_there : List Derivation) (rows : List SiblingRow) (f : Forest Entry) → map row_view rows ≡ walked [] (map (derivation_view p) slots_there) →
+pub walk_is : (p : ProfileName) (slots_there : List Derivation) (rows : List SiblingRow) (f : Forest Entry) → map row_view rows ≡ siblings_walked [] (map (derivation_view p) slots_there) →
     map (derivation_view p) slots_there ≡ derivations_of f → IsDistinct (λ (a b : ℕ). a == b) (slots f) → map row_view rows ≡ siblings None f
-walk_is p slots_there rows f walk is apart = walk ∙ ap (walked []) is ∙ walked_is f apart
+walk_is p slots_there rows f walk is apart = walk ∙ ap (siblings_walked []) is ∙ walked_is f apart
 
 -- where full slots are the same, so is their order
 pub same_slots : (v w : Shown) → derivations_of w.derivations ≡ derivations_of v.derivations → IsDistinct (λ (a b : ℕ). a == b) (slots v.derivations) →
     IsDistinct (λ (a b : ℕ). a == b) (slots w.derivations) → HaveSameSlots v w
 same_slots v w is a b =
-    record { list = is; order = sym (walked_is w.derivations b) ∙ ap (walked []) is ∙ walked_is v.derivations a }
+    record { list = is; order = sym (walked_is w.derivations b) ∙ ap (siblings_walked []) is ∙ walked_is v.derivations a }
 
-pub slots_stay : (p : ProfileName) (v w : Shown) (told : Told) (old new : List Derivation) → IsTold p v told → old ≡ told.view.memory.slots.items →
+pub slots_stay : (p : ProfileName) (v w : Shown) (told : Told) (old new : List Derivation) → IsStateTold p v told → old ≡ told.view.memory.slots.items →
     map (derivation_view p) old ≡ map (derivation_view p) new → map (derivation_view p) new ≡ derivations_of w.derivations → IsDistinct (λ (a b : ℕ). a == b) (slots w.derivations) → HaveSameSlots v w
 slots_stay p v w told old new h is same there apart =
     same_slots v w (sym there ∙ sym same ∙ ap (map (derivation_view p)) is ∙ h.view.memory.slots) h.view.memory.apart apart
@@ -221,7 +221,7 @@ same_forest v w is = record { list = ap (λ f. derivations_of f) is; order = ap 
 pub view_apart : (p : ProfileName) (v : Shown) (view : View) → IsViewOf p v view → IsApartView p view
 view_apart p v view h = record { memory = memory_apart p v view.memory h.memory; messages = messages_apart p v view.messages h.messages }
 
-pub told_apart : (p : ProfileName) (v : Shown) (told : Told) → IsTold p v told → IsApartTold p told
+pub told_apart : (p : ProfileName) (v : Shown) (told : Told) → IsStateTold p v told → IsApartTold p told
 told_apart p v told h =
     record { view = view_apart p v told.view h.view; siblings = order_is_apart v.derivations told.siblings.items h.siblings h.view.memory.apart }
 
@@ -232,7 +232,7 @@ record SameState (a b : StateLines) : Type 0 where
   slots : Same a.slots b.slots
   selfheld : Same a.selfheld b.selfheld
 
-view_same : (p : ProfileName) (v : Shown) (view : View) → IsViewOf p v view → SameState (view_rows p view) (state_lines p v)
+view_same : (p : ProfileName) (v : Shown) (view : View) → IsViewOf p v view → SameState (view_rows p view) (lines_of_state p v)
 view_same p v view h =
     record {
       threads = same_lines _ _ (threads_are p v view.messages h.messages);
@@ -250,10 +250,10 @@ changes_same a b c d h k =
     ++ (told_of_same a.slots b.slots c.slots d.slots h.slots k.slots i
     ++ told_of_same a.selfheld b.selfheld c.selfheld d.selfheld h.selfheld k.selfheld i)))
 
-pub view_changes : (p : ProfileName) (v w : Shown) (a b : View) → IsViewOf p v a → IsViewOf p w b → changes (view_rows p a) (view_rows p b) ≡ changes (state_lines p v) (state_lines p w)
-view_changes p v w a b h k = changes_same (view_rows p a) (view_rows p b) (state_lines p v) (state_lines p w) (view_same p v a h) (view_same p w b k)
+pub view_changes : (p : ProfileName) (v w : Shown) (a b : View) → IsViewOf p v a → IsViewOf p w b → changes (view_rows p a) (view_rows p b) ≡ changes (lines_of_state p v) (lines_of_state p w)
+view_changes p v w a b h k = changes_same (view_rows p a) (view_rows p b) (lines_of_state p v) (lines_of_state p w) (view_same p v a h) (view_same p w b k)
 
-pub kept_changes : (p : ProfileName) (v w : Shown) (a b : Told) → IsTold p v a → IsTold p w b → told_changes (told_rows p a) (told_rows p b) ≡ told_changes (told_lines p v) (told_lines p w)
+pub kept_changes : (p : ProfileName) (v w : Shown) (a b : Told) → IsStateTold p v a → IsStateTold p w b → told_changes (told_rows p a) (told_rows p b) ≡ told_changes (told_lines p v) (told_lines p w)
 kept_changes p v w a b h k =
     λ i. view_changes p v w a.view b.view h.view k.view i
     ++ told_of_same (sibling_rows a) (sibling_rows b) (sibling_lines v.derivations) (sibling_lines w.derivations)
@@ -265,23 +265,23 @@ itself l q = refl
 state_itself : (s : StateLines) → SameState s s
 state_itself s = record { threads = itself s.threads; inboxes = itself s.inboxes; endpoints = itself s.endpoints; slots = itself s.slots; selfheld = itself s.selfheld }
 
-pub first_changes : (p : ProfileName) (w : Shown) (a b : Told) → told_rows p a ≡ nothing_told → IsTold p w b → told_changes (told_rows p a) (told_rows p b) ≡ told_changes nothing_told (told_lines p w)
+pub first_changes : (p : ProfileName) (w : Shown) (a b : Told) → told_rows p a ≡ nothing_told → IsStateTold p w b → told_changes (told_rows p a) (told_rows p b) ≡ told_changes nothing_told (told_lines p w)
 first_changes p w a b none k =
     ap (λ t. told_changes t (told_rows p b)) none
-    ∙ (λ i. changes_same nothing_told.state (view_rows p b.view) nothing_told.state (state_lines p w) (state_itself nothing_told.state) (view_same p w b.view k.view) i
+    ∙ (λ i. changes_same nothing_told.state (view_rows p b.view) nothing_told.state (lines_of_state p w) (state_itself nothing_told.state) (view_same p w b.view k.view) i
     ++ told_of_same nothing_told.siblings (sibling_rows b) nothing_told.siblings (sibling_lines w.derivations) (itself nothing_told.siblings) (order_same w.derivations b.siblings.items k.siblings k.view.memory.apart) i)
 
 -- of nothing there is no line
-none_apart : (l : Lines) → l ≡ [] → Apart l
+none_apart : (l : Lines) → l ≡ [] → AreLinesApart l
 unfolding IsDistinct
-none_apart l is = subst Apart (sym is) nil
+none_apart l is = subst AreLinesApart (sym is) nil
   where
-    nil : Apart []
+    nil : AreLinesApart []
     nil = tt
 
-none_rise : (l : Lines) → l ≡ [] → IsStrictlySortedBy nat_cmp (addresses l)
+none_rise : (l : Lines) → l ≡ [] → IsStrictlySortedBy nat_cmp (line_addresses l)
 unfolding IsStrictlySortedBy
-none_rise l is = subst (λ m. IsStrictlySortedBy nat_cmp (addresses m)) (sym is) nil
+none_rise l is = subst (λ m. IsStrictlySortedBy nat_cmp (line_addresses m)) (sym is) nil
   where
     nil : IsStrictlySortedBy nat_cmp []
     nil = tt
@@ -315,10 +315,10 @@ still_shows p v w m same h =
       endpoints = h.endpoints ∙ ap (λ list. rising (named p NamedObject.Endpoint list)) (sym same.list);
       slots = h.slots ∙ sym same.list;
       apart = subst (IsDistinct (λ (a b : ℕ). a == b)) (sym (derived_slots v.derivations) ∙ ap (map slot_of) (sym same.list) ∙ derived_slots w.derivations) h.apart;
-      selfheld = h.selfheld ∙ ap (selfheld_lines p) (sym same.list);
+      selfheld = h.selfheld ∙ ap (traced_selfheld_lines p) (sym same.list);
     }
 
-pub still_told : (p : ProfileName) (v w : Shown) (told : Told) (new : Messages) → HaveSameSlots v w → IsTold p v told → ShowsMessages p w new → IsTold p w (with_messages told new)
+pub still_told : (p : ProfileName) (v w : Shown) (told : Told) (new : Messages) → HaveSameSlots v w → IsStateTold p v told → ShowsMessages p w new → IsStateTold p w (with_messages told new)
 still_told p v w told new same h k =
     record { view = record { memory = still_shows p v w told.view.memory same h.view.memory; messages = k }; siblings = h.siblings ∙ sym same.order }
 
@@ -328,12 +328,12 @@ messages_alone p told new =
     let inboxes = line_changes (inbox_rows told.view.messages) (inbox_rows new) in
     let endpoints = line_changes (endpoint_rows told.view.messages) (endpoint_rows new) in
     sym (
-    (λ i. (threads ++ (inboxes ++ (endpoints ++ (no_line_changes (slot_rows p told.view.memory) (slot_rows p told.view.memory) refl i
-    ++ no_line_changes (seen told.view.memory.selfheld.items) (seen told.view.memory.selfheld.items) refl i))))
+    (λ i. (threads ++ (inboxes ++ (endpoints ++ (no_line_changes (kept_slot_lines p told.view.memory) (kept_slot_lines p told.view.memory) refl i
+    ++ no_line_changes (lines_seen told.view.memory.selfheld.items) (lines_seen told.view.memory.selfheld.items) refl i))))
     ++ no_line_changes (sibling_rows told) (sibling_rows told) refl i)
     ∙ append-nil (threads ++ (inboxes ++ (endpoints ++ [])))
     ∙ ap (λ l. threads ++ (inboxes ++ l)) (append-nil endpoints))
 
-pub messages_told : (p : ProfileName) (v w : Shown) (told : Told) (new : Messages) → HaveSameSlots v w → IsTold p v told → ShowsMessages p w new →
+pub messages_told : (p : ProfileName) (v w : Shown) (told : Told) (new : Messages) → HaveSameSlots v w → IsStateTold p v told → ShowsMessages p w new →
     message_changes told.view.messages new ≡ told_changes (told_lines p v) (told_lines p w)
 messages_told p v w told new same h k = messages_alone p told new ∙ kept_changes p v w told (with_messages told new) h (still_told p v w told new same h k)

@@ -8,7 +8,7 @@ use Rattle.cap_core.specs.declared.profile.ProfileName.{ProfileName}
 use Rattle.slot_core.specs.declared.derivations.Derivation.{Derivation}
 use Rattle.slot_core.specs.Calls.{derivation_view}
 use Rattle.setup_report.specs.State.{Derived, slot_of, found}
-use Rattle.command_trace_lines.specs.Lines.{slot_text}
+use Rattle.command_trace_lines.specs.Lines.{traced_slot_text}
 use Rattle.command_trace_lines.specs.Private.Listed.{derivation_line}
 
 -- lines of one more address
@@ -38,7 +38,7 @@ found_is (e ∷ list) slot d is =
     ] refl is
 
 abbrev pub row_line : Derived → ℕ × List ℕ
-row_line d = (slot_of d, slot_text d)
+row_line d = (slot_of d, traced_slot_text d)
 
 pub rows_viewed : (p : ProfileName) (slots : List Derivation) → map (derivation_line p) slots ≡ map row_line (map (derivation_view p) slots)
 rows_viewed p [] = refl

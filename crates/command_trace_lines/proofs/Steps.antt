@@ -17,23 +17,23 @@ use Rattle.kernel_abstract.specs.Decode.{decoded_call}
 use Rattle.kernel_abstract.specs.Step.{Outcome, next_call, outcome, performed, send_record, receive_record, reply_to_send, reply_to_receive, send_accepted, receive_accepted, where_awaited, step, replies_of, state_after}
 use Rattle.kernel_abstract.specs.Reached.{IsReached, StepsTo}
 use Rattle.setup_format.specs.Views.{CallView}
-use Rattle.command_trace_lines.specs.Views.{Follows}
+use Rattle.command_trace_lines.specs.Views.{FollowsReply}
 
 counted_shows : (A : State) → shown (next_call A) ≡ shown A
 unfolding shown
 counted_shows A = refl
 
 -- a send that is accepted, and a receive, leave the capabilities
-send_follows : (s : SendRecord) (o : Option ReceiveRecord) (v w : Shown) → w.derivations ≡ v.derivations → Follows (reply_to_send s o) v w
+send_follows : (s : SendRecord) (o : Option ReceiveRecord) (v w : Shown) → w.derivations ≡ v.derivations → FollowsReply (reply_to_send s o) v w
 send_follows s None v w same = same
 send_follows s (Some a) v w same = same
 
-receive_follows : (a : ReceiveRecord) (o : Option SendRecord) (v w : Shown) → w.derivations ≡ v.derivations → Follows (reply_to_receive a o) v w
+receive_follows : (a : ReceiveRecord) (o : Option SendRecord) (v w : Shown) → w.derivations ≡ v.derivations → FollowsReply (reply_to_receive a o) v w
 receive_follows a None v w same = same
 receive_follows a (Some s) v w same = same
 
 abbrev OutcomeFollows : State → Outcome → Type 0
-OutcomeFollows A o = Follows o.reply (shown A) (shown o.state)
+OutcomeFollows A o = FollowsReply o.reply (shown A) (shown o.state)
 
 sent_follows : (A : State) (t : ℕ) (service : Service) (message : Message) → OutcomeFollows A (send_accepted A t service message)
 unfolding shown
@@ -43,7 +43,7 @@ received_follows : (A : State) (t : ℕ) (service : Service) → OutcomeFollows 
 unfolding shown
 received_follows A t service = receive_follows (receive_record A t service) _ (shown A) (shown (receive_accepted A t service).state) refl
 
-awaited_follows : (A : State) (b : Bool) (accepted : Outcome) (reply : Reply) → OutcomeFollows A accepted → Follows reply (shown A) (shown (next_call A)) → OutcomeFollows A (where_awaited A b accepted reply)
+awaited_follows : (A : State) (b : Bool) (accepted : Outcome) (reply : Reply) → OutcomeFollows A accepted → FollowsReply reply (shown A) (shown (next_call A)) → OutcomeFollows A (where_awaited A b accepted reply)
 awaited_follows A true accepted reply h k = h
 awaited_follows A false accepted reply h k = k
 
@@ -70,11 +70,11 @@ pub step_follows : (p : ProfileName) (A : State) (call : Call) → OutcomeFollow
 unfolding step
 step_follows p A call = outcome_follows p A call.thread (decoded_call p (shown A) call)
 
-pub follows : (p : ProfileName) (A : State) (call : Call) (reply : Reply) (v w : Shown) → v ≡ shown A → StepsTo p A call reply w → Follows reply v w
+pub follows : (p : ProfileName) (A : State) (call : Call) (reply : Reply) (v w : Shown) → v ≡ shown A → StepsTo p A call reply w → FollowsReply reply v w
 follows p A call reply v w same steps =
-    subst (λ u. Follows reply u w) (sym same)
-    (subst (Follows reply (shown A)) (sym steps.shows)
-    (subst (λ r. Follows r (shown A) (shown (step p A call).state)) (sym steps.reply_is) (step_follows p A call)))
+    subst (λ u. FollowsReply reply u w) (sym same)
+    (subst (FollowsReply reply (shown A)) (sym steps.shows)
+    (subst (λ r. FollowsReply r (shown A) (shown (step p A call).state)) (sym steps.reply_is) (step_follows p A call)))
 
 -- ---- runs
 

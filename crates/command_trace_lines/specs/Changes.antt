@@ -7,16 +7,16 @@ use Rattle.kernel_forest.specs.Entries.{derivations_of}
 use Rattle.kernel_abstract.specs.Shown.{Shown}
 use Rattle.setup_report.specs.State.{rising}
 use Rattle.setup_report.specs.Report.{terminated}
-use Rattle.command_trace_lines.specs.Lines.{Lines, thread_lines, inbox_lines, endpoint_lines, slot_lines, selfheld_lines}
+use Rattle.command_trace_lines.specs.Lines.{Lines, traced_thread_lines, inbox_lines, traced_endpoint_lines, traced_slot_lines, traced_selfheld_lines}
 
 -- the line at an address, if there is one
 abbrev pub text_at : ℕ → Lines → Option (List ℕ)
 text_at address [] = None
 text_at address (l ∷ lines) = cond (l.0 == address) (Some l.1) (text_at address lines)
 
-abbrev pub removed : Option (List ℕ) → List ℕ
-removed None = []
-removed (Some text) = terminated (codes "  - " ++ text)
+abbrev pub removed_line : Option (List ℕ) → List ℕ
+removed_line None = []
+removed_line (Some text) = terminated (codes "  - " ++ text)
 
 abbrev pub added : Option (List ℕ) → List ℕ
 added None = []
@@ -25,12 +25,12 @@ added (Some text) = terminated (codes "  + " ++ text)
 -- one address: nothing, where its line stays
 abbrev pub change : Option (List ℕ) → Option (List ℕ) → List ℕ
 change None new = added new
-change (Some old) None = removed (Some old)
-change (Some old) (Some new) = if pointwise nat_eq old new then [] else removed (Some old) ++ added (Some new)
+change (Some old) None = removed_line (Some old)
+change (Some old) (Some new) = if pointwise nat_eq old new then [] else removed_line (Some old) ++ added (Some new)
 
 -- the addresses of lines
-abbrev pub addresses : Lines → List ℕ
-addresses lines = map (λ (l : ℕ × List ℕ). l.0) lines
+abbrev pub line_addresses : Lines → List ℕ
+line_addresses lines = map (λ (l : ℕ × List ℕ). l.0) lines
 
 -- each address of the old lines or of the new ones, in rising order
 abbrev pub change_at : Lines → Lines → ℕ → List ℕ
@@ -39,7 +39,7 @@ change_at old new address = change (text_at address old) (text_at address new)
 -- how two lists of lines differ: for each address of either, in rising order, the old line if it is gone or another
 -- one, and the new line
 abbrev pub line_changes : Lines → Lines → List ℕ
-line_changes old new = flat_map (change_at old new) (rising (addresses old ++ addresses new))
+line_changes old new = flat_map (change_at old new) (rising (line_addresses old ++ line_addresses new))
 
 -- all that is told of a state, kind by kind
 pub record StateLines : Type 0 where
@@ -50,14 +50,14 @@ pub record StateLines : Type 0 where
   pub selfheld : Lines
 
 -- the lines of a state, by address, for each sort of line
-abbrev pub state_lines : ProfileName → Shown → StateLines
-state_lines p v =
+abbrev pub lines_of_state : ProfileName → Shown → StateLines
+lines_of_state p v =
     record {
-      threads = thread_lines p v;
+      threads = traced_thread_lines p v;
       inboxes = inbox_lines p v;
-      endpoints = endpoint_lines p v;
-      slots = slot_lines (derivations_of v.derivations);
-      selfheld = selfheld_lines p (derivations_of v.derivations);
+      endpoints = traced_endpoint_lines p v;
+      slots = traced_slot_lines (derivations_of v.derivations);
+      selfheld = traced_selfheld_lines p (derivations_of v.derivations);
     }
 
 -- a state that is not there has no lines

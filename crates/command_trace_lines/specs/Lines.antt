@@ -19,12 +19,12 @@ abbrev pub Lines : Type 0
 Lines = List (ℕ × List ℕ)
 
 -- the line of an address, where it has one
-abbrev pub line_of : ℕ → Option (List ℕ) → Lines
-line_of address None = []
-line_of address (Some text) = (address, text) ∷ []
+abbrev pub address_line : ℕ → Option (List ℕ) → Lines
+address_line address None = []
+address_line address (Some text) = (address, text) ∷ []
 
 abbrev pub line_at : (ℕ → Option (List ℕ)) → ℕ → Lines
-line_at text address = line_of address (text address)
+line_at text address = address_line address (text address)
 
 -- a line for each of some addresses that has one
 abbrev pub lines_at : (ℕ → Option (List ℕ)) → List ℕ → Lines
@@ -37,34 +37,34 @@ abbrev pub offer_text : Option Offer → List ℕ
 offer_text None = []
 offer_text (Some offer) = codes " badge " ++ (decimal offer.badge.0 ++ (codes " " ++ message_text offer.message))
 
-abbrev pub thread_text : ℕ → ThreadState → Option Offer → List ℕ
-thread_text address state offer = codes "thread " ++ (decimal address ++ (codes " " ++ (state_text state ++ offer_text offer)))
+abbrev pub traced_thread_text : ℕ → ThreadState → Option Offer → List ℕ
+traced_thread_text address state offer = codes "thread " ++ (decimal address ++ (codes " " ++ (state_text state ++ offer_text offer)))
 
-abbrev pub thread_at : Shown → ℕ → Option (List ℕ)
-thread_at v address = option_map (λ (s : ThreadState). thread_text address s (offer_at v address)) (state_at v address)
+abbrev pub thread_text_at : Shown → ℕ → Option (List ℕ)
+thread_text_at v address = option_map (λ (s : ThreadState). traced_thread_text address s (offer_at v address)) (state_at v address)
 
-abbrev pub thread_lines : ProfileName → Shown → Lines
-thread_lines p v = lines_at (thread_at v) (named p NamedObject.Thread (derivations_of v.derivations))
+abbrev pub traced_thread_lines : ProfileName → Shown → Lines
+traced_thread_lines p v = lines_at (thread_text_at v) (named p NamedObject.Thread (derivations_of v.derivations))
 
 -- ---- inboxes: the last message that was delivered to a live thread, where there is one
 
-abbrev pub inbox_text : ℕ → Inbox → List ℕ
-inbox_text address inbox =
+abbrev pub traced_inbox_text : ℕ → Inbox → List ℕ
+traced_inbox_text address inbox =
     codes "inbox " ++ (decimal address ++ (codes " badge " ++ (decimal inbox.badge.0 ++ (codes " " ++ message_text inbox.message))))
 
 abbrev pub inbox_line_at : Shown → ℕ → Option (List ℕ)
-inbox_line_at v address = option_map (inbox_text address) (inbox_at v address)
+inbox_line_at v address = option_map (traced_inbox_text address) (inbox_at v address)
 
 abbrev pub inbox_lines : ProfileName → Shown → Lines
 inbox_lines p v = lines_at (inbox_line_at v) (named p NamedObject.Thread (derivations_of v.derivations))
 
 -- ---- endpoints: who waits on each live endpoint
 
-abbrev pub endpoint_at : Shown → ℕ → Option (List ℕ)
-endpoint_at v address = Some (endpoint_text address (first_sends (waiting_at v address)) (threads_at v address))
+abbrev pub endpoint_text_at : Shown → ℕ → Option (List ℕ)
+endpoint_text_at v address = Some (endpoint_text address (first_sends (waiting_at v address)) (threads_at v address))
 
-abbrev pub endpoint_lines : ProfileName → Shown → Lines
-endpoint_lines p v = lines_at (endpoint_at v) (named p NamedObject.Endpoint (derivations_of v.derivations))
+abbrev pub traced_endpoint_lines : ProfileName → Shown → Lines
+traced_endpoint_lines p v = lines_at (endpoint_text_at v) (named p NamedObject.Endpoint (derivations_of v.derivations))
 
 -- ---- slots: the capability of each full slot, the slot that it stands right below, and whether it is original
 
@@ -72,20 +72,20 @@ abbrev pub parent_text : Option ℕ → List ℕ
 parent_text None = []
 parent_text (Some parent) = codes " under " ++ decimal parent
 
-abbrev pub slot_text : Derived → List ℕ
-slot_text (e, parent) =
+abbrev pub traced_slot_text : Derived → List ℕ
+traced_slot_text (e, parent) =
     codes "slot " ++ (decimal e.slot ++ (codes " " ++ (cap_text e.cap ++ (parent_text parent ++ (if e.original then codes " original" else [])))))
 
 abbrev pub slot_at : List Derived → ℕ → Option (List ℕ)
-slot_at list slot = option_map slot_text (found list slot)
+slot_at list slot = option_map traced_slot_text (found list slot)
 
-abbrev pub slot_lines : List Derived → Lines
-slot_lines list = lines_at (slot_at list) (map slot_of list)
+abbrev pub traced_slot_lines : List Derived → Lines
+traced_slot_lines list = lines_at (slot_at list) (map slot_of list)
 
 -- ---- selfheld CNodes, those that slots of their own name and no other slots
 
 abbrev pub selfheld_at : ℕ → Option (List ℕ)
 selfheld_at address = Some (codes "selfheld " ++ decimal address)
 
-abbrev pub selfheld_lines : ProfileName → List Derived → Lines
-selfheld_lines p list = lines_at selfheld_at (holding_themselves p list)
+abbrev pub traced_selfheld_lines : ProfileName → List Derived → Lines
+traced_selfheld_lines p list = lines_at selfheld_at (holding_themselves p list)

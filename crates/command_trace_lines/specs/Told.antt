@@ -4,7 +4,7 @@ use Rattle.cap_core.specs.declared.profile.ProfileName.{ProfileName}
 use Rattle.kernel_abstract.specs.Shown.{Shown}
 use Rattle.command_trace_lines.specs.Lines.{Lines}
 use Rattle.command_trace_lines.specs.Siblings.{sibling_lines}
-use Rattle.command_trace_lines.specs.Changes.{StateLines, state_lines, no_lines, line_changes, changes}
+use Rattle.command_trace_lines.specs.Changes.{StateLines, lines_of_state, no_lines, line_changes, changes}
 
 pub record ToldLines : Type 0 where
   pub state : StateLines
@@ -12,7 +12,7 @@ pub record ToldLines : Type 0 where
 
 -- what a trace prints of a state: its lines, and the order of siblings
 abbrev pub told_lines : ProfileName → Shown → ToldLines
-told_lines p v = record { state = state_lines p v; siblings = sibling_lines v.derivations }
+told_lines p v = record { state = lines_of_state p v; siblings = sibling_lines v.derivations }
 
 -- of a state that is not there nothing is told
 abbrev pub nothing_told : ToldLines

@@ -9,7 +9,7 @@ use Rattle.kernel_abstract.specs.declared.call.Reply.TheVariants.{Done, Delivere
 use Rattle.kernel_abstract.specs.Shown.{Shown}
 use Rattle.setup_report.specs.State.{threads as live_threads, endpoints as live_endpoints}
 use Rattle.setup_report.specs.Report.{endpoint_text}
-use Rattle.command_trace_lines.specs.Lines.{Lines, thread_text, thread_lines, inbox_text, inbox_lines, endpoint_lines, selfheld_lines}
+use Rattle.command_trace_lines.specs.Lines.{Lines, traced_thread_text, traced_thread_lines, traced_inbox_text, inbox_lines, traced_endpoint_lines, traced_selfheld_lines}
 use Rattle.command_trace_lines.specs.Siblings.{siblings, row_view}
 use Rattle.command_trace_lines.specs.declared.text.ThreadText.{ThreadText}
 use Rattle.command_trace_lines.specs.declared.text.InboxText.{InboxText}
@@ -23,17 +23,17 @@ use Rattle.command_trace_lines.specs.declared.told.Told.{Told}
 abbrev pub line_view : StateLine → ℕ × List ℕ
 line_view line = (line.address, string_bytes line.text)
 
-abbrev pub seen : List StateLine → Lines
-seen lines = map line_view lines
+abbrev pub lines_seen : List StateLine → Lines
+lines_seen lines = map line_view lines
 
-abbrev pub thread_line : ThreadText → ℕ × List ℕ
-thread_line t = (t.address, thread_text t.address t.state t.offer)
+abbrev pub thread_row_line : ThreadText → ℕ × List ℕ
+thread_row_line t = (t.address, traced_thread_text t.address t.state t.offer)
 
 abbrev pub inbox_line : InboxText → ℕ × List ℕ
-inbox_line i = (i.address, inbox_text i.address i.inbox)
+inbox_line i = (i.address, traced_inbox_text i.address i.inbox)
 
-abbrev pub endpoint_line : EndpointRow → ℕ × List ℕ
-endpoint_line e = (e.address, endpoint_text e.address e.sending e.threads.items)
+abbrev pub endpoint_row_line : EndpointRow → ℕ × List ℕ
+endpoint_row_line e = (e.address, endpoint_text e.address e.sending e.threads.items)
 
 -- the live threads and endpoints, the full slots in the kernel's order, and the lines of selfheld CNodes
 pub record ShowsMemory (p : ProfileName) (v : Shown) (m : Memory) : Type 0 where
@@ -41,27 +41,27 @@ pub record ShowsMemory (p : ProfileName) (v : Shown) (m : Memory) : Type 0 where
   pub endpoints : m.endpoints.keys ≡ live_endpoints p v
   pub slots : map (derivation_view p) m.slots.items ≡ derivations_of v.derivations
   pub apart : IsDistinct (λ (a b : ℕ). a == b) (slots_in v.derivations)
-  pub selfheld : seen m.selfheld.items ≡ selfheld_lines p (derivations_of v.derivations)
+  pub selfheld : lines_seen m.selfheld.items ≡ traced_selfheld_lines p (derivations_of v.derivations)
 
 pub record ShowsMessages (p : ProfileName) (v : Shown) (m : Messages) : Type 0 where
-  pub threads : map thread_line m.threads.items ≡ thread_lines p v
+  pub threads : map thread_row_line m.threads.items ≡ traced_thread_lines p v
   pub inboxes : map inbox_line m.inboxes.items ≡ inbox_lines p v
-  pub endpoints : map endpoint_line m.endpoints.items ≡ endpoint_lines p v
+  pub endpoints : map endpoint_row_line m.endpoints.items ≡ traced_endpoint_lines p v
 
 pub record IsViewOf (p : ProfileName) (v : Shown) (view : View) : Type 0 where
   pub memory : ShowsMemory p v view.memory
   pub messages : ShowsMessages p v view.messages
 
 -- what is kept is all that is told of a state
-pub record IsTold (p : ProfileName) (v : Shown) (told : Told) : Type 0 where
+pub record IsStateTold (p : ProfileName) (v : Shown) (told : Told) : Type 0 where
   pub view : IsViewOf p v told.view
   pub siblings : map row_view told.siblings.items ≡ siblings None v.derivations
 
 -- what a reply says of what is shown before and after
-abbrev pub Follows : Reply → Shown → Shown → Type 0
-Follows Done v w = ⊤
-Follows Waiting v w = w.derivations ≡ v.derivations
-Follows (Delivered endpoint from to badge message) v w = w.derivations ≡ v.derivations
-Follows Dropped v w = w ≡ v
-Follows Empty v w = w ≡ v
-Follows (Refused refusal) v w = w ≡ v
+abbrev pub FollowsReply : Reply → Shown → Shown → Type 0
+FollowsReply Done v w = ⊤
+FollowsReply Waiting v w = w.derivations ≡ v.derivations
+FollowsReply (Delivered endpoint from to badge message) v w = w.derivations ≡ v.derivations
+FollowsReply Dropped v w = w ≡ v
+FollowsReply Empty v w = w ≡ v
+FollowsReply (Refused refusal) v w = w ≡ v

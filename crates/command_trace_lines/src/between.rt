@@ -1,6 +1,6 @@
 //! How the states of two kernels differ.
 ghost use Rattle.std.specs.Prelude.{◌≡◌, ◌++◌, IfOk, OnOk, string_bytes};
-ghost use Rattle.command_trace_lines.specs.Changes.{changes, state_lines};
+ghost use Rattle.command_trace_lines.specs.Changes.{changes, lines_of_state};
 ghost use Rattle.command_trace_lines.specs.Views.{IsViewOf};
 
 use crate::state::{View, add_view_changes, view_of};
@@ -34,7 +34,7 @@ pub fn add_changes_between<P: Profile, S: DerivationStore<P> + Drop, W: Waiters<
     new: &Kernel<P, S, W>,
 ) -> Result<(), AllocError>
     ensures { OnOk result (string_bytes out.new ≡ string_bytes out.old
-        ++ changes (state_lines P.profile old.now) (state_lines P.profile new.now)) }
+        ++ changes (lines_of_state P.profile old.now) (lines_of_state P.profile new.now)) }
 {
     let before = view_of_kernel::<P, S, W>(alloc, old)?;
     let after = view_of_kernel::<P, S, W>(alloc, new)?;

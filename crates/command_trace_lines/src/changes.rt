@@ -5,7 +5,7 @@ ghost use Rattle.std.specs.List.Sorted.{IsStrictlySortedBy};
 ghost use Rattle.std.specs.Ordering.{nat_cmp};
 ghost use Rattle.command_trace_lines.specs.Changes as spec;
 ghost use Rattle.command_trace_lines.specs.Views.{line_view};
-ghost use Rattle.command_trace_lines.specs.Private.Listed.{order_of};
+ghost use Rattle.command_trace_lines.specs.Private.Listed.{line_order};
 
 use std::alloc::AllocError;
 use std::cmp::Ordering;
@@ -19,7 +19,7 @@ pub struct StateLine {
 }
 
 fn add_removed(out: &mut String, line: &StateLine) -> Result<(), AllocError>
-    ensures { OnOk result (string_bytes out.new ≡ string_bytes out.old ++ spec.removed (Some (line_view line.now).1)) }
+    ensures { OnOk result (string_bytes out.new ≡ string_bytes out.old ++ spec.removed_line (Some (line_view line.now).1)) }
 {
     let text = line.text.as_str();
     writeln!(out, "  - {text}")
@@ -48,7 +48,7 @@ fn add_altered(out: &mut String, old: &StateLine, new: &StateLine) -> Result<(),
 /// where there is no old one.
 fn order_at(old: &[StateLine], i: usize, new: &[StateLine], j: usize) -> Ordering
     requires { (i < length old.now) ⊎ (j < length new.now) }
-    ensures order { result ≡ order_of (slice_get (map line_view old.now) i) (slice_get (map line_view new.now) j) }
+    ensures order { result ≡ line_order (slice_get (map line_view old.now) i) (slice_get (map line_view new.now) j) }
     ensures old { result ≢ Greater → i < length old.now }
     ensures new { result ≢ Less → j < length new.now }
 {
@@ -66,8 +66,8 @@ fn order_at(old: &[StateLine], i: usize, new: &[StateLine], j: usize) -> Orderin
 ///
 /// Memory was refused.
 pub fn add_changes(out: &mut String, old: &[StateLine], new: &[StateLine]) -> Result<(), AllocError>
-    requires old { IsStrictlySortedBy nat_cmp (spec.addresses (map line_view old.now)) }
-    requires new { IsStrictlySortedBy nat_cmp (spec.addresses (map line_view new.now)) }
+    requires old { IsStrictlySortedBy nat_cmp (spec.line_addresses (map line_view old.now)) }
+    requires new { IsStrictlySortedBy nat_cmp (spec.line_addresses (map line_view new.now)) }
     ensures { OnOk result (string_bytes out.new ≡ string_bytes out.old
         ++ spec.line_changes (map line_view old.now) (map line_view new.now)) }
 {

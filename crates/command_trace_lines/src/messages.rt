@@ -2,7 +2,7 @@
 ghost use Rattle.std.specs.Prelude.{◌≡◌, ◌++◌, ◌∷◌, [], IfOk, IsTrue, OnOk, Some, map};
 ghost use Rattle.std.specs.List.{flat_map};
 ghost use Rattle.command_trace_lines.specs.Lines as spec;
-ghost use Rattle.command_trace_lines.specs.Views.{endpoint_line, inbox_line, thread_line};
+ghost use Rattle.command_trace_lines.specs.Views.{endpoint_row_line, inbox_line, thread_row_line};
 
 use crate::changes::StateLine;
 use crate::rows::Row;
@@ -36,7 +36,7 @@ fn is_same_offer(one: Option<Offer>, other: Option<Offer>) -> bool
 }
 
 impl<P: Profile> Row<P> for ThreadText {
-    ghost lines = { λ t. thread_line t ∷ [] };
+    ghost lines = { λ t. thread_row_line t ∷ [] };
 
     fn is_same(&self, other: &ThreadText) -> bool {
         self.address == other.address
@@ -68,7 +68,7 @@ impl<P: Profile> Row<P> for InboxText {
 }
 
 impl<P: Profile> Row<P> for EndpointRow {
-    ghost lines = { λ e. endpoint_line e ∷ [] };
+    ghost lines = { λ e. endpoint_row_line e ∷ [] };
 
     fn is_same(&self, other: &EndpointRow) -> bool {
         self.address == other.address
@@ -94,8 +94,8 @@ fn add_thread<P: Profile, S: CapStore<P> + Drop, W: Waiters<P> + Drop>(
     address: u64,
     kernel: &Kernel<P, S, W>,
 ) -> Result<(), AllocError>
-    ensures { OnOk result (map thread_line rows.new.items ≡ map thread_line rows.old.items
-        ++ spec.line_at (spec.thread_at kernel.now) address) }
+    ensures { OnOk result (map thread_row_line rows.new.items ≡ map thread_row_line rows.old.items
+        ++ spec.line_at (spec.thread_text_at kernel.now) address) }
 {
     let Some(state) = kernel.thread_state(address) else {
         return Ok(());
@@ -119,8 +119,8 @@ pub fn thread_rows<P: Profile, S: CapStore<P> + Drop, W: Waiters<P> + Drop>(
     threads: &BTreeSet<u64>,
     kernel: &Kernel<P, S, W>,
 ) -> Result<Vec<ThreadText>, AllocError>
-    ensures { IfOk result (λ v. map thread_line v.items
-        ≡ flat_map (spec.line_at (spec.thread_at kernel.now)) threads.now.keys) }
+    ensures { IfOk result (λ v. map thread_row_line v.items
+        ≡ flat_map (spec.line_at (spec.thread_text_at kernel.now)) threads.now.keys) }
 {
     let mut rows = Vec::new(alloc);
     for thread in threads {
@@ -169,7 +169,7 @@ fn endpoint_row<P: Profile, S: CapStore<P> + Drop, W: Waiters<P> + Drop>(
     address: u64,
     kernel: &Kernel<P, S, W>,
 ) -> Result<EndpointRow, AllocError>
-    ensures { IfOk result (λ row. endpoint_line row ∷ [] ≡ spec.line_at (spec.endpoint_at kernel.now) address) }
+    ensures { IfOk result (λ row. endpoint_row_line row ∷ [] ≡ spec.line_at (spec.endpoint_text_at kernel.now) address) }
 {
     Ok(EndpointRow {
         address,
@@ -184,8 +184,8 @@ fn add_endpoint<P: Profile, S: CapStore<P> + Drop, W: Waiters<P> + Drop>(
     address: u64,
     kernel: &Kernel<P, S, W>,
 ) -> Result<(), AllocError>
-    ensures { OnOk result (map endpoint_line rows.new.items ≡ map endpoint_line rows.old.items
-        ++ spec.line_at (spec.endpoint_at kernel.now) address) }
+    ensures { OnOk result (map endpoint_row_line rows.new.items ≡ map endpoint_row_line rows.old.items
+        ++ spec.line_at (spec.endpoint_text_at kernel.now) address) }
 {
     let row = endpoint_row::<P, S, W>(alloc, address, kernel)?;
     rows.push(row)?;
@@ -202,8 +202,8 @@ pub fn endpoint_rows<P: Profile, S: CapStore<P> + Drop, W: Waiters<P> + Drop>(
     endpoints: &BTreeSet<u64>,
     kernel: &Kernel<P, S, W>,
 ) -> Result<Vec<EndpointRow>, AllocError>
-    ensures { IfOk result (λ v. map endpoint_line v.items
-        ≡ flat_map (spec.line_at (spec.endpoint_at kernel.now)) endpoints.now.keys) }
+    ensures { IfOk result (λ v. map endpoint_row_line v.items
+        ≡ flat_map (spec.line_at (spec.endpoint_text_at kernel.now)) endpoints.now.keys) }
 {
     let mut rows = Vec::new(alloc);
     for endpoint in endpoints {

@@ -4,9 +4,9 @@ ghost use Rattle.std.specs.List.{flat_map};
 ghost use Rattle.std.specs.List.Sorted.{IsStrictlySortedBy};
 ghost use Rattle.std.specs.Ordering.{nat_cmp};
 ghost use Rattle.command_trace_lines.specs.Lines.{Lines};
-ghost use Rattle.command_trace_lines.specs.Changes.{addresses, line_changes, text_at};
+ghost use Rattle.command_trace_lines.specs.Changes.{line_addresses, line_changes, text_at};
 ghost use Rattle.command_trace_lines.specs.Views.{line_view};
-ghost use Rattle.command_trace_lines.specs.Private.Rows.{Apart};
+ghost use Rattle.command_trace_lines.specs.Private.Rows.{AreLinesApart};
 
 use crate::changes::{StateLine, add_changes};
 use cap_core::Profile;
@@ -71,8 +71,8 @@ fn lines_of<P: Profile, R: Row<P>>(alloc: Global, rows: &[R]) -> Result<Vec<Stat
 
 /// Puts lines in the order of their addresses.
 fn sort_by_address(lines: &mut [StateLine])
-    requires apart { Apart (map line_view lines.old) }
-    ensures rises { IsStrictlySortedBy nat_cmp (addresses (map line_view lines.new)) }
+    requires apart { AreLinesApart (map line_view lines.old) }
+    ensures rises { IsStrictlySortedBy nat_cmp (line_addresses (map line_view lines.new)) }
     ensures same { (q : ℕ) → text_at q (map line_view lines.new) ≡ text_at q (map line_view lines.old) }
 {
     lines.sort_unstable_by_key(|line| line.address);
@@ -84,8 +84,8 @@ fn add_sorted_changes(
     old: &mut [StateLine],
     new: &mut [StateLine],
 ) -> Result<(), AllocError>
-    requires old { Apart (map line_view old.old) }
-    requires new { Apart (map line_view new.old) }
+    requires old { AreLinesApart (map line_view old.old) }
+    requires new { AreLinesApart (map line_view new.old) }
     ensures { OnOk result (string_bytes out.new ≡ string_bytes out.old
         ++ line_changes (map line_view old.old) (map line_view new.old)) }
 {
@@ -106,8 +106,8 @@ pub fn add_row_changes<P: Profile, R: Row<P>>(
     old: &[R],
     new: &[R],
 ) -> Result<(), AllocError>
-    requires old { Apart (flat_map R.lines old.now) }
-    requires new { Apart (flat_map R.lines new.now) }
+    requires old { AreLinesApart (flat_map R.lines old.now) }
+    requires new { AreLinesApart (flat_map R.lines new.now) }
     ensures { OnOk result (string_bytes out.new ≡ string_bytes out.old
         ++ line_changes (flat_map R.lines old.now) (flat_map R.lines new.now)) }
 {

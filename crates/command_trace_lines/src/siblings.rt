@@ -3,7 +3,7 @@ ghost use Rattle.std.specs.Prelude.{◌≡◌, ◌==◌, [], IfOk, OnOk, map};
 ghost use Rattle.std.specs.List.{position};
 ghost use Rattle.slot_core.specs.Calls.{derivation_view};
 ghost use Rattle.command_trace_lines.specs.Siblings.{row_view};
-ghost use Rattle.command_trace_lines.specs.Private.Path.{cut, path_to, sibling_behind, sibling_line, walked};
+ghost use Rattle.command_trace_lines.specs.Private.Path.{cut, path_to, sibling_behind, sibling_line, siblings_walked};
 
 use crate::changes::StateLine;
 use crate::rows::Row;
@@ -69,7 +69,7 @@ pub fn siblings<P: Profile>(
     alloc: Global,
     derivations: &[Derivation],
 ) -> Result<Vec<SiblingRow>, AllocError>
-    ensures { IfOk result (λ v. map row_view v.items ≡ walked [] (map (derivation_view P.profile) derivations.now)) }
+    ensures { IfOk result (λ v. map row_view v.items ≡ siblings_walked [] (map (derivation_view P.profile) derivations.now)) }
 {
     let mut path = Vec::new(alloc);
     let mut rows = Vec::new(alloc);

@@ -36,7 +36,7 @@ pub struct ThreadText {
 }
 
 impl fmt::Display for ThreadText {
-    ghost output = { λ t. Some (spec.thread_text t.address t.state t.offer) };
+    ghost output = { λ t. Some (spec.traced_thread_text t.address t.state t.offer) };
 
     fn fmt<W: fmt::Write>(&self, f: &mut fmt::Formatter<W>) -> fmt::Result {
         let address = self.address;
@@ -54,7 +54,7 @@ pub struct InboxText {
 }
 
 impl fmt::Display for InboxText {
-    ghost output = { λ i. Some (spec.inbox_text i.address i.inbox) };
+    ghost output = { λ i. Some (spec.traced_inbox_text i.address i.inbox) };
 
     fn fmt<W: fmt::Write>(&self, f: &mut fmt::Formatter<W>) -> fmt::Result {
         let address = self.address;
@@ -91,7 +91,7 @@ pub struct SlotText {
 impl fmt::Display for SlotText {
     ghost use Rattle.kernel_forest.specs.Entries.{entry};
 
-    ghost output = { λ s. Some (spec.slot_text (entry s.address s.cap s.original, s.parent)) };
+    ghost output = { λ s. Some (spec.traced_slot_text (entry s.address s.cap s.original, s.parent)) };
 
     fn fmt<W: fmt::Write>(&self, f: &mut fmt::Formatter<W>) -> fmt::Result {
         let address = self.address;

@@ -6,7 +6,7 @@ ghost use Rattle.kernel_forest.specs.Entries.{derivations_of, slots as slots_in}
 ghost use Rattle.slot_core.specs.Calls.{derivation_view};
 ghost use Rattle.kernel_abstract.specs.Shown.{Shown};
 ghost use Rattle.command_trace_lines.specs.Told.{nothing_told, told_changes, told_lines};
-ghost use Rattle.command_trace_lines.specs.Views.{Follows, IsTold};
+ghost use Rattle.command_trace_lines.specs.Views.{FollowsReply, IsStateTold};
 ghost use Rattle.command_trace_lines.specs.Private.Kept.{HaveSameSlots, IsApartTold, told_rows};
 
 use crate::rows::add_row_changes;
@@ -65,7 +65,7 @@ fn tell_anew<P: Profile, S: DerivationStore<P> + Drop, W: Waiters<P> + Drop>(
     requires apart { IsDistinct (λ (a b : ℕ). a == b) (slots_in kernel.now.derivations) }
     ensures text { IfOk result (λ told. string_bytes out.new ≡ string_bytes out.old
         ++ told_changes (told_rows P.profile old.now) (told_rows P.profile told)) }
-    ensures told { IfOk result (IsTold P.profile kernel.now) }
+    ensures told { IfOk result (IsStateTold P.profile kernel.now) }
 {
     let siblings = siblings::<P>(alloc, slots.as_slice())?;
     let view = view_of::<P, S, W>(alloc, slots, kernel)?;
@@ -86,7 +86,7 @@ pub fn tell<P: Profile, S: DerivationStore<P> + Drop, W: Waiters<P> + Drop>(
 ) -> Result<Told, AllocError>
     ensures text { OnOk result (string_bytes out.new ≡ string_bytes out.old
         ++ told_changes nothing_told (told_lines P.profile kernel.now)) }
-    ensures told { IfOk result (IsTold P.profile kernel.now) }
+    ensures told { IfOk result (IsStateTold P.profile kernel.now) }
 {
     let slots = kernel.derivations(alloc)?;
     tell_anew::<P, S, W>(alloc, out, &nothing(alloc), slots, kernel)
@@ -100,11 +100,11 @@ fn tell_messages<P: Profile, S: DerivationStore<P> + Drop, W: Waiters<P> + Drop>
     old: Told,
     kernel: &Kernel<P, S, W>,
 ) -> Result<Told, AllocError>
-    requires { (v : Shown) × IsTold P.profile v old × HaveSameSlots v kernel.now }
-    ensures text { OnOk result ((v : Shown) → IsTold P.profile v old → HaveSameSlots v kernel.now
+    requires { (v : Shown) × IsStateTold P.profile v old × HaveSameSlots v kernel.now }
+    ensures text { OnOk result ((v : Shown) → IsStateTold P.profile v old → HaveSameSlots v kernel.now
         → string_bytes out.new ≡ string_bytes out.old
         ++ told_changes (told_lines P.profile v) (told_lines P.profile kernel.now)) }
-    ensures told { IfOk result (IsTold P.profile kernel.now) }
+    ensures told { IfOk result (IsStateTold P.profile kernel.now) }
 {
     let Told {
         view: View { memory, messages },
@@ -126,10 +126,10 @@ fn tell_done<P: Profile, S: DerivationStore<P> + Drop, W: Waiters<P> + Drop>(
     old: Told,
     kernel: &Kernel<P, S, W>,
 ) -> Result<Told, AllocError>
-    requires { (v : Shown) × IsTold P.profile v old }
-    ensures text { OnOk result ((v : Shown) → IsTold P.profile v old → string_bytes out.new ≡ string_bytes out.old
+    requires { (v : Shown) × IsStateTold P.profile v old }
+    ensures text { OnOk result ((v : Shown) → IsStateTold P.profile v old → string_bytes out.new ≡ string_bytes out.old
         ++ told_changes (told_lines P.profile v) (told_lines P.profile kernel.now)) }
-    ensures told { IfOk result (IsTold P.profile kernel.now) }
+    ensures told { IfOk result (IsStateTold P.profile kernel.now) }
 {
     let slots = kernel.derivations(alloc)?;
     if are_same_slots::<P>(old.view.memory.slots.as_slice(), slots.as_slice()) {
@@ -152,11 +152,11 @@ pub fn tell_call<P: Profile, S: DerivationStore<P> + Drop, W: Waiters<P> + Drop>
     kernel: &Kernel<P, S, W>,
     reply: Reply,
 ) -> Result<Told, AllocError>
-    requires { (v : Shown) × IsTold P.profile v old × Follows reply v kernel.now }
-    ensures text { OnOk result ((v : Shown) → IsTold P.profile v old → Follows reply v kernel.now
+    requires { (v : Shown) × IsStateTold P.profile v old × FollowsReply reply v kernel.now }
+    ensures text { OnOk result ((v : Shown) → IsStateTold P.profile v old → FollowsReply reply v kernel.now
         → string_bytes out.new ≡ string_bytes out.old
         ++ told_changes (told_lines P.profile v) (told_lines P.profile kernel.now)) }
-    ensures told { IfOk result (IsTold P.profile kernel.now) }
+    ensures told { IfOk result (IsStateTold P.profile kernel.now) }
 {
     match reply {
         Reply::Done => tell_done::<P, S, W>(alloc, out, old, kernel),

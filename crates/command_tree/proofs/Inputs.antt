@@ -30,12 +30,12 @@ use Rattle.setup_report.specs.Behind.{calls_made, state_behind}
 use Rattle.command_core.specs.declared.fault.Verdict.TheVariants.{AllMet, Refused, Absent}
 use Rattle.kernel_abstract.specs.Reached.{IsReached}
 use Rattle.command_tree.specs.declared.form.Form.TheVariants.{Lines}
-use Rattle.command_check.specs.Commands.{IsAnswer, IsAnswerAfter, IsAnswerTo, IsStateAnswer}
+use Rattle.command_check.specs.Commands.{IsSetUpAnswer, IsAnswerAfter, IsAnswerTo, IsStateAnswer}
 use Rattle.setup_format.proofs.Grammar.Parts.{parts}
 use Rattle.setup_report.proofs.Runs.{derivations_shown}
 use Rattle.command_tree.specs.Tree.{forest_text}
 use Rattle.command_tree.specs.Trees.{IsTree}
-use Rattle.command_tree.specs.Laws.{AreNames, held_in, held_of}
+use Rattle.command_tree.specs.Laws.{AreSetUpNames, held_in, held_when_read}
 use Rattle.command_tree.proofs.ReadBack.{same_states}
 
 -- ---- what was read, piece by piece
@@ -227,14 +227,14 @@ names_read p table ns h =
 abbrev read_with : Members → Names → SetupView → ReadView
 read_with table names setup = record { table = table; names = names; setup = setup }
 
-pub input_read : (bytes : List ℕ) (read : ReadView) → read_of_bytes bytes ≡ Ok read → AreNames read.names × IsPlan read.setup.profile read.setup.plan
+pub input_read : (bytes : List ℕ) (read : ReadView) → read_of_bytes bytes ≡ Ok read → AreSetUpNames read.names × IsPlan read.setup.profile read.setup.plan
 unfolding read_of_bytes read_of
 input_read bytes read h =
     let table = parts (document_of bytes) read_of read h in
     let setup = parts (setup_of table.0) (λ s. names_of s.profile table.0 >>= λ n. Ok (read_with table.0 n s)) read table.2 in
     let named = parts (names_of setup.0.profile table.0) (λ n. Ok (read_with table.0 n setup.0)) read setup.2 in
     let same : read_with table.0 named.0 setup.0 ≡ read = ok_same (read_with table.0 named.0 setup.0) read named.2 in
-    subst (λ (x : ReadView). AreNames x.names × IsPlan x.setup.profile x.setup.plan) same
+    subst (λ (x : ReadView). AreSetUpNames x.names × IsPlan x.setup.profile x.setup.plan) same
     (All-from_recursion (λ (n : List ℕ × ℕ). is_name n.0 ≡ true) named.0 (names_read setup.0.profile table.0 named.0 named.1), plan_read newest_format table.0 setup.0 setup.1)
   where
     ok_same : (x y : ReadView) → ◌≡◌ {A = Result ReadView Fault} (Ok x) (Ok y) → x ≡ y
@@ -265,7 +265,7 @@ written after bytes text h = by_result (read_of_bytes bytes) refl h
           is = k.0 ∙ ap (forest_text read.names read.setup made) (derivations_shown (state_behind read.setup.profile read.setup made));
         }
 
-    by_result : (r : Result ReadView Fault) → read_of_bytes bytes ≡ r → IsAnswer (IsStateAnswer (IsTree Lines) after) r text AllMet → IsWritten after bytes text
+    by_result : (r : Result ReadView Fault) → read_of_bytes bytes ≡ r → IsSetUpAnswer (IsStateAnswer (IsTree Lines) after) r text AllMet → IsWritten after bytes text
     by_result (Err fault) e k = absurd (let w : AllMet ≡ Refused = k.1 in cc)
     by_result (Ok read) e k = by_made read e (calls_made read.setup after) refl k
 
@@ -273,12 +273,12 @@ reached_behind : (setup : SetupView) (made : ℕ) → IsPlan setup.profile setup
 reached_behind setup made lawful =
     record { plan = setup.plan; lawful = lawful; calls = take made (map (λ (c : CallView). c.call) setup.calls); is = refl }
 
-held_is : (after : Option ℕ) (bytes text : List ℕ) (h : IsWritten after bytes text) → held_of after (read_of_bytes bytes) ≡ Some (held_in (state_behind h.read.setup.profile h.read.setup h.made).derivations)
+held_is : (after : Option ℕ) (bytes text : List ℕ) (h : IsWritten after bytes text) → held_when_read after (read_of_bytes bytes) ≡ Some (held_in (state_behind h.read.setup.profile h.read.setup h.made).derivations)
 held_is after bytes text h =
-    ap (held_of after) h.is_read ∙ ap (option_map (λ made. held_in (state_behind h.read.setup.profile h.read.setup made).derivations)) h.makes
+    ap (held_when_read after) h.is_read ∙ ap (option_map (λ made. held_in (state_behind h.read.setup.profile h.read.setup made).derivations)) h.makes
 
 pub same_inputs : (after until : Option ℕ) (bytes others text : List ℕ) → IsAnswerTo (IsStateAnswer (IsTree Lines) after) bytes text AllMet → IsAnswerTo (IsStateAnswer (IsTree Lines) until) others text AllMet →
-    held_of after (read_of_bytes bytes) ≡ held_of until (read_of_bytes others)
+    held_when_read after (read_of_bytes bytes) ≡ held_when_read until (read_of_bytes others)
 same_inputs after until bytes others text h k =
     let a = written after bytes text h in
     let b = written until others text k in

@@ -34,8 +34,8 @@ use Rattle.setup_report_laws.proofs.Measured.{reached_words}
 use Rattle.setup_report_laws.proofs.Renamed.{same_renamed}
 use Rattle.setup_report_laws.proofs.Told.{capability_told}
 use Rattle.setup_report_laws.proofs.OneLine.{all_pass, both_lines, number_line, number_and, capability_line}
-use Rattle.command_tree.specs.Tree.{placed, indent, thread_named, name_text, slot_text, placed_line, forest_lines, head_text, forest_text}
-use Rattle.command_tree.specs.Laws.{held, held_in, AreNames}
+use Rattle.command_tree.specs.Tree.{placed, indent, thread_named, tree_name_text, tree_slot_text, placed_line, forest_lines, head_text, forest_text}
+use Rattle.command_tree.specs.Laws.{held_capability, held_in, AreSetUpNames}
 use Rattle.command_tree.proofs.Levels.{leveled, same_forest}
 
 -- what a line tells of a full slot: its address and its capability
@@ -58,7 +58,7 @@ abbrev IsNamed : Option (List ℕ) → Type 0
 IsNamed None = Unit {0}
 IsNamed (Some name) = IsOneLine name
 
-name_line : (name : Option (List ℕ)) → IsNamed name → IsOneLine (name_text name)
+name_line : (name : Option (List ℕ)) → IsNamed name → IsOneLine (tree_name_text name)
 name_line None h = refl
 name_line (Some name) h = h
 
@@ -111,12 +111,12 @@ indent_line (slot ∷ above) = indent_line above
 
 -- a line without its end
 abbrev body : Names → Entry × List ℕ → List ℕ
-body names x = indent x.1 ++ slot_text names x.0
+body names x = indent x.1 ++ tree_slot_text names x.0
 
 body_line : (names : Names) (x : Entry × List ℕ) → AreLines names → IsOneLine (body names x)
 body_line names x h =
-    let name = name_text (thread_named names x.0.cap) in
-    both_lines (indent x.1) (slot_text names x.0) (indent_line x.1)
+    let name = tree_name_text (thread_named names x.0.cap) in
+    both_lines (indent x.1) (tree_slot_text names x.0) (indent_line x.1)
     (number_and x.0.slot (codes " " ++ (cap_text x.0.cap ++ name))
     (both_lines (cap_text x.0.cap) name (capability_line x.0.cap) (name_line (thread_named names x.0.cap) (thread_line names x.0.cap h))))
 
@@ -159,11 +159,11 @@ digits_stop : (text rest : List ℕ) → Pass is_digit text → 0 < length text 
 digits_stop [] rest h some = absurd (omega (arith, some))
 digits_stop (byte ∷ text) rest h some = digit_is_no_space byte h.0
 
-slot_stops : (names : Names) (e : Entry) → e.slot < 2 ^ 64 → Stops is_space (slot_text names e)
+slot_stops : (names : Names) (e : Entry) → e.slot < 2 ^ 64 → Stops is_space (tree_slot_text names e)
 slot_stops names e short =
-    digits_stop (decimal e.slot) (codes " " ++ (cap_text e.cap ++ name_text (thread_named names e.cap))) (number_digits e.slot) (decimal_nonempty e.slot short)
+    digits_stop (decimal e.slot) (codes " " ++ (cap_text e.cap ++ tree_name_text (thread_named names e.cap))) (number_digits e.slot) (decimal_nonempty e.slot short)
 
-name_stops : (name : Option (List ℕ)) → Stops is_digit (name_text name)
+name_stops : (name : Option (List ℕ)) → Stops is_digit (tree_name_text name)
 name_stops None = tt
 name_stops (Some name) = refl
 
@@ -173,13 +173,13 @@ view x = (length x.1, told_slot x.0)
 
 same_view : (names others : Names) (x y : Entry × List ℕ) → x.0.slot < 2 ^ 64 → y.0.slot < 2 ^ 64 → body names x ≡ body others y → view x ≡ view y
 same_view names others x y h k same =
-    let spaces : (indent x.1 ≡ indent y.1) × (slot_text names x.0 ≡ slot_text others y.0) =
-    told_apart is_space (indent x.1) (indent y.1) (slot_text names x.0) (slot_text others y.0) (indent_spaces x.1) (indent_spaces y.1) (slot_stops names x.0 h) (slot_stops others y.0 k) same in
+    let spaces : (indent x.1 ≡ indent y.1) × (tree_slot_text names x.0 ≡ tree_slot_text others y.0) =
+    told_apart is_space (indent x.1) (indent y.1) (tree_slot_text names x.0) (tree_slot_text others y.0) (indent_spaces x.1) (indent_spaces y.1) (slot_stops names x.0 h) (slot_stops others y.0 k) same in
     let deep : length x.1 ≡ length y.1 = omega (arith, ap length spaces.0, indent_length x.1, indent_length y.1) in
-    let mine = cap_text x.0.cap ++ name_text (thread_named names x.0.cap) in
-    let theirs = cap_text y.0.cap ++ name_text (thread_named others y.0.cap) in
+    let mine = cap_text x.0.cap ++ tree_name_text (thread_named names x.0.cap) in
+    let theirs = cap_text y.0.cap ++ tree_name_text (thread_named others y.0.cap) in
     let numbers = numbers_apart x.0.slot y.0.slot (codes " " ++ mine) (codes " " ++ theirs) refl refl spaces.1 in
-    let caps = capabilities_apart x.0.cap y.0.cap (name_text (thread_named names x.0.cap)) (name_text (thread_named others y.0.cap))
+    let caps = capabilities_apart x.0.cap y.0.cap (tree_name_text (thread_named names x.0.cap)) (tree_name_text (thread_named others y.0.cap))
     (name_stops (thread_named names x.0.cap)) (name_stops (thread_named others y.0.cap)) (append_cancel_left (codes " ") mine theirs numbers.1) in
     λ i. (deep i, (decimal_injective x.0.slot y.0.slot h k numbers.0 i, caps.0 i))
 
@@ -189,7 +189,7 @@ abbrev AreShort : List (Entry × List ℕ) → Type 0
 AreShort xs = Each (λ (x : Entry × List ℕ). x.0.slot < 2 ^ 64) xs
 
 line_is : (names : Names) (x : Entry × List ℕ) (rest : List ℕ) → placed_line names x ++ rest ≡ (body names x ++ codes "\n") ++ rest
-line_is names x rest = ap (λ l. l ++ rest) (sym (append_assoc (indent x.1) (slot_text names x.0) (codes "\n")))
+line_is names x rest = ap (λ l. l ++ rest) (sym (append_assoc (indent x.1) (tree_slot_text names x.0) (codes "\n")))
 
 never_empty : (text rest : List ℕ) → (text ++ codes "\n") ++ rest ≡ [] → ⊥
 never_empty [] rest h = cc
@@ -246,10 +246,10 @@ words : (p : ProfileName) (A : State) → IsReached p A → Each (λ (e : Entry)
 words p A reached = each-map_old IsWithinWords (λ (e : Entry). e.cap) (preorder A.derivations) (recursion_from_All IsWithinWords (caps A.derivations) (reached_words p A reached))
 
 -- what is told alike is alike
-same_held : (a b : Entry) → IsWithinWords a.cap → IsWithinWords b.cap → told_slot a ≡ told_slot b → held a ≡ held b
+same_held : (a b : Entry) → IsWithinWords a.cap → IsWithinWords b.cap → told_slot a ≡ told_slot b → held_capability a ≡ held_capability b
 same_held a b h k same = λ i. ((same i).0, capability_told a.cap b.cap h k (ap (λ (x : ToldSlot). x.1) same) i)
 
-pub same_states : (p q : ProfileName) (A B : State) (names others : Names) (setup other : SetupView) (made after : ℕ) → IsReached p A → IsReached q B → AreNames names → AreNames others →
+pub same_states : (p q : ProfileName) (A B : State) (names others : Names) (setup other : SetupView) (made after : ℕ) → IsReached p A → IsReached q B → AreSetUpNames names → AreSetUpNames others →
     forest_text names setup made A.derivations ≡ forest_text others other after B.derivations → held_in A.derivations ≡ held_in B.derivations
 same_states p q A B names others setup other made after a b n o same =
     let f = A.derivations in
@@ -260,4 +260,4 @@ same_states p q A B names others setup other made after a b n o same =
     same_views names others (recursion_from_All (λ (name : List ℕ × ℕ). is_name name.0 ≡ true) names n) (recursion_from_All (λ (name : List ℕ × ℕ). is_name name.0 ≡ true) others o)
     (placed [] f) (placed [] g) (short p A a) (short q B b) behind in
     let told : told_forest f ≡ told_forest g = same_forest (told_forest f) (told_forest g) (sym (placed_levels [] f) ∙ (views ∙ placed_levels [] g)) in
-    same_renamed told_slot held (λ (e : Entry). IsWithinWords e.cap) same_held f g (words p A a) (words q B b) told
+    same_renamed told_slot held_capability (λ (e : Entry). IsWithinWords e.cap) same_held f g (words p A a) (words q B b) told

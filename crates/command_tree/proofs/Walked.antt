@@ -13,7 +13,7 @@ use Rattle.kernel_forest.proofs.Trees.Lines.{once-left_part}
 use Rattle.kernel_forest.proofs.Slots.Distinct.{once_at}
 use Rattle.setup_report.specs.State.{Derived}
 use Rattle.command_tree.specs.Tree.{placed}
-use Rattle.command_tree.specs.Private.Path.{up_to, kept, walked}
+use Rattle.command_tree.specs.Private.Path.{path_up_to, kept, slots_with_paths}
 
 -- ---- the first ones of a path, up to a slot that stands in it once
 
@@ -41,7 +41,7 @@ place_is slot path more off =
 kept_is : (slot : ℕ) (path more : List ℕ) → IsOff path slot → kept (Some slot) ((path ++ slot ∷ []) ++ more) ≡ path ++ slot ∷ []
 kept_is slot path more off =
     ap (kept (Some slot)) (append_assoc path (slot ∷ []) more)
-    ∙ (ap (λ place. up_to place (path ++ slot ∷ more)) (place_is slot path more off)
+    ∙ (ap (λ place. path_up_to place (path ++ slot ∷ more)) (place_is slot path more off)
     ∙ take-append-add path (slot ∷ more) 1)
 
 -- ---- a forest
@@ -71,25 +71,25 @@ apart_below path slot (e ∷ list) apart absent =
 -- what is walked of a forest and of a list behind it
 abbrev IsWalked : List ℕ → Option Entry → Forest Entry → List ℕ → List Derived → Type 0
 IsWalked path above f more rest =
-    (left : List ℕ) × (walked (path ++ more) (map viewed (parented above f) ++ rest) ≡ placed path f ++ walked (path ++ left) rest)
+    (left : List ℕ) × (slots_with_paths (path ++ more) (map viewed (parented above f) ++ rest) ≡ placed path f ++ slots_with_paths (path ++ left) rest)
 
 walked_tree : (path : List ℕ) (above : Option Entry) (e : Entry) (under others : Forest Entry) (more below left : List ℕ) (rest : List Derived) → Leads above path →
-    walked ((path ++ e.slot ∷ []) ++ []) (map viewed (parented (Some e) under) ++ (map viewed (parented above others) ++ rest))
-    ≡ placed (path ++ e.slot ∷ []) under ++ walked ((path ++ e.slot ∷ []) ++ below) (map viewed (parented above others) ++ rest) →
-    walked (path ++ e.slot ∷ below) (map viewed (parented above others) ++ rest) ≡ placed path others ++ walked (path ++ left) rest →
-    walked (path ++ more) (map viewed (parented above (tree e under others)) ++ rest) ≡ placed path (tree e under others) ++ walked (path ++ left) rest
+    slots_with_paths ((path ++ e.slot ∷ []) ++ []) (map viewed (parented (Some e) under) ++ (map viewed (parented above others) ++ rest))
+    ≡ placed (path ++ e.slot ∷ []) under ++ slots_with_paths ((path ++ e.slot ∷ []) ++ below) (map viewed (parented above others) ++ rest) →
+    slots_with_paths (path ++ e.slot ∷ below) (map viewed (parented above others) ++ rest) ≡ placed path others ++ slots_with_paths (path ++ left) rest →
+    slots_with_paths (path ++ more) (map viewed (parented above (tree e under others)) ++ rest) ≡ placed path (tree e under others) ++ slots_with_paths (path ++ left) rest
 walked_tree path above e under others more below left rest leads first second =
     let own = path ++ e.slot ∷ [] in
     let mine = map viewed (parented (Some e) under) in
     let theirs = map viewed (parented above others) in
-    ap (λ l. walked (path ++ more) ((viewed (e, above) ∷ l) ++ rest)) (map-append viewed (parented (Some e) under) (parented above others))
-    ∙ (ap (λ l. (e, l) ∷ walked (l ++ e.slot ∷ []) ((mine ++ theirs) ++ rest)) (leads more)
+    ap (λ l. slots_with_paths (path ++ more) ((viewed (e, above) ∷ l) ++ rest)) (map-append viewed (parented (Some e) under) (parented above others))
+    ∙ (ap (λ l. (e, l) ∷ slots_with_paths (l ++ e.slot ∷ []) ((mine ++ theirs) ++ rest)) (leads more)
     ∙ ap (λ l. (e, path) ∷ l)
-    ((λ i. walked (sym (append-nil own) i) (append_assoc mine theirs rest i))
+    ((λ i. slots_with_paths (sym (append-nil own) i) (append_assoc mine theirs rest i))
     ∙ (first
-    ∙ (ap (λ l. placed own under ++ walked l (theirs ++ rest)) (append_assoc path (e.slot ∷ []) below)
+    ∙ (ap (λ l. placed own under ++ slots_with_paths l (theirs ++ rest)) (append_assoc path (e.slot ∷ []) below)
     ∙ (ap (λ l. placed own under ++ l) second
-    ∙ sym (append_assoc (placed own under) (placed path others) (walked (path ++ left) rest)))))))
+    ∙ sym (append_assoc (placed own under) (placed path others) (slots_with_paths (path ++ left) rest)))))))
 
 walked_forest : (path : List ℕ) (above : Option Entry) (f : Forest Entry) (more : List ℕ) (rest : List Derived) → Leads above path → AreDistinct f → IsApart path (preorder f) →
     IsWalked path above f more rest
@@ -114,7 +114,7 @@ all_off [] = tt
 all_off (e ∷ list) = (tt, all_off list)
 
 -- each full slot stands below the slots of its path
-pub walked_is : (f : Forest Entry) → IsDistinct (λ (a b : ℕ). a == b) (slots f) → walked [] (derivations_of f) ≡ placed [] f
+pub walked_is : (f : Forest Entry) → IsDistinct (λ (a b : ℕ). a == b) (slots f) → slots_with_paths [] (derivations_of f) ≡ placed [] f
 walked_is f distinct =
     let walk : IsWalked [] None f [] [] = walked_forest [] None f [] [] (λ more. refl) (λ slot. once_at slot (preorder f) distinct) (all_off (preorder f)) in
-    ap (walked []) (sym (append-nil (derivations_of f))) ∙ (walk.1 ∙ append-nil (placed [] f))
+    ap (slots_with_paths []) (sym (append-nil (derivations_of f))) ∙ (walk.1 ∙ append-nil (placed [] f))

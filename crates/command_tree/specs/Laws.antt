@@ -10,22 +10,22 @@ use Rattle.setup_format.specs.Views.{SetupView, ReadView}
 use Rattle.setup_report.specs.Behind.{calls_made, state_behind}
 
 -- a full slot: its address and its capability
-abbrev pub held : Entry → ℕ × Cap
-held e = (e.slot, e.cap)
+abbrev pub held_capability : Entry → ℕ × Cap
+held_capability e = (e.slot, e.cap)
 
 -- a forest, each full slot in its place, without what is original
 abbrev pub held_in : Forest Entry → Forest (ℕ × Cap)
-held_in f = renamed held f
+held_in f = renamed held_capability f
 
 -- the forest behind the calls of a set-up that are asked for, where it has as many
 abbrev pub held_behind : Option ℕ → SetupView → Option (Forest (ℕ × Cap))
 held_behind after setup = option_map (λ made. held_in (state_behind setup.profile setup made).derivations) (calls_made setup after)
 
 -- the same of what is read of an input; none where that is refused
-abbrev pub held_of : Option ℕ → Result ReadView Fault → Option (Forest (ℕ × Cap))
-held_of after (Ok read) = held_behind after read.setup
-held_of after (Err fault) = None
+abbrev pub held_when_read : Option ℕ → Result ReadView Fault → Option (Forest (ℕ × Cap))
+held_when_read after (Ok read) = held_behind after read.setup
+held_when_read after (Err fault) = None
 
 -- each name is one that a set-up may have
-abbrev pub AreNames : Names → Type 0
-AreNames names = All (λ (name : List ℕ × ℕ). is_name name.0 ≡ true) names
+abbrev pub AreSetUpNames : Names → Type 0
+AreSetUpNames names = All (λ (name : List ℕ × ℕ). is_name name.0 ≡ true) names

@@ -35,23 +35,23 @@ thread_named names (Untyped base bits free) = None
 thread_named names (Endpoint base badge rights) = None
 thread_named names (CNode base radix guard) = None
 
-abbrev pub name_text : Option (List ℕ) → List ℕ
-name_text None = []
-name_text (Some name) = codes " @" ++ name
+abbrev pub tree_name_text : Option (List ℕ) → List ℕ
+tree_name_text None = []
+tree_name_text (Some name) = codes " @" ++ name
 
 -- a slot's address, and what it holds, with a name where it has one
-abbrev pub slot_words : ℕ → Cap → Option (List ℕ) → List ℕ
-slot_words slot cap name = decimal slot ++ (codes " " ++ (cap_text cap ++ name_text name))
+abbrev pub tree_slot_words : ℕ → Cap → Option (List ℕ) → List ℕ
+tree_slot_words slot cap name = decimal slot ++ (codes " " ++ (cap_text cap ++ tree_name_text name))
 
 -- the same with the name of its thread
-abbrev pub slot_text : Names → Entry → List ℕ
-slot_text names e = slot_words e.slot e.cap (thread_named names e.cap)
+abbrev pub tree_slot_text : Names → Entry → List ℕ
+tree_slot_text names e = tree_slot_words e.slot e.cap (thread_named names e.cap)
 
-abbrev pub slot_line : Names → Entry → List ℕ → List ℕ
-slot_line names e above = indent above ++ terminated (slot_text names e)
+abbrev pub tree_slot_line : Names → Entry → List ℕ → List ℕ
+tree_slot_line names e above = indent above ++ terminated (tree_slot_text names e)
 
 abbrev pub placed_line : Names → Entry × List ℕ → List ℕ
-placed_line names x = slot_line names x.0 x.1
+placed_line names x = tree_slot_line names x.0 x.1
 
 abbrev pub forest_lines : Names → Forest Entry → List ℕ
 forest_lines names f = flat_map (placed_line names) (placed [] f)
@@ -73,7 +73,7 @@ forest_text names setup made f = terminated (head_text setup made) ++ forest_lin
 -- derived from, in the kernel's order
 
 abbrev pub node_line : Names → Entry → List ℕ
-node_line names e = terminated (codes "  " ++ (decimal e.slot ++ (codes " [label=\"" ++ (slot_text names e ++ codes "\"];"))))
+node_line names e = terminated (codes "  " ++ (decimal e.slot ++ (codes " [label=\"" ++ (tree_slot_text names e ++ codes "\"];"))))
 
 abbrev pub edge_line : Option ℕ → ℕ → List ℕ
 edge_line None slot = []

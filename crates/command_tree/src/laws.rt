@@ -11,17 +11,17 @@ ghost use Rattle.command_core.specs.declared.fault.Verdict.TheVariants.{AllMet};
 ghost use Rattle.command_tree.specs.declared.form.Form.TheVariants.{Lines};
 ghost use Rattle.command_tree.specs.Tree.{forest_text};
 ghost use Rattle.command_tree.specs.Trees.{IsTree};
-ghost use Rattle.command_tree.specs.Laws.{AreNames, held_in, held_of};
+ghost use Rattle.command_tree.specs.Laws.{AreSetUpNames, held_in, held_when_read};
 
 /// The lines of a forest tell the whole of it, each full slot in its place with its capability: of two states that runs
 /// reach, of whatever set-ups, the forests are the same, if the texts are. And two inputs of which the same text is written
 /// have the same forest behind the calls that are asked for. What the text does not tell is which capabilities are original.
 pub fn lines_tell_the_forest()
     ensures states { (p q : ProfileName) (A B : State) (names others : Names) (setup other : SetupView) (made after : ℕ)
-        → IsReached p A → IsReached q B → AreNames names → AreNames others
+        → IsReached p A → IsReached q B → AreSetUpNames names → AreSetUpNames others
         → forest_text names setup made A.derivations ≡ forest_text others other after B.derivations
         → held_in A.derivations ≡ held_in B.derivations }
     ensures inputs { (after until : Option ℕ) (bytes others text : List ℕ)
         → IsAnswerTo (IsStateAnswer (IsTree Lines) after) bytes text AllMet → IsAnswerTo (IsStateAnswer (IsTree Lines) until) others text AllMet
-        → held_of after (read_of_bytes bytes) ≡ held_of until (read_of_bytes others) }
+        → held_when_read after (read_of_bytes bytes) ≡ held_when_read until (read_of_bytes others) }
 {}

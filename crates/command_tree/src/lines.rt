@@ -34,7 +34,7 @@ fn add_slot<P: Profile>(
     above: &[u64],
 ) -> Result<(), AllocError>
     ensures { OnOk result (string_bytes out.new ≡ string_bytes out.old
-        ++ spec.slot_line (names_view names.now) (derivation_view P.profile row.now).0 above.now) }
+        ++ spec.tree_slot_line (names_view names.now) (derivation_view P.profile row.now).0 above.now) }
 {
     add_indent(out, above)?;
     let slot = slot_text::<P>(names, row);
@@ -49,7 +49,7 @@ fn add_next<P: Profile>(
     path: &mut Vec<u64>,
 ) -> Result<(), AllocError>
     ensures line { OnOk result (string_bytes out.new ≡ string_bytes out.old
-        ++ spec.slot_line (names_view names.now) (derivation_view P.profile row.now).0 (kept (derivation_view P.profile row.now).1 path.old.items)) }
+        ++ spec.tree_slot_line (names_view names.now) (derivation_view P.profile row.now).0 (kept (derivation_view P.profile row.now).1 path.old.items)) }
     ensures path { OnOk result (path.new.items ≡ path_below (derivation_view P.profile row.now) path.old.items) }
 {
     keep_to(path, parent_address::<P>(row));

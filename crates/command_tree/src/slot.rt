@@ -22,7 +22,7 @@ pub struct SlotText<'a> {
 }
 
 impl fmt::Display for SlotText<'_> {
-    ghost output = { λ s. Some (spec.slot_words s.slot s.cap (option_copied s.name)) };
+    ghost output = { λ s. Some (spec.tree_slot_words s.slot s.cap (option_copied s.name)) };
 
     fn fmt<W: fmt::Write>(&self, f: &mut fmt::Formatter<W>) -> fmt::Result {
         let slot = self.slot;

@@ -32,9 +32,9 @@ use Rattle.setup_format.specs.Setups.{call_at, laid_out, limit_of, names_of, pla
 use Rattle.setup_format.specs.Tables.{at_key, given_or, known_only, needed, optional, required}
 use Rattle.setup_format.specs.Views.{CallView, ReadView, SetupView}
 use Rattle.setup_format.proofs.Grammar.Parts.{parts}
-use Rattle.command_why_words.specs.Names.{name_in, name_of}
-use Rattle.command_why_words.specs.Keys.{KeyWords, key_words, transfer_words, slot_words}
-use Rattle.command_why.specs.Tables.{call_table, table_in}
+use Rattle.command_why_words.specs.Names.{name_in, spelt_name}
+use Rattle.command_why_words.specs.Keys.{KeyWords, key_words, transfer_words, slot_key_words}
+use Rattle.command_why.specs.Tables.{call_table, table_of_call}
 use Rattle.command_why.specs.Laws.{MeansWord, MeanTheirWords, said_words}
 
 -- ---- what was read, piece by piece
@@ -67,7 +67,7 @@ text_means names bound n (c ∷ text) name h k =
       | false ↦ λ read is. absurd cc
     ] h k
 
-data_means : (p : ProfileName) (names : Names) (d : Data) (n : ℕ) (name : List ℕ) → word p names d ≡ Ok n → name_of d ≡ Some name → word_named names name ≡ Some n
+data_means : (p : ProfileName) (names : Names) (d : Data) (n : ℕ) (name : List ℕ) → word p names d ≡ Ok n → spelt_name d ≡ Some name → word_named names name ≡ Some n
 data_means p names (string text) n name h k = text_means names (2 ^ word_bits p) n text name h k
 data_means p names d n name h k = absurd cc
 
@@ -79,7 +79,7 @@ module _ (p : ProfileName) (names : Names) (place : Place) (t : Members) where
   unfolding Means
   word_means key n h = by (get_member key t) (at_key_read place key (needed (word p names) (get_member key t)) n h)
     where
-      by : (o : Option Data) → needed (word p names) o ≡ Ok n → (name : List ℕ) → option_and_then name_of o ≡ Some name → word_named names name ≡ Some n
+      by : (o : Option Data) → needed (word p names) o ≡ Ok n → (name : List ℕ) → option_and_then spelt_name o ≡ Some name → word_named names name ≡ Some n
       by None read name is = absurd cc
       by (Some d) read name is = data_means p names d n name read is
 
@@ -87,7 +87,7 @@ module _ (p : ProfileName) (names : Names) (place : Place) (t : Members) where
   unfolding Means
   given_means key default n h = by (get_member key t) (at_key_read place key (given_or default (word p names) (get_member key t)) n h)
     where
-      by : (o : Option Data) → given_or default (word p names) o ≡ Ok n → (name : List ℕ) → option_and_then name_of o ≡ Some name → word_named names name ≡ Some n
+      by : (o : Option Data) → given_or default (word p names) o ≡ Ok n → (name : List ℕ) → option_and_then spelt_name o ≡ Some name → word_named names name ≡ Some n
       by None read name is = absurd cc
       by (Some d) read name is = data_means p names d n name read is
 
@@ -95,11 +95,11 @@ module _ (p : ProfileName) (names : Names) (place : Place) (t : Members) where
   unfolding Means
   rights_mean r h = by (get_member (codes "rights") t) (at_key_read place (codes "rights") (given_or all_rights rights (get_member (codes "rights") t)) r h)
     where
-      number_means : (d : Data) (r : Rights) → rights d ≡ Ok r → (name : List ℕ) → name_of d ≡ Some name → ⊥
+      number_means : (d : Data) (r : Rights) → rights d ≡ Ok r → (name : List ℕ) → spelt_name d ≡ Some name → ⊥
       number_means (string text) r read name is = cc
       number_means d r read name is = cc
 
-      by : (o : Option Data) → given_or all_rights rights o ≡ Ok r → (name : List ℕ) → option_and_then name_of o ≡ Some name → word_named names name ≡ Some r.0
+      by : (o : Option Data) → given_or all_rights rights o ≡ Ok r → (name : List ℕ) → option_and_then spelt_name o ≡ Some name → word_named names name ≡ Some r.0
       by None read name is = absurd cc
       by (Some d) read name is = absurd (number_means d r read name is)
 
@@ -209,7 +209,7 @@ module _ (p : ProfileName) (names : Names) (place : Place) (t : Members) where
       subst HaveMeaning same
       (each-append (λ (k : List ℕ × ℕ). MeansWord names (Some t) k) (transfer w.0) ((codes "word", value.0) ∷ []) (slots_mean w.0 w.1) (word_means (codes "word") value.0 value.1, tt))
 
-  slot_means : (w : ℕ × ℕ × ℕ) → slot_at p names place t ≡ Ok w → AllMean (slot_words w.0 w.1 w.2)
+  slot_means : (w : ℕ × ℕ × ℕ) → slot_at p names place t ≡ Ok w → AllMean (slot_key_words w.0 w.1 w.2)
   unfolding slot_at Means AllMean
   slot_means w h =
       let cap = parts (word_at p names place t (codes "cap")) _ w h in
@@ -217,7 +217,7 @@ module _ (p : ProfileName) (names : Names) (place : Place) (t : Members) where
       let depth = parts (word_or p names place t (codes "depth") (word_bits p)) _ w index.2 in
       let made : ℕ × ℕ × ℕ = (cap.0, index.0, depth.0) in
       let same : made ≡ w = ok_same made w depth.2 in
-      subst (λ (x : ℕ × ℕ × ℕ). AllMean (slot_words x.0 x.1 x.2)) same
+      subst (λ (x : ℕ × ℕ × ℕ). AllMean (slot_key_words x.0 x.1 x.2)) same
       (word_means (codes "cap") cap.0 cap.1, (word_means (codes "index") index.0 index.1, (given_means (codes "depth") (word_bits p) depth.0 depth.1, tt)))
 
   message_means : (w : ℕ × Message) → message_at p names place t ≡ Ok w → Means (codes "cap") w.0
@@ -247,7 +247,7 @@ module _ (p : ProfileName) (names : Names) (place : Place) (t : Members) where
       let same : make cap.0 ≡ o = ok_same (make cap.0) o cap.2 in
       subst HaveMeaning same (has cap.0 (word_means (codes "cap") cap.0 cap.1))
 
-  named_slot_means : (make : ℕ × ℕ × ℕ → Op) (o : Op) → ((w : ℕ × ℕ × ℕ) → AllMean (slot_words w.0 w.1 w.2) → HaveMeaning (make w)) → (slot_at p names place t >>= λ w. Ok (make w)) ≡ Ok o → HaveMeaning o
+  named_slot_means : (make : ℕ × ℕ × ℕ → Op) (o : Op) → ((w : ℕ × ℕ × ℕ) → AllMean (slot_key_words w.0 w.1 w.2) → HaveMeaning (make w)) → (slot_at p names place t >>= λ w. Ok (make w)) ≡ Ok o → HaveMeaning o
   named_slot_means make o has h =
       let w = parts (slot_at p names place t) (λ w. Ok (make w)) o h in
       let same : make w.0 ≡ o = ok_same (make w.0) o w.2 in
@@ -367,12 +367,12 @@ is_spelt_by t call e h = by (as_table e) h
 table_is : (t : Members) (list : List Members) (i : ℕ) (call : Members) → optional places.Top t (codes "call") [] (tables 0 max_calls) ≡ Ok list → slice_get list i ≡ Some call → call_table t i ≡ Some call
 table_is t list i call h k = by (get_member (codes "call") t) (at_key_read places.Top (codes "call") (given_or [] (tables 0 max_calls) (get_member (codes "call") t)) list h)
   where
-    by : (o : Option Data) → given_or [] (tables 0 max_calls) o ≡ Ok list → option_and_then (λ calls. table_in (array_in 0 max_calls (as_array calls)) i) o ≡ Some call
+    by : (o : Option Data) → given_or [] (tables 0 max_calls) o ≡ Ok list → option_and_then (λ calls. table_of_call (array_in 0 max_calls (as_array calls)) i) o ≡ Some call
     by None read = absurd (let none : [] ≡ list = ok_same [] list read in let w : ◌≡◌ {A = Option Members} None (Some call) = ap (λ (l : List Members). slice_get l i) none ∙ k in cc)
     by (Some d) read =
         let items = parts (array_in 0 max_calls (as_array d)) (each (λ _ e. is_table (as_table e)) 0) list read in
         let there = each_at (λ _ e. is_table (as_table e)) 0 items.0 list i call items.2 k in
-        ap (λ r. table_in r i) items.1 ∙ (ap (option_and_then as_table) there.2 ∙ is_spelt_by t call there.1 there.3)
+        ap (λ r. table_of_call r i) items.1 ∙ (ap (option_and_then as_table) there.2 ∙ is_spelt_by t call there.1 there.3)
 
 abbrev read_with : Members → Names → SetupView → ReadView
 read_with table names setup = record { table = table; names = names; setup = setup }

@@ -7,7 +7,7 @@ use Rattle.kernel_abstract.specs.State.{State, shown}
 use Rattle.kernel_abstract.specs.Step.{step}
 use Rattle.setup_format.specs.Views.{CallView}
 use Rattle.command_why.specs.Tables.{call_table}
-use Rattle.command_why.specs.Why.{call_lines, calls_lines, explained}
+use Rattle.command_why.specs.Why.{why_call_lines, calls_lines, reason_lines_of}
 
 -- ---- the call at a place of a set-up
 
@@ -37,7 +37,7 @@ from_next l i x is = let n : suc i ≡ i + 1 = omega arith in from_place l i x i
 
 pub call_next : (p : ProfileName) (table : Members) (chosen : Option ℕ) (calls : List CallView) (i : ℕ) (call : CallView) (A : State) → slice_get calls i ≡ Some call →
     calls_lines p table chosen i A (drop i calls)
-    ≡ call_lines chosen (i + 1) call (step p A call.call).reply (explained p (shown A) (record { call = call.call; table = call_table table i }))
+    ≡ why_call_lines chosen (i + 1) call (step p A call.call).reply (reason_lines_of p (shown A) (record { call = call.call; table = call_table table i }))
     ++ calls_lines p table chosen (i + 1) (step p A call.call).state (drop (i + 1) calls)
 unfolding calls_lines
 call_next p table chosen calls i call A there = ap (calls_lines p table chosen i A) (from_next calls i call there)

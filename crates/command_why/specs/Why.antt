@@ -14,14 +14,14 @@ use Rattle.setup_format.specs.Views.{SetupView, CallView}
 use Rattle.setup_report.specs.Report.{terminated, call_text, met_count, expectation_count, count_line}
 pub use Rattle.command_check.specs.Program.{replies_to}
 use Rattle.kernel_abstract.specs.Decode.{reason_of}
-use Rattle.command_why_words.specs.Text.{told}
+use Rattle.command_why_words.specs.Text.{reason_line}
 use Rattle.command_why_words.specs.Asked.{AskedView}
 use Rattle.command_why_words.specs.Reasons.{reason_lines}
 use Rattle.command_why.specs.Tables.{call_table}
 
 -- the lines of the reason for which a call is refused, in what is shown before it; None where it is not refused
-abbrev pub explained : ProfileName → Shown → AskedView → Option (List ℕ)
-explained p v a = option_map (reason_lines p v a) (reason_of p v a.call)
+abbrev pub reason_lines_of : ProfileName → Shown → AskedView → Option (List ℕ)
+reason_lines_of p v a = option_map (reason_lines p v a) (reason_of p v a.call)
 
 -- the call that is chosen is told, by its number from 1 on; where none is chosen, each that is refused
 abbrev pub is_told : Option ℕ → ℕ → Option (List ℕ) → Bool
@@ -29,23 +29,23 @@ is_told None number why = is_some why
 is_told (Some chosen) number why = chosen == number
 
 abbrev pub why_lines : Option (List ℕ) → List ℕ
-why_lines None = told (codes "not refused")
+why_lines None = reason_line (codes "not refused")
 why_lines (Some lines) = lines
 
 -- the text of a call, and why it is refused, where it is told
-abbrev pub told_lines : Option ℕ → ℕ → List ℕ → Option (List ℕ) → List ℕ
-told_lines chosen number text why = if is_told chosen number why then terminated text ++ why_lines why else codes ""
+abbrev pub explained_lines : Option ℕ → ℕ → List ℕ → Option (List ℕ) → List ℕ
+explained_lines chosen number text why = if is_told chosen number why then terminated text ++ why_lines why else codes ""
 
 -- a call: the report's own line, and why it is refused
-abbrev pub call_lines : Option ℕ → ℕ → CallView → Reply → Option (List ℕ) → List ℕ
-call_lines chosen number call reply why = told_lines chosen number (call_text number call.call reply call.expect) why
+abbrev pub why_call_lines : Option ℕ → ℕ → CallView → Reply → Option (List ℕ) → List ℕ
+why_call_lines chosen number call reply why = explained_lines chosen number (call_text number call.call reply call.expect) why
 
 -- the calls of a set-up that its table spells, from the place `i` and from a state on
 unfoldable pub calls_lines : ProfileName → Members → Option ℕ → ℕ → State → List CallView → List ℕ
 calls_lines p table chosen i A [] = []
 calls_lines p table chosen i A (call ∷ calls) =
-    call_lines chosen (i + 1) call (step p A call.call).reply
-    (explained p (shown A) (record { call = call.call; table = call_table table i }))
+    why_call_lines chosen (i + 1) call (step p A call.call).reply
+    (reason_lines_of p (shown A) (record { call = call.call; table = call_table table i }))
     ++ calls_lines p table chosen (i + 1) (step p A call.call).state calls
 
 -- ---- how many calls are refused
@@ -59,15 +59,15 @@ abbrev pub refused_count : List Reply → ℕ
 refused_count replies = length (filter is_refused replies)
 
 -- the last lines, where no call is chosen: of how many calls how many are refused, and the report's last line
-abbrev pub ending : Option ℕ → ℕ → ℕ → ℕ → ℕ → List ℕ
-ending (Some chosen) calls refused met expected = codes ""
-ending None calls refused met expected =
+abbrev pub why_ending : Option ℕ → ℕ → ℕ → ℕ → ℕ → List ℕ
+why_ending (Some chosen) calls refused met expected = codes ""
+why_ending None calls refused met expected =
     terminated (codes "refused " ++ (decimal refused ++ (codes " of " ++ decimal calls)))
     ++ count_line met expected
 
 abbrev pub ending_of : Option ℕ → List CallView → List Reply → List ℕ
 ending_of chosen calls replies =
-    ending chosen (length calls) (refused_count replies) (met_count calls replies) (expectation_count calls replies)
+    why_ending chosen (length calls) (refused_count replies) (met_count calls replies) (expectation_count calls replies)
 
 -- all that is said of a set-up's calls, by the table that spells it
 unfoldable pub why_of : ProfileName → Members → Option ℕ → SetupView → List ℕ

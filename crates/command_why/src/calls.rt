@@ -55,7 +55,7 @@ fn add_call_lines(
     why: &Option<String>,
 ) -> Result<(), AllocError>
     ensures { OnOk result (string_bytes out.new ≡ string_bytes out.old
-        ++ spec.told_lines chosen number (call_text number call.now reply (option_copied expected.entry))
+        ++ spec.explained_lines chosen number (call_text number call.now reply (option_copied expected.entry))
         (option_map string_bytes why.now)) }
 {
     if is_told(chosen, number, why) {
@@ -81,8 +81,8 @@ fn make_call<P: Profile, S: DerivationStore<P> + Drop, W: Waiters<P> + Drop>(
     ensures steps { IfOk result (λ reply. (A : State) (call : CallView) → IsReached P.profile A → kernel.old ≡ shown A
         → slice_get setup.now.calls i ≡ Some call → StepsTo P.profile A call.call reply kernel.new) }
     ensures text { IfOk result (λ reply. (call : CallView) → slice_get setup.now.calls i ≡ Some call
-        → string_bytes out.new ≡ string_bytes out.old ++ spec.call_lines chosen (i + 1) call reply
-        (spec.explained P.profile kernel.old (record { call = call.call; table = call_table_of (table_view table.now) i }))) }
+        → string_bytes out.new ≡ string_bytes out.old ++ spec.why_call_lines chosen (i + 1) call reply
+        (spec.reason_lines_of P.profile kernel.old (record { call = call.call; table = call_table_of (table_view table.now) i }))) }
 {
     let call = setup.calls()[i];
     let asked = Asked {

@@ -2,7 +2,7 @@
 ghost use Rattle.std.specs.Prelude.{◌≡◌, ◌++◌, IfOk, OnOk, option_map, string_bytes};
 ghost use Rattle.command_why_words.specs.Asked.{asked_view};
 ghost use Rattle.command_why_words.specs.Reasons.{reason_lines};
-ghost use Rattle.command_why.specs.Why.{explained};
+ghost use Rattle.command_why.specs.Why.{reason_lines_of};
 
 use crate::threads::add_no_thread;
 use cap_core::Profile;
@@ -46,7 +46,7 @@ pub fn explain<P: Profile, S: DerivationStore<P> + Drop, W: Waiters<P> + Drop>(
     kernel: &Kernel<P, S, W>,
     asked: Asked<'_>,
 ) -> Result<Option<String>, AllocError>
-    ensures { IfOk result (λ lines. option_map string_bytes lines ≡ explained P.profile kernel.now (asked_view asked.entry)) }
+    ensures { IfOk result (λ lines. option_map string_bytes lines ≡ reason_lines_of P.profile kernel.now (asked_view asked.entry)) }
 {
     match kernel.reason(asked.call) {
         None => Ok(None),

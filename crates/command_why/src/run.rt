@@ -37,7 +37,7 @@ fn add_ending(
     count: ExpectationCount,
 ) -> Result<(), AllocError>
     ensures { OnOk result (string_bytes out.new ≡ string_bytes out.old
-        ++ spec.ending chosen (length replies.now) (spec.refused_count replies.now) count.met count.expected) }
+        ++ spec.why_ending chosen (length replies.now) (spec.refused_count replies.now) count.met count.expected) }
 {
     if chosen.is_some() {
         return Ok(());

@@ -20,7 +20,7 @@ fn calls_in(setup: &Table) -> Option<&Value>
 /// The table at a place of an array of calls.
 fn table_in(calls: &Value, i: usize) -> Option<&Table>
     ensures { option_map (λ t. table_view t.now) result
-        ≡ spec.table_in (array_in 0 max_calls (as_array (view calls.now))) i }
+        ≡ spec.table_of_call (array_in 0 max_calls (as_array (view calls.now))) i }
 {
     match array(calls, 0, MAX_CALLS) {
         Ok(calls) => match calls.get(i) {

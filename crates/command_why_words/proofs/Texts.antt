@@ -26,18 +26,18 @@ use Rattle.setup_report_laws.proofs.OneLine.{both_lines, number_line, number_and
 use Rattle.command_why_words.specs.Limits.{threads_told}
 use Rattle.command_why_words.specs.Keys.{key_words, word_of}
 use Rattle.command_why_words.specs.Names.{name_at}
-use Rattle.command_why_words.specs.Words.{key_of, depth_key}
-use Rattle.command_why_words.specs.Text.{name_text, key_text, content_text, slot_text, verb, an_op, kind_text, object_text, guard_of, radix_of, power_text, last_text}
-use Rattle.command_why_words.specs.Asked.{AskedView, key_said, word_said, depth_said, data_said, thread_name, led_said}
-use Rattle.command_why_words.specs.Facts.{right_text, badge_text, long_text, guard_text}
-use Rattle.command_why_words.specs.Lookups.{by_text, slots_text, way_text, guard_text as found_guard_text, miss_text, would_text, hint_text}
-use Rattle.command_why_words.specs.Reasons.{thread_text, more_text, does_text}
-use Rattle.command_why_words.specs.Retypes.{region_bits, used_text, number_text, room_text, objects_text}
+use Rattle.command_why_words.specs.Words.{word_key, depth_key}
+use Rattle.command_why_words.specs.Text.{name_text, key_value_text, content_text, slot_and_content, verb, an_op, kind_text, object_text, guard_of, radix_of, power_text, last_text}
+use Rattle.command_why_words.specs.Asked.{AskedView, key_said, word_said, depth_said, data_said, asked_thread_name, led_said}
+use Rattle.command_why_words.specs.Facts.{right_words, badge_text, long_text, guard_text}
+use Rattle.command_why_words.specs.Lookups.{by_text, held_slots_text, lookup_text, guard_lookup_text as found_guard_text, miss_text, would_text, hint_text}
+use Rattle.command_why_words.specs.Reasons.{asked_thread_text, more_text, does_text}
+use Rattle.command_why_words.specs.Retypes.{region_bits, used_text, number_text, room_text, retyped_text}
 use Rattle.command_why_words.specs.Laws.{AreOneLineNames}
 
 -- ---- keys, operations and kinds
 
-pub key_line : (word : Word) → IsOneLine (key_of word)
+pub key_line : (word : Word) → IsOneLine (word_key word)
 key_line Invoked = refl
 key_line word = refl
 
@@ -69,7 +69,7 @@ object_line : (k : Kind) → IsOneLine (object_text k)
 object_line kind.Untyped = refl
 object_line k = refl
 
-pub right_line : (right : Right) → IsOneLine (right_text right)
+pub right_line : (right : Right) → IsOneLine (right_words right)
 right_line Write = refl
 right_line Read = refl
 
@@ -121,24 +121,24 @@ content_line : (cap : Cap) → IsOneLine (content_text cap)
 content_line Null = refl
 content_line cap = capability_line cap
 
-slot_line : (held : Held) → IsOneLine (slot_text held)
-unfolding slot_text
+slot_line : (held : Held) → IsOneLine (slot_and_content held)
+unfolding slot_and_content
 slot_line held = number_and held.slot (codes ": " ++ content_text held.cap) (content_line held.cap)
 
-slots_line : (slots : List Held) → IsOneLine (slots_text slots)
+slots_line : (slots : List Held) → IsOneLine (held_slots_text slots)
 slots_line [] = refl
-slots_line (held ∷ slots) = number_and held.slot (slots_text slots) (slots_line slots)
+slots_line (held ∷ slots) = number_and held.slot (held_slots_text slots) (slots_line slots)
 
 by_line : (count : ℕ) → IsOneLine (by_text count)
 by_line zero = refl
 by_line (suc zero) = refl
 by_line (suc (suc count)) = refl
 
-pub way_line : (between : List Held) (last : Held) → IsOneLine (way_text between last)
-unfolding way_text
+pub way_line : (between : List Held) (last : Held) → IsOneLine (lookup_text between last)
+unfolding lookup_text
 way_line between last =
-    both_lines (by_text (length between)) (slots_text between ++ (codes " to " ++ slot_text last)) (by_line (length between))
-    (both_lines (slots_text between) (codes " to " ++ slot_text last) (slots_line between) (slot_line last))
+    both_lines (by_text (length between)) (held_slots_text between ++ (codes " to " ++ slot_and_content last)) (by_line (length between))
+    (both_lines (held_slots_text between) (codes " to " ++ slot_and_content last) (slots_line between) (slot_line last))
 
 -- ---- why a lookup ends, and what would lead to a slot
 
@@ -189,7 +189,7 @@ module _ (a : AskedView) (names : AreOneLineNames a) where
   name_line (Some text) h = h text refl
 
   said_line : (key : List ℕ) → IsOneLine key → IsOneLine (key_said a key)
-  unfolding key_said key_text
+  unfolding key_said key_value_text
   said_line key h =
       let word = word_of (key_words a.call.op) key in
       let name = name_text (name_at a.table key) in
@@ -201,20 +201,20 @@ module _ (a : AskedView) (names : AreOneLineNames a) where
 
   pub word_and : (word : Word) (rest : List ℕ) → IsOneLine rest → IsOneLine (word_said a word ++ rest)
   unfolding word_said
-  word_and word rest h = said_and (key_of word) rest (key_line word) h
+  word_and word rest h = said_and (word_key word) rest (key_line word) h
 
   pub depth_and : (word : Word) (rest : List ℕ) → IsOneLine rest → IsOneLine (depth_said a word ++ rest)
   unfolding depth_said
   depth_and word rest h = said_and (depth_key word) rest (depth_key_line word) h
 
-  pub thread_line : IsOneLine (codes "no live thread is at " ++ thread_text a)
-  unfolding thread_text thread_name
+  pub thread_line : IsOneLine (codes "no live thread is at " ++ asked_thread_text a)
+  unfolding asked_thread_text asked_thread_name
   thread_line =
       let name = name_text (name_at a.table (codes "thread")) in
       number_and a.call.thread name (name_line (name_at a.table (codes "thread")) (names (codes "thread")))
 
-  pub thread_and : (rest : List ℕ) → IsOneLine rest → IsOneLine (thread_text a ++ rest)
-  unfolding thread_text thread_name
+  pub thread_and : (rest : List ℕ) → IsOneLine rest → IsOneLine (asked_thread_text a ++ rest)
+  unfolding asked_thread_text asked_thread_name
   thread_and rest h =
       let name = name_text (name_at a.table (codes "thread")) in
       both_lines (decimal a.call.thread ++ name) rest (number_and a.call.thread name (name_line (name_at a.table (codes "thread")) (names (codes "thread")))) h
@@ -222,16 +222,16 @@ module _ (a : AskedView) (names : AreOneLineNames a) where
   pub led_line : (word : Word) (held : Held) → IsOneLine (led_said a word held)
   unfolding led_said
   led_line word held =
-      word_and word (codes " " ++ (verb word ++ (codes " " ++ slot_text held)))
-      (both_lines (verb word) (codes " " ++ slot_text held) (verb_line word) (slot_line held))
+      word_and word (codes " " ++ (verb word ++ (codes " " ++ slot_and_content held)))
+      (both_lines (verb word) (codes " " ++ slot_and_content held) (verb_line word) (slot_line held))
 
-  pub whole_start_line : (word : Word) (from : Held) → IsOneLine (word_said a word ++ (codes " is looked up from the thread's root " ++ slot_text from))
-  whole_start_line word from = word_and word (codes " is looked up from the thread's root " ++ slot_text from) (slot_line from)
+  pub whole_start_line : (word : Word) (from : Held) → IsOneLine (word_said a word ++ (codes " is looked up from the thread's root " ++ slot_and_content from))
+  whole_start_line word from = word_and word (codes " is looked up from the thread's root " ++ slot_and_content from) (slot_line from)
 
-  pub index_start_line : (word : Word) (from : Held) → IsOneLine (word_said a word ++ (codes " " ++ (depth_said a word ++ (codes " is looked up from " ++ slot_text from))))
+  pub index_start_line : (word : Word) (from : Held) → IsOneLine (word_said a word ++ (codes " " ++ (depth_said a word ++ (codes " is looked up from " ++ slot_and_content from))))
   index_start_line word from =
-      word_and word (codes " " ++ (depth_said a word ++ (codes " is looked up from " ++ slot_text from)))
-      (depth_and word (codes " is looked up from " ++ slot_text from) (slot_line from))
+      word_and word (codes " " ++ (depth_said a word ++ (codes " is looked up from " ++ slot_and_content from)))
+      (depth_and word (codes " is looked up from " ++ slot_and_content from) (slot_line from))
 
   pub guard_line : (size radix most : ℕ) → IsOneLine (guard_text a size radix most)
   unfolding guard_text long_text data_said
@@ -255,8 +255,8 @@ module _ (a : AskedView) (names : AreOneLineNames a) where
   number_text_line (NoCount most) = said_and (codes "count") (codes " is not from 1 to " ++ decimal most) refl (number_line most)
   number_text_line reason = refl
 
-  pub objects_line : (reason : Reason) → IsOneLine (objects_text a reason)
-  unfolding objects_text
+  pub objects_line : (reason : Reason) → IsOneLine (retyped_text a reason)
+  unfolding retyped_text
   objects_line (NoNode word found) = refl
   objects_line (NoOffset word node) =
       let said = key_said a (codes "offset") ++ codes " is past them" in

@@ -8,8 +8,8 @@ use Rattle.kernel_abstract.specs.declared.reason.Word.{Word}
 use Rattle.command_why_words.specs.declared.asked.Asked.{Asked}
 use Rattle.command_why_words.specs.Names.{name_at}
 use Rattle.command_why_words.specs.Keys.{key_words, word_of}
-use Rattle.command_why_words.specs.Words.{key_of, depth_key}
-use Rattle.command_why_words.specs.Text.{key_text, led_text}
+use Rattle.command_why_words.specs.Words.{word_key, depth_key}
+use Rattle.command_why_words.specs.Text.{key_value_text, led_text}
 
 -- a call, and the table that spells it
 pub record AskedView : Type 0 where
@@ -22,11 +22,11 @@ asked_view a = record { call = a.call.now; table = option_map (λ t. table_view 
 
 -- a key of the call with its word
 unfoldable pub key_said : AskedView → List ℕ → List ℕ
-key_said a key = key_text key (word_of (key_words a.call.op) key) (name_at a.table key)
+key_said a key = key_value_text key (word_of (key_words a.call.op) key) (name_at a.table key)
 
 -- the word that a check is about, the depth that belongs to an index, and the word that sets a capability's data
 unfoldable pub word_said : AskedView → Word → List ℕ
-word_said a word = key_said a (key_of word)
+word_said a word = key_said a (word_key word)
 
 unfoldable pub depth_said : AskedView → Word → List ℕ
 depth_said a word = key_said a (depth_key word)
@@ -35,8 +35,8 @@ unfoldable pub data_said : AskedView → List ℕ
 data_said a = key_said a (codes "word")
 
 -- the name by which the calling thread is spelt
-unfoldable pub thread_name : AskedView → Option (List ℕ)
-thread_name a = name_at a.table (codes "thread")
+unfoldable pub asked_thread_name : AskedView → Option (List ℕ)
+asked_thread_name a = name_at a.table (codes "thread")
 
 -- a word, and the slot that it leads to or names, with what is in it
 unfoldable pub led_said : AskedView → Word → Held → List ℕ

@@ -22,13 +22,13 @@ abbrev pub cap_word : ℕ → KeyWords
 cap_word cap = (codes "cap", cap) ∷ []
 
 -- the slot that a call fills, or is about
-abbrev pub slot_words : ℕ → ℕ → ℕ → KeyWords
-slot_words cap index depth = (codes "cap", cap) ∷ (codes "index", index) ∷ (codes "depth", depth) ∷ []
+abbrev pub slot_key_words : ℕ → ℕ → ℕ → KeyWords
+slot_key_words cap index depth = (codes "cap", cap) ∷ (codes "index", index) ∷ (codes "depth", depth) ∷ []
 
 -- and the slot that it takes from
 abbrev pub transfer_words : ℕ → ℕ → ℕ → ℕ → ℕ → ℕ → KeyWords
 transfer_words cap index depth src_root src_index src_depth =
-    slot_words cap index depth ++ (codes "src_root", src_root) ∷ (codes "src_index", src_index) ∷ (codes "src_depth", src_depth) ∷ []
+    slot_key_words cap index depth ++ (codes "src_root", src_root) ∷ (codes "src_index", src_index) ∷ (codes "src_depth", src_depth) ∷ []
 
 -- the words of an operation without the message that it sends, what a set-up leaves out filled in
 abbrev pub key_words : Op → KeyWords
@@ -44,9 +44,9 @@ key_words (CapMove cap index depth src_root src_index src_depth) =
     transfer_words cap index depth src_root src_index src_depth
 key_words (CapMutate cap index depth src_root src_index src_depth word) =
     transfer_words cap index depth src_root src_index src_depth ++ (codes "word", word) ∷ []
-key_words (CapDelete cap index depth) = slot_words cap index depth
-key_words (CapRevoke cap index depth) = slot_words cap index depth
-key_words (CancelBadged cap index depth) = slot_words cap index depth
+key_words (CapDelete cap index depth) = slot_key_words cap index depth
+key_words (CapRevoke cap index depth) = slot_key_words cap index depth
+key_words (CancelBadged cap index depth) = slot_key_words cap index depth
 key_words (Send cap message) = cap_word cap
 key_words (NbSend cap message) = cap_word cap
 key_words (Recv cap) = cap_word cap
@@ -56,10 +56,10 @@ key_words (Suspend cap) = cap_word cap
 key_words (Resume cap) = cap_word cap
 
 -- the message that an operation sends
-abbrev pub sent : Op → Option Message
-sent (Send cap message) = Some message
-sent (NbSend cap message) = Some message
-sent op = None
+abbrev pub sent_message : Op → Option Message
+sent_message (Send cap message) = Some message
+sent_message (NbSend cap message) = Some message
+sent_message op = None
 
 -- the word of a key; 0 where the operation has no such key
 abbrev pub word_of : KeyWords → List ℕ → ℕ

@@ -3,7 +3,7 @@ use Rattle.std.specs.Prelude.{◌≡◌, ◌≤◌, ℕ, List, All, length, Some
 use Rattle.std.specs.List.{flat_map}
 use Rattle.setup_report_laws.specs.Laws.{IsOneLine}
 use Rattle.command_why_words.specs.Names.{name_at}
-use Rattle.command_why_words.specs.Text.{told}
+use Rattle.command_why_words.specs.Text.{reason_line}
 use Rattle.command_why_words.specs.Asked.{AskedView}
 
 -- no name by which a call's table spells a value has a line feed
@@ -13,7 +13,7 @@ AreOneLineNames a = (key name : List ℕ) → name_at a.table key ≡ Some name 
 -- a text is so many lines below that of a call, each after two spaces and with one line feed, which ends it
 pub record HasLines (a : AskedView) (low high : ℕ) (text : List ℕ) : Type 0 where
   pub lines : List (List ℕ)
-  pub is : text ≡ flat_map told lines
+  pub is : text ≡ flat_map reason_line lines
   pub apart : AreOneLineNames a → All IsOneLine lines
   pub least : low ≤ length lines
   pub most : length lines ≤ high

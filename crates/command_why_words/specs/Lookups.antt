@@ -17,22 +17,22 @@ use Rattle.kernel_abstract.specs.declared.reason.Word.{Word}
 use Rattle.kernel_checks.specs.Hints.{word_hint, index_hint}
 use Rattle.kernel_checks.specs.Paths.{path}
 use Rattle.command_why_words.specs.Keys.{KeyWords, key_words}
-use Rattle.command_why_words.specs.Words.{key_of, value_of, depth_key, depth_of, is_whole, root_of}
-use Rattle.command_why_words.specs.Text.{told, slot_text, guard_of, radix_of}
+use Rattle.command_why_words.specs.Words.{word_key, value_of, depth_key, depth_of, is_whole, root_of}
+use Rattle.command_why_words.specs.Text.{reason_line, slot_and_content, guard_of, radix_of}
 use Rattle.command_why_words.specs.Asked.{AskedView, word_said, depth_said, led_said}
 
 -- ---- where it begins
 
 abbrev pub start_line : AskedView → Word → Held → List ℕ
 start_line a word from =
-    if is_whole word then told (word_said a word ++ (codes " is looked up from the thread's root " ++ slot_text from))
-    else told (word_said a word ++ (codes " " ++ (depth_said a word ++ (codes " is looked up from " ++ slot_text from))))
+    if is_whole word then reason_line (word_said a word ++ (codes " is looked up from the thread's root " ++ slot_and_content from))
+    else reason_line (word_said a word ++ (codes " " ++ (depth_said a word ++ (codes " is looked up from " ++ slot_and_content from))))
 
 -- it begins at no CNode: the thread has no space, or an index is looked up from another capability
 abbrev pub no_root_lines : AskedView → Word → Held → List ℕ
 no_root_lines a word from =
-    if is_whole word then start_line a word from ++ told (codes "the thread has no capability space")
-    else told (led_said a (root_of word) from) ++ told (key_of word ++ codes " is looked up from a CNode's capability")
+    if is_whole word then start_line a word from ++ reason_line (codes "the thread has no capability space")
+    else reason_line (led_said a (root_of word) from) ++ reason_line (word_key word ++ codes " is looked up from a CNode's capability")
 
 -- ---- the way: the slots between the first and the last, by their addresses, and the last
 
@@ -41,37 +41,37 @@ by_text zero = codes ""
 by_text (suc zero) = codes " by slot"
 by_text (suc (suc count)) = codes " by slots"
 
-abbrev pub slots_text : List Held → List ℕ
-slots_text slots = flat_map (λ (held : Held). codes " " ++ decimal held.slot) slots
+abbrev pub held_slots_text : List Held → List ℕ
+held_slots_text slots = flat_map (λ (held : Held). codes " " ++ decimal held.slot) slots
 
 -- to the last of some slots, by those before it
-unfoldable pub way_text : List Held → Held → List ℕ
-way_text between last =
-    codes "it comes" ++ (by_text (length between) ++ (slots_text between ++ (codes " to " ++ slot_text last)))
+unfoldable pub lookup_text : List Held → Held → List ℕ
+lookup_text between last =
+    codes "it comes" ++ (by_text (length between) ++ (held_slots_text between ++ (codes " to " ++ slot_and_content last)))
 
 abbrev pub way_to : List Held → Option Held → List ℕ
 way_to between None = codes ""
-way_to between (Some last) = told (way_text between last)
+way_to between (Some last) = reason_line (lookup_text between last)
 
 abbrev pub way_on : List Held → List ℕ
 way_on slots = way_to (take (length slots - 1) slots) (slice_get slots (length slots - 1))
 
 -- the slots behind the first
-abbrev pub way_line : List Held → List ℕ
-way_line [] = codes ""
-way_line (first ∷ rest) = way_on rest
+abbrev pub lookup_line : List Held → List ℕ
+lookup_line [] = codes ""
+lookup_line (first ∷ rest) = way_on rest
 
 -- ---- why it ends
 
-unfoldable pub guard_text : Guard → ℕ → ℕ → List ℕ
-guard_text guard left read =
+unfoldable pub guard_lookup_text : Guard → ℕ → ℕ → List ℕ
+guard_lookup_text guard left read =
     if nat_lt left guard.size then codes "its guard has size " ++ (decimal guard.size ++ (codes "; bits left: " ++ decimal left))
     else codes "its guard is " ++ (decimal guard.value ++ (codes " of size " ++ (decimal guard.size
     ++ (codes "; the next " ++ (decimal guard.size ++ (codes " of the " ++ (decimal left ++ (codes " bits left read " ++ decimal read))))))))
 
 abbrev pub miss_text : Miss → List ℕ
 miss_text NoRoot = codes ""
-miss_text (OtherGuard node left read) = guard_text (guard_of node.cap) left read
+miss_text (OtherGuard node left read) = guard_lookup_text (guard_of node.cap) left read
 miss_text (TooFewBits node left) =
     codes "its radix is " ++ (decimal (radix_of node.cap) ++ (codes "; bits left behind the guard: " ++ decimal left))
 miss_text (BitsLeft found left) = codes "no CNode is there; bits left over: " ++ decimal left
@@ -86,8 +86,8 @@ hint_text key number would slot = key ++ (codes " " ++ (decimal number ++ (would
 
 abbrev pub hint_line : Word → Option Hint → List ℕ
 hint_line word None = codes ""
-hint_line word (Some (Depth depth slot)) = told (hint_text (depth_key word) depth (codes " would name slot ") slot)
-hint_line word (Some (Number number slot)) = told (hint_text (key_of word) number (would_text word) slot)
+hint_line word (Some (Depth depth slot)) = reason_line (hint_text (depth_key word) depth (codes " would name slot ") slot)
+hint_line word (Some (Number number slot)) = reason_line (hint_text (word_key word) number (would_text word) slot)
 
 abbrev pub hint_of : ProfileName → Shown → KeyWords → Word → Held → Option Hint
 hint_of p v words word from =
@@ -100,14 +100,14 @@ hint_of p v words word from =
 abbrev pub levels : ProfileName → KeyWords → Word → ℕ
 levels p words word = if is_whole word then word_bits p else min (depth_of words word) (word_bits p)
 
-abbrev pub path_of : ProfileName → Shown → KeyWords → Word → Held → List Held
-path_of p v words word from = path p (cap_at v.derivations) from.slot (low_bits (levels p words word) (value_of words word))
+abbrev pub held_path : ProfileName → Shown → KeyWords → Word → Held → List Held
+held_path p v words word from = path p (cap_at v.derivations) from.slot (low_bits (levels p words word) (value_of words word))
 
 abbrev pub missed_lines : ProfileName → Shown → AskedView → Word → Held → Miss → List ℕ
 missed_lines p v a word from miss =
     start_line a word from
-    ++ (way_line (path_of p v (key_words a.call.op) word from)
-    ++ (told (miss_text miss)
+    ++ (lookup_line (held_path p v (key_words a.call.op) word from)
+    ++ (reason_line (miss_text miss)
     ++ hint_line word (hint_of p v (key_words a.call.op) word from)))
 
 -- the lines of a lookup that finds no slot
@@ -118,5 +118,5 @@ not_found_lines p v a word from miss = missed_lines p v a word from miss
 -- the lines of a depth that is out of range
 abbrev pub no_depth_lines : ProfileName → Shown → AskedView → Word → Held → ℕ → List ℕ
 no_depth_lines p v a word from most =
-    told (depth_said a word ++ (codes " is not from 1 to " ++ decimal most))
+    reason_line (depth_said a word ++ (codes " is not from 1 to " ++ decimal most))
     ++ hint_line word (hint_of p v (key_words a.call.op) word from)

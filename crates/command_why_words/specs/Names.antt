@@ -7,10 +7,10 @@ abbrev pub name_in : List ℕ → Option (List ℕ)
 name_in [] = None
 name_in (c ∷ name) = if c == 64 then Some name else None
 
-abbrev pub name_of : Data → Option (List ℕ)
-name_of d = option_and_then name_in (as_str d)
+abbrev pub spelt_name : Data → Option (List ℕ)
+spelt_name d = option_and_then name_in (as_str d)
 
 -- the name by which a call's table spells the value of a key, where it does
 abbrev pub name_at : Option Members → List ℕ → Option (List ℕ)
 name_at None key = None
-name_at (Some call) key = option_and_then name_of (get_member key call)
+name_at (Some call) key = option_and_then spelt_name (get_member key call)

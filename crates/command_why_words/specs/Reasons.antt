@@ -11,16 +11,16 @@ use Rattle.kernel_abstract.specs.declared.reason.Word.TheVariants.{Root, Index, 
 use Rattle.kernel_abstract.specs.declared.reason.Reason.{Reason}
 use Rattle.kernel_abstract.specs.declared.reason.Reason.TheVariants.{NoThread, NotReady, NotFound, NoDepth, NoCapability, OtherKind, NoRight, IsFull, IsEmpty, HasBadge, LongGuard, HasChildren, NotAllRights, NoSpace}
 use Rattle.command_why_words.specs.Limits.{threads_told}
-use Rattle.command_why_words.specs.Text.{told, name_text, radix_of}
-use Rattle.command_why_words.specs.Asked.{AskedView, thread_name}
+use Rattle.command_why_words.specs.Text.{reason_line, name_text, radix_of}
+use Rattle.command_why_words.specs.Asked.{AskedView, asked_thread_name}
 use Rattle.command_why_words.specs.Facts.{nothing_in, fact_lines, kind_lines, right_lines, badge_text, guard_text, children_lines}
 use Rattle.command_why_words.specs.Lookups.{not_found_lines, no_depth_lines}
 use Rattle.command_why_words.specs.Retypes.{retype_lines}
 
 -- ---- the calling thread
 
-unfoldable pub thread_text : AskedView → List ℕ
-thread_text a = decimal a.call.thread ++ name_text (thread_name a)
+unfoldable pub asked_thread_text : AskedView → List ℕ
+asked_thread_text a = decimal a.call.thread ++ name_text (asked_thread_name a)
 
 -- the live threads: the first of them, and how many there are besides
 abbrev pub more_text : ℕ → List ℕ
@@ -28,13 +28,13 @@ more_text count = if nat_lt threads_told count then codes " and " ++ (decimal (c
 
 -- which threads are live, the first few of them
 unfoldable pub live_line : List ℕ → List ℕ
-live_line [] = told (codes "no thread is live")
+live_line [] = reason_line (codes "no thread is live")
 live_line (first ∷ rest) =
-    told (codes "live threads:" ++ (numbers_text (take threads_told (first ∷ rest)) ++ more_text (length (first ∷ rest))))
+    reason_line (codes "live threads:" ++ (numbers_text (take threads_told (first ∷ rest)) ++ more_text (length (first ∷ rest))))
 
 -- no live thread is at the address that makes the call
 unfoldable pub no_thread_line : AskedView → List ℕ
-no_thread_line a = told (codes "no live thread is at " ++ thread_text a)
+no_thread_line a = reason_line (codes "no live thread is at " ++ asked_thread_text a)
 
 abbrev pub no_thread_lines : ProfileName → Shown → AskedView → List ℕ
 no_thread_lines p v a = no_thread_line a ++ live_line (threads p v)
@@ -48,8 +48,8 @@ does_text (Receiving endpoint) = codes "waits to receive on endpoint " ++ decima
 -- what the thread that makes the call does, if it is not ready
 abbrev pub not_ready_lines : AskedView → ThreadState → List ℕ
 not_ready_lines a state =
-    told (codes "thread " ++ (thread_text a ++ (codes " " ++ does_text state)))
-    ++ told (codes "a call is made by a thread that is ready")
+    reason_line (codes "thread " ++ (asked_thread_text a ++ (codes " " ++ does_text state)))
+    ++ reason_line (codes "a call is made by a thread that is ready")
 
 -- ---- each reason
 

@@ -16,31 +16,31 @@ use Rattle.kernel_abstract.specs.declared.reason.Word.{Word}
 use Rattle.command_why_words.specs.Words.{is_whole}
 
 -- a line below that of the call
-abbrev pub told : List ℕ → List ℕ
-told text = codes "  " ++ (text ++ codes "\n")
+abbrev pub reason_line : List ℕ → List ℕ
+reason_line text = codes "  " ++ (text ++ codes "\n")
 
 -- the name by which a value is spelt, where it has one
 abbrev pub name_text : Option (List ℕ) → List ℕ
 name_text None = codes ""
 name_text (Some name) = codes " @" ++ name
 
-unfoldable pub key_text : List ℕ → ℕ → Option (List ℕ) → List ℕ
-key_text key value name = key ++ (codes " " ++ (decimal value ++ name_text name))
+unfoldable pub key_value_text : List ℕ → ℕ → Option (List ℕ) → List ℕ
+key_value_text key value name = key ++ (codes " " ++ (decimal value ++ name_text name))
 
 -- a slot with what is in it
 abbrev pub content_text : Cap → List ℕ
 content_text Null = codes "empty"
 content_text cap = cap_text cap
 
-unfoldable pub slot_text : Held → List ℕ
-slot_text held = codes "slot " ++ (decimal held.slot ++ (codes ": " ++ content_text held.cap))
+unfoldable pub slot_and_content : Held → List ℕ
+slot_and_content held = codes "slot " ++ (decimal held.slot ++ (codes ": " ++ content_text held.cap))
 
 -- where a word leads to, or what an index names
 abbrev pub verb : Word → List ℕ
 verb word = if is_whole word then codes "leads to" else codes "names"
 
 abbrev pub led_text : List ℕ → Word → Held → List ℕ
-led_text said word held = said ++ (codes " " ++ (verb word ++ (codes " " ++ slot_text held)))
+led_text said word held = said ++ (codes " " ++ (verb word ++ (codes " " ++ slot_and_content held)))
 
 -- an operation with its article
 abbrev pub article : Op → List ℕ

@@ -4,15 +4,15 @@ use Rattle.kernel_abstract.specs.declared.reason.Word.{Word}
 use Rattle.kernel_abstract.specs.declared.reason.Word.TheVariants.{Invoked, Root, SourceRoot, Index, SourceIndex}
 use Rattle.command_why_words.specs.Keys.{KeyWords, word_of}
 
-abbrev pub key_of : Word → List ℕ
-key_of Invoked = codes "cap"
-key_of Root = codes "root"
-key_of SourceRoot = codes "src_root"
-key_of Index = codes "index"
-key_of SourceIndex = codes "src_index"
+abbrev pub word_key : Word → List ℕ
+word_key Invoked = codes "cap"
+word_key Root = codes "root"
+word_key SourceRoot = codes "src_root"
+word_key Index = codes "index"
+word_key SourceIndex = codes "src_index"
 
 abbrev pub value_of : KeyWords → Word → ℕ
-value_of words word = word_of words (key_of word)
+value_of words word = word_of words (word_key word)
 
 -- the depth that belongs to an index
 abbrev pub depth_key : Word → List ℕ

@@ -1,7 +1,7 @@
 //! A call as a set-up spells it.
 ghost use Rattle.std.specs.Prelude.{◌≡◌, option_copied};
-ghost use Rattle.command_why_words.specs.Text.{key_text};
-ghost use Rattle.command_why_words.specs.Asked.{asked_view, key_said, word_said, depth_said, data_said, thread_name};
+ghost use Rattle.command_why_words.specs.Text.{key_value_text};
+ghost use Rattle.command_why_words.specs.Asked.{asked_view, key_said, word_said, depth_said, data_said, asked_thread_name};
 
 use crate::keys::key_words;
 use crate::names::name_at;
@@ -20,7 +20,7 @@ pub struct Asked<'a> {
 /// A key of a call with its word, and the name by which that is spelt.
 #[tactic(auto, unfolding(crate::specs::Asked::key_said))]
 pub fn key_said<'a>(asked: Asked<'a>, key: &'static str) -> KeyText<'a>
-    ensures { key_text result.key.now result.value (option_copied result.name)
+    ensures { key_value_text result.key.now result.value (option_copied result.name)
         ≡ key_said (asked_view asked.entry) key.now }
 {
     let value = key_words(&asked.call.op).word_of(key);
@@ -31,7 +31,7 @@ pub fn key_said<'a>(asked: Asked<'a>, key: &'static str) -> KeyText<'a>
 /// The word that a check is about.
 #[tactic(auto, unfolding(crate::specs::Asked::word_said))]
 pub fn word_said<'a>(asked: Asked<'a>, word: Word) -> KeyText<'a>
-    ensures { key_text result.key.now result.value (option_copied result.name) ≡ word_said (asked_view asked.entry) word }
+    ensures { key_value_text result.key.now result.value (option_copied result.name) ≡ word_said (asked_view asked.entry) word }
 {
     key_said(asked, key_of(word))
 }
@@ -39,7 +39,7 @@ pub fn word_said<'a>(asked: Asked<'a>, word: Word) -> KeyText<'a>
 /// The depth that belongs to an index.
 #[tactic(auto, unfolding(crate::specs::Asked::depth_said))]
 pub fn depth_said<'a>(asked: Asked<'a>, word: Word) -> KeyText<'a>
-    ensures { key_text result.key.now result.value (option_copied result.name) ≡ depth_said (asked_view asked.entry) word }
+    ensures { key_value_text result.key.now result.value (option_copied result.name) ≡ depth_said (asked_view asked.entry) word }
 {
     key_said(asked, depth_key(word))
 }
@@ -47,15 +47,15 @@ pub fn depth_said<'a>(asked: Asked<'a>, word: Word) -> KeyText<'a>
 /// The word that sets a capability's data.
 #[tactic(auto, unfolding(crate::specs::Asked::data_said))]
 pub fn data_said<'a>(asked: Asked<'a>) -> KeyText<'a>
-    ensures { key_text result.key.now result.value (option_copied result.name) ≡ data_said (asked_view asked.entry) }
+    ensures { key_value_text result.key.now result.value (option_copied result.name) ≡ data_said (asked_view asked.entry) }
 {
     key_said(asked, "word")
 }
 
 /// The name by which the calling thread is spelt.
-#[tactic(auto, unfolding(crate::specs::Asked::thread_name))]
+#[tactic(auto, unfolding(crate::specs::Asked::asked_thread_name))]
 pub fn thread_name<'a>(asked: Asked<'a>) -> NameText<'a>
-    ensures { option_copied result.0 ≡ thread_name (asked_view asked.entry) }
+    ensures { option_copied result.0 ≡ asked_thread_name (asked_view asked.entry) }
 {
     NameText(name_at(asked.table, "thread"))
 }

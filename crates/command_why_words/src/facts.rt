@@ -1,7 +1,7 @@
 //! The lines of a reason: where a word of the call leads to, and what had to be so.
 ghost use Rattle.std.specs.Prelude.{◌≡◌, ◌++◌, OnOk, Some, string_bytes};
 ghost use Rattle.command_why_words.specs.Asked.{asked_view, led_said};
-ghost use Rattle.command_why_words.specs.Text.{told, radix_of as radix_of_cap};
+ghost use Rattle.command_why_words.specs.Text.{reason_line, radix_of as radix_of_cap};
 ghost use Rattle.command_why_words.specs.Facts as spec;
 
 use crate::asked::{Asked, data_said, word_said};
@@ -14,7 +14,7 @@ use std::fmt::{self, Write};
 /// Adds the line of the slot that a word leads to.
 #[tactic(auto, unfolding(crate::specs::Asked::led_said))]
 pub fn add_led(out: &mut String, asked: Asked<'_>, word: Word, held: Held) -> Result<(), AllocError>
-    ensures { OnOk result (string_bytes out.new ≡ string_bytes out.old ++ told (led_said (asked_view asked.entry) word held)) }
+    ensures { OnOk result (string_bytes out.new ≡ string_bytes out.old ++ reason_line (led_said (asked_view asked.entry) word held)) }
 {
     let said = word_said(asked, word);
     let verb = verb(word);
@@ -54,7 +54,7 @@ pub fn add_kind(
 }
 
 fn right_text(right: Right) -> &'static str
-    ensures { result.now ≡ spec.right_text right }
+    ensures { result.now ≡ spec.right_words right }
 {
     match right {
         Right::Write => "Write (w)",

@@ -50,7 +50,7 @@ impl KeyWords {
 
     /// The words that name the slot which a call fills, or is about.
     fn slot(cap: u64, index: u64, depth: u64) -> Self
-        ensures { result ≡ spec.slot_words cap index depth }
+        ensures { result ≡ spec.slot_key_words cap index depth }
     {
         KeyWords::cap(cap).with("index", index).with("depth", depth)
     }
@@ -144,7 +144,7 @@ pub fn key_words(op: &Op) -> KeyWords
 
 /// The message that an operation sends.
 pub fn sent(op: &Op) -> Option<Message>
-    ensures { result ≡ spec.sent op.now }
+    ensures { result ≡ spec.sent_message op.now }
 {
     match *op {
         Op::Send { message, .. } | Op::NbSend { message, .. } => Some(message),

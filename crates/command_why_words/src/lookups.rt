@@ -2,7 +2,7 @@
 ghost use Rattle.std.specs.Prelude.{◌≡◌, ◌≤◌, ◌-◌, ◌++◌, length, take, OnOk, Some, string_bytes};
 ghost use Rattle.cap_core.specs.Numbers.{word_bits};
 ghost use Rattle.command_why_words.specs.Asked.{asked_view};
-ghost use Rattle.command_why_words.specs.Text.{told};
+ghost use Rattle.command_why_words.specs.Text.{reason_line};
 ghost use Rattle.command_why_words.specs.Lookups as spec;
 
 use crate::asked::{Asked, depth_said, word_said};
@@ -61,7 +61,7 @@ fn by_text(count: usize) -> &'static str
 struct SlotsText<'a>(&'a [Held]);
 
 impl fmt::Display for SlotsText<'_> {
-    ghost output = { λ s. Some (spec.slots_text s.0.now) };
+    ghost output = { λ s. Some (spec.held_slots_text s.0.now) };
 
     fn fmt<W: fmt::Write>(&self, f: &mut fmt::Formatter<W>) -> fmt::Result {
         for held in self.0 {
@@ -74,7 +74,7 @@ impl fmt::Display for SlotsText<'_> {
 
 /// Adds the way of a lookup, where it comes to a slot.
 fn add_way(out: &mut String, path: &[Held]) -> Result<(), AllocError>
-    ensures { OnOk result (string_bytes out.new ≡ string_bytes out.old ++ spec.way_line path.now) }
+    ensures { OnOk result (string_bytes out.new ≡ string_bytes out.old ++ spec.lookup_line path.now) }
 {
     match path {
         [] => Ok(()),
@@ -90,9 +90,9 @@ struct WayText<'a> {
 }
 
 impl fmt::Display for WayText<'_> {
-    ghost output = { λ w. Some (spec.way_text w.between.now w.last) };
+    ghost output = { λ w. Some (spec.lookup_text w.between.now w.last) };
 
-    #[tactic(auto, unfolding(crate::specs::Lookups::way_text))]
+    #[tactic(auto, unfolding(crate::specs::Lookups::lookup_text))]
     fn fmt<W: fmt::Write>(&self, f: &mut fmt::Formatter<W>) -> fmt::Result {
         let by = by_text(self.between.len());
         let slots = SlotsText(self.between);
@@ -136,9 +136,9 @@ struct GuardText {
 }
 
 impl fmt::Display for GuardText {
-    ghost output = { λ g. Some (spec.guard_text g.guard g.left g.read) };
+    ghost output = { λ g. Some (spec.guard_lookup_text g.guard g.left g.read) };
 
-    #[tactic(auto, unfolding(crate::specs::Lookups::guard_text))]
+    #[tactic(auto, unfolding(crate::specs::Lookups::guard_lookup_text))]
     fn fmt<W: fmt::Write>(&self, f: &mut fmt::Formatter<W>) -> fmt::Result {
         let value = self.guard.value;
         let size = self.guard.size;
@@ -185,7 +185,7 @@ impl fmt::Display for MissText {
 }
 
 fn add_miss(out: &mut String, miss: Miss) -> Result<(), AllocError>
-    ensures { OnOk result (string_bytes out.new ≡ string_bytes out.old ++ told (spec.miss_text miss)) }
+    ensures { OnOk result (string_bytes out.new ≡ string_bytes out.old ++ reason_line (spec.miss_text miss)) }
 {
     let miss = MissText(miss);
     writeln!(out, "  {miss}")

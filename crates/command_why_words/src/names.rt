@@ -22,7 +22,7 @@ fn name_in(text: &str) -> Option<&str>
 
 /// The name by which a value is spelt, where it is a text that begins with `@`.
 fn name_of(value: &Value) -> Option<&str>
-    ensures { option_copied result ≡ spec.name_of (view value.now) }
+    ensures { option_copied result ≡ spec.spelt_name (view value.now) }
 {
     name_in(value.as_str()?)
 }

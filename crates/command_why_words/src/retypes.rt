@@ -1,7 +1,7 @@
 //! The lines of reasons that are about the objects of a retype.
 ghost use Rattle.std.specs.Prelude.{◌≡◌, ◌++◌, OnOk, Some, string_bytes};
 ghost use Rattle.command_why_words.specs.Asked.{asked_view};
-ghost use Rattle.command_why_words.specs.Text.{told};
+ghost use Rattle.command_why_words.specs.Text.{reason_line};
 ghost use Rattle.command_why_words.specs.Facts.{fact_lines};
 ghost use Rattle.command_why_words.specs.Retypes as spec;
 
@@ -85,9 +85,9 @@ struct ObjectsText<'a> {
 }
 
 impl fmt::Display for ObjectsText<'_> {
-    ghost output = { λ o. Some (spec.objects_text (asked_view o.asked) o.reason) };
+    ghost output = { λ o. Some (spec.retyped_text (asked_view o.asked) o.reason) };
 
-    #[tactic(auto, unfolding(crate::specs::Retypes::objects_text))]
+    #[tactic(auto, unfolding(crate::specs::Retypes::retyped_text))]
     fn fmt<W: fmt::Write>(&self, f: &mut fmt::Formatter<W>) -> fmt::Result {
         match self.reason {
             Reason::NoNode { .. } => write!(f, "a retype fills slots of a CNode"),
@@ -164,7 +164,7 @@ impl fmt::Display for UsedText {
 /// Adds what is said of the numbers of a retype.
 fn add_number(out: &mut String, asked: Asked<'_>, reason: Reason) -> Result<(), AllocError>
     ensures { OnOk result (string_bytes out.new ≡ string_bytes out.old
-        ++ told (spec.number_text (asked_view asked.entry) reason)) }
+        ++ reason_line (spec.number_text (asked_view asked.entry) reason)) }
 {
     let text = NumberText { asked, reason };
     writeln!(out, "  {text}")
@@ -173,7 +173,7 @@ fn add_number(out: &mut String, asked: Asked<'_>, reason: Reason) -> Result<(), 
 /// Adds what is said of the slots to fill, and of the room for the objects.
 fn add_objects(out: &mut String, asked: Asked<'_>, reason: Reason) -> Result<(), AllocError>
     ensures { OnOk result (string_bytes out.new ≡ string_bytes out.old
-        ++ told (spec.objects_text (asked_view asked.entry) reason)) }
+        ++ reason_line (spec.retyped_text (asked_view asked.entry) reason)) }
 {
     let text = ObjectsText { asked, reason };
     writeln!(out, "  {text}")
@@ -188,7 +188,7 @@ fn add_slots(
     reason: Reason,
 ) -> Result<(), AllocError>
     ensures { OnOk result (string_bytes out.new ≡ string_bytes out.old
-        ++ fact_lines (asked_view asked.entry) word node (spec.objects_text (asked_view asked.entry) reason)) }
+        ++ fact_lines (asked_view asked.entry) word node (spec.retyped_text (asked_view asked.entry) reason)) }
 {
     add_led(out, asked, word, node)?;
     add_objects(out, asked, reason)
@@ -203,7 +203,7 @@ fn add_room(
 ) -> Result<(), AllocError>
     ensures { OnOk result (string_bytes out.new ≡ string_bytes out.old
         ++ (fact_lines (asked_view asked.entry) Word.Invoked used.untyped (spec.used_text used.untyped used.has_children used.start)
-        ++ told (spec.objects_text (asked_view asked.entry) reason))) }
+        ++ reason_line (spec.retyped_text (asked_view asked.entry) reason))) }
 {
     add_led(out, asked, Word::Invoked, used.untyped)?;
     writeln!(out, "  {used}")?;

@@ -33,9 +33,9 @@ pub struct KeyText<'a> {
 }
 
 impl fmt::Display for KeyText<'_> {
-    ghost output = { λ k. Some (text.key_text k.key.now k.value (option_copied k.name)) };
+    ghost output = { λ k. Some (text.key_value_text k.key.now k.value (option_copied k.name)) };
 
-    #[tactic(auto, unfolding(crate::specs::Text::key_text))]
+    #[tactic(auto, unfolding(crate::specs::Text::key_value_text))]
     fn fmt<W: fmt::Write>(&self, f: &mut fmt::Formatter<W>) -> fmt::Result {
         let key = self.key;
         let value = self.value;
@@ -67,9 +67,9 @@ impl fmt::Display for ContentText {
 pub struct SlotText(pub Held);
 
 impl fmt::Display for SlotText {
-    ghost output = { λ s. Some (text.slot_text s.0) };
+    ghost output = { λ s. Some (text.slot_and_content s.0) };
 
-    #[tactic(auto, unfolding(crate::specs::Text::slot_text))]
+    #[tactic(auto, unfolding(crate::specs::Text::slot_and_content))]
     fn fmt<W: fmt::Write>(&self, f: &mut fmt::Formatter<W>) -> fmt::Result {
         let slot = self.0.slot;
         let content = ContentText(self.0.cap);

@@ -59,9 +59,9 @@ pub fn add_live(out: &mut String, threads: &[u64]) -> Result<(), AllocError>
 struct ThreadText<'a>(Asked<'a>);
 
 impl fmt::Display for ThreadText<'_> {
-    ghost output = { λ t. Some (spec.thread_text (asked_view t.0)) };
+    ghost output = { λ t. Some (spec.asked_thread_text (asked_view t.0)) };
 
-    #[tactic(auto, unfolding(crate::specs::Reasons::thread_text))]
+    #[tactic(auto, unfolding(crate::specs::Reasons::asked_thread_text))]
     fn fmt<W: fmt::Write>(&self, f: &mut fmt::Formatter<W>) -> fmt::Result {
         let thread = self.0.call.thread;
         let name = thread_name(self.0);

@@ -7,7 +7,7 @@ use kernel_core::Word;
 
 /// The key of a word that a check is about.
 pub fn key_of(word: Word) -> &'static str
-    ensures { result.now ≡ spec.key_of word }
+    ensures { result.now ≡ spec.word_key word }
 {
     match word {
         Word::Invoked => "cap",

@@ -7,7 +7,7 @@ use Rattle.kernel_abstract.specs.declared.call.Call.{Call}
 use Rattle.kernel_abstract.specs.declared.call.Reply.{Reply}
 use Rattle.kernel_abstract.specs.Shown.{Shown}
 use Rattle.kernel_shared.specs.declared.entry.Entry.{Entry}
-use Rattle.kernel_shared.specs.Laws.{Lawful, entry, count_of}
+use Rattle.kernel_shared.specs.Laws.{Lawful, client_entry, count_of}
 use Rattle.kernel_shared.proofs.Grows.{lawful_open, count_append}
 use Rattle.std.proofs.lemmas.Option.{slice_get_within, get_or_from_slice_get}
 use Rattle.std.proofs.lemmas.Bool.Decides.{nat_tests}
@@ -59,38 +59,38 @@ client_same p o id done parts amount seen stray log log' c s l = record {
   small = c.small;
 }
 
-pub found_front : (id done seen : ℕ) (log log' : List Entry) (call : Call) (reply : Reply) → StartsWith log' log → seen ≤ length log → slice_get log' seen ≡ Some (entry id done call reply)
-    → take (seen + 1) log' ≡ take seen log ++ entry id done call reply ∷ []
-found_front id done seen log log' call reply s le at = take_one log' seen (entry id done call reply) at ∙ ap (λ l. l ++ entry id done call reply ∷ []) (take_same log' log seen s le)
+pub found_front : (id done seen : ℕ) (log log' : List Entry) (call : Call) (reply : Reply) → StartsWith log' log → seen ≤ length log → slice_get log' seen ≡ Some (client_entry id done call reply)
+    → take (seen + 1) log' ≡ take seen log ++ client_entry id done call reply ∷ []
+found_front id done seen log log' call reply s le at = take_one log' seen (client_entry id done call reply) at ∙ ap (λ l. l ++ client_entry id done call reply ∷ []) (take_same log' log seen s le)
 
 one_stray : (stray : Option Stray) (log : List Entry) (l : Lost) → lost_of stray log ≡ Some l → strays stray ≡ 1
 one_stray None log l e = cc
 one_stray (Some s) log l e = refl
 
-pub count_one : (id done : ℕ) (call : Call) (reply : Reply) → count_of id (entry id done call reply ∷ []) ≡ 1
+pub count_one : (id done : ℕ) (call : Call) (reply : Reply) → count_of id (client_entry id done call reply ∷ []) ≡ 1
 count_one id done call reply = let t : (id == id) ≡ true = grind (arith, nat_tests) in rw t refl
 
 -- the call was found
 pub client_finds : (p : ProfileName) (o : Shown) (id done parts amount seen : ℕ) (stray : Option Stray) (log log' : List Entry) (call : Call) (reply : Reply) → IsClient p o id done parts amount seen stray log
-    → StartsWith log' log → ∥ Lawful p o log' ∥₁ → (l : Lost) → lost_of stray log ≡ Some l → slice_get log' seen ≡ Some (entry id done call reply) → IsClient p o id (done + 1) parts amount (seen + 1) None log'
+    → StartsWith log' log → ∥ Lawful p o log' ∥₁ → (l : Lost) → lost_of stray log ≡ Some l → slice_get log' seen ≡ Some (client_entry id done call reply) → IsClient p o id (done + 1) parts amount (seen + 1) None log'
 client_finds p o id done parts amount seen stray log log' call reply c s law l e at = record {
   one_part = c.one_part;
   counted = let a = c.counted in let b = one_stray stray log l e in omega arith;
-  within = let w = slice_get_within log' seen (entry id done call reply) at in omega arith;
+  within = let w = slice_get_within log' seen (client_entry id done call reply) at in omega arith;
   lawful = law;
   has_done =
       let f = ap (count_of id) (found_front id done seen log log' call reply s c.within at) in
-      let g = count_append id (take seen log) (entry id done call reply ∷ []) in
+      let g = count_append id (take seen log) (client_entry id done call reply ∷ []) in
       let k = count_one id done call reply in
       let h = c.has_done in omega arith;
   fits = tt;
   small = c.small;
 }
 
-pub found_state : (id done seen : ℕ) (stray : Option Stray) (log log' : List Entry) (call : Call) (reply : Reply) (old : ClientState) → client_state id done (take seen log) (lost_of stray log) ≡ old → StartsWith log' log → seen ≤ length log → slice_get log' seen ≡ Some (entry id done call reply)
-    → client_state id (done + 1) (take (seen + 1) log') None ≡ client_state old.id (old.done + 1) (old.front ++ entry old.id old.done call reply ∷ []) None
+pub found_state : (id done seen : ℕ) (stray : Option Stray) (log log' : List Entry) (call : Call) (reply : Reply) (old : ClientState) → client_state id done (take seen log) (lost_of stray log) ≡ old → StartsWith log' log → seen ≤ length log → slice_get log' seen ≡ Some (client_entry id done call reply)
+    → client_state id (done + 1) (take (seen + 1) log') None ≡ client_state old.id (old.done + 1) (old.front ++ client_entry old.id old.done call reply ∷ []) None
 found_state id done seen stray log log' call reply old e s le at =
-    subst (λ (u : ClientState). client_state id (done + 1) (take (seen + 1) log') None ≡ client_state u.id (u.done + 1) (u.front ++ entry u.id u.done call reply ∷ []) None) e
+    subst (λ (u : ClientState). client_state id (done + 1) (take (seen + 1) log') None ≡ client_state u.id (u.done + 1) (u.front ++ client_entry u.id u.done call reply ∷ []) None) e
     (ap (λ l. client_state id (done + 1) l None) (found_front id done seen log log' call reply s le at))
 
 pub same_state : (id done seen : ℕ) (stray : Option Stray) (log log' : List Entry) (now : ClientState) → client_state id done (take seen log) (lost_of stray log) ≡ now → StartsWith log' log → seen ≤ length log → stray_fits id done stray log

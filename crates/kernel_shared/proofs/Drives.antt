@@ -8,8 +8,8 @@ use Rattle.kernel_shared.specs.declared.driving.Stop.{Stop}
 use Rattle.kernel_shared.specs.declared.end.End.{End}
 use Rattle.kernel_shared.specs.declared.end.End.TheVariants as E
 use Rattle.kernel_shared.specs.Fronts.{StartsWith}
-use Rattle.kernel_shared.specs.ClientStates.{ClientState, Lost, lost, calls_made, lost_calls, newly_lost}
-use Rattle.kernel_shared.specs.Driving.{IsRun, IsThreadResult, IsDriven, IsFinish, Ended}
+use Rattle.kernel_shared.specs.ClientStates.{ClientState, Lost, lost, client_calls_made, lost_calls, newly_lost}
+use Rattle.kernel_shared.specs.Driving.{IsClientRun, IsThreadResult, IsDriven, IsFinish, Ended}
 use Rattle.kernel_shared.proofs.Keeping.{starts_trans}
 
 -- what was made before a call of the list
@@ -18,37 +18,37 @@ pub record IsMade (old : ClientState) (calls : List Call) (i : ℕ) (now : Clien
   pub done : now.done ≡ old.done + i
   pub stray : now.stray ≡ old.stray
   pub later : StartsWith now.front old.front
-  pub grown : calls_made now ≡ calls_made old ++ take i calls
+  pub grown : client_calls_made now ≡ client_calls_made old ++ take i calls
 
 some_call : (a b : Lost) → Some a ≡ Some b → a.call ≡ b.call
 some_call a b e = let d : a ≡ b = cc in ap (λ (l : Lost). l.call) d
 
 module _ (old now new : ClientState) (calls : List Call) (i : ℕ) (call : Call) where
   -- a call that was answered
-  pub made_more : IsMade old calls i now → i < length calls → call ≡ get_or calls i call → new.id ≡ now.id → new.done ≡ now.done + 1 → (now.stray ≡ None) × (new.stray ≡ None) → StartsWith new.front now.front → calls_made new ≡ calls_made now ++ call ∷ []
+  pub made_more : IsMade old calls i now → i < length calls → call ≡ get_or calls i call → new.id ≡ now.id → new.done ≡ now.done + 1 → (now.stray ≡ None) × (new.stray ≡ None) → StartsWith new.front now.front → client_calls_made new ≡ client_calls_made now ++ call ∷ []
       → IsMade old calls (i + 1) new
   made_more m lt at id done none later made = record {
     id = id ∙ m.id;
     done = let d = m.done in omega arith;
     stray = none.1 ∙ (sym none.0 ∙ m.stray);
     later = starts_trans new.front now.front old.front later m.later;
-    grown = made ∙ (ap (λ cs. cs ++ call ∷ []) m.grown ∙ (append_assoc (calls_made old) (take i calls) (call ∷ []) ∙ ap (λ cs. calls_made old ++ cs) (ap (λ c. take i calls ++ c ∷ []) at ∙ sym (take_more calls i call lt))));
+    grown = made ∙ (ap (λ cs. cs ++ call ∷ []) m.grown ∙ (append_assoc (client_calls_made old) (take i calls) (call ∷ []) ∙ ap (λ cs. client_calls_made old ++ cs) (ap (λ c. take i calls ++ c ∷ []) at ∙ sym (take_more calls i call lt))));
   }
 
-  grown_lost : IsMade old calls i now → i < length calls → call ≡ get_or calls i call → (f : Option Lost) → new.stray ≡ f → calls_made new ≡ calls_made now ++ lost_calls f → (f ≡ None) ⊎ (f ≡ Some (lost call new.front)) → calls_made new ≡ calls_made old ++ take (i + length (lost_calls f)) calls
-  grown_lost m lt at None is made or = made ∙ (append-nil (calls_made now) ∙ (m.grown ∙ ap (λ k. calls_made old ++ take k calls) (omega arith)))
+  grown_lost : IsMade old calls i now → i < length calls → call ≡ get_or calls i call → (f : Option Lost) → new.stray ≡ f → client_calls_made new ≡ client_calls_made now ++ lost_calls f → (f ≡ None) ⊎ (f ≡ Some (lost call new.front)) → client_calls_made new ≡ client_calls_made old ++ take (i + length (lost_calls f)) calls
+  grown_lost m lt at None is made or = made ∙ (append-nil (client_calls_made now) ∙ (m.grown ∙ ap (λ k. client_calls_made old ++ take k calls) (omega arith)))
   grown_lost m lt at (Some l) is made or =
       let c : l.call ≡ call = ⊎_elim (λ (e : Some l ≡ None). cc) (λ (e : Some l ≡ Some (lost call new.front)). some_call l (lost call new.front) e) or in
-      made ∙ (ap (λ cs. cs ++ l.call ∷ []) m.grown ∙ (append_assoc (calls_made old) (take i calls) (l.call ∷ []) ∙ ap (λ cs. calls_made old ++ cs) (ap (λ x. take i calls ++ x ∷ []) (c ∙ at) ∙ sym (take_more calls i call lt))))
+      made ∙ (ap (λ cs. cs ++ l.call ∷ []) m.grown ∙ (append_assoc (client_calls_made old) (take i calls) (l.call ∷ []) ∙ ap (λ cs. client_calls_made old ++ cs) (ap (λ x. take i calls ++ x ∷ []) (c ∙ at) ∙ sym (take_more calls i call lt))))
 
-  grown_at : IsMade old calls i now → i < length calls → call ≡ get_or calls i call → (s : Option Lost) → old.stray ≡ s → (now.stray ≡ None → calls_made new ≡ calls_made now ++ lost_calls new.stray) → (now.stray ≡ None → (new.stray ≡ None) ⊎ (new.stray ≡ Some (lost call new.front))) → ((l : Lost) → now.stray ≡ Some l → new ≡ now)
-      → calls_made new ≡ calls_made old ++ take (i + length (newly_lost s new.stray)) calls
+  grown_at : IsMade old calls i now → i < length calls → call ≡ get_or calls i call → (s : Option Lost) → old.stray ≡ s → (now.stray ≡ None → client_calls_made new ≡ client_calls_made now ++ lost_calls new.stray) → (now.stray ≡ None → (new.stray ≡ None) ⊎ (new.stray ≡ Some (lost call new.front))) → ((l : Lost) → now.stray ≡ Some l → new ≡ now)
+      → client_calls_made new ≡ client_calls_made old ++ take (i + length (newly_lost s new.stray)) calls
   grown_at m lt at None is unmade or stuck = grown_lost m lt at new.stray refl (unmade (m.stray ∙ is)) (or (m.stray ∙ is))
-  grown_at m lt at (Some l) is unmade or stuck = ap calls_made (stuck l (m.stray ∙ is)) ∙ (m.grown ∙ ap (λ k. calls_made old ++ take k calls) (omega arith))
+  grown_at m lt at (Some l) is unmade or stuck = ap client_calls_made (stuck l (m.stray ∙ is)) ∙ (m.grown ∙ ap (λ k. client_calls_made old ++ take k calls) (omega arith))
 
   -- a call that was not
   pub ran_to : (ends : ℕ → ℕ → Type 0) (limit : ℕ) (end : End) → IsMade old calls i now → i < length calls → call ≡ get_or calls i call → new.id ≡ now.id → new.done ≡ now.done → StartsWith new.front now.front → end ≢ E.Done → Ended ends limit new end
-      → (now.stray ≡ None → calls_made new ≡ calls_made now ++ lost_calls new.stray) → (now.stray ≡ None → (new.stray ≡ None) ⊎ (new.stray ≡ Some (lost call new.front))) → ((l : Lost) → now.stray ≡ Some l → new ≡ now)
+      → (now.stray ≡ None → client_calls_made new ≡ client_calls_made now ++ lost_calls new.stray) → (now.stray ≡ None → (new.stray ≡ None) ⊎ (new.stray ≡ Some (lost call new.front))) → ((l : Lost) → now.stray ≡ Some l → new ≡ now)
       → IsThreadResult ends limit old calls new i end
   ran_to ends limit end m lt at id done later stops told unmade or stuck = record {
     run = record {
@@ -68,7 +68,7 @@ ran_by ends limit old calls new new' made made' end end' p q r d =
 
 pub finished_run : {N T : Type 0} (ends : ℕ → ℕ → Type 0) (limit : ℕ) (old : ClientState) (calls : List Call) (mid new : ClientState) (made new_made : ℕ) (end : End) (stopped : Option (Stop N T)) → IsThreadResult ends limit old calls mid made end → IsFinish ends limit mid made end new new_made stopped → IsDriven ends limit old calls new new_made stopped
 finished_run ends limit old calls mid new made new_made end stopped r f = record {
-  run = subst (λ (t : ClientState). IsRun old calls t new_made) (sym f.client_is) (subst (λ (n : ℕ). IsRun old calls mid n) (sym f.made_is) r.run);
+  run = subst (λ (t : ClientState). IsClientRun old calls t new_made) (sym f.client_is) (subst (λ (n : ℕ). IsClientRun old calls mid n) (sym f.made_is) r.run);
   ended = ((λ e. f.made_is ∙ r.ended.0 (f.ended.1 e)), (λ e. f.ended.0 (r.ended.1 (sym f.made_is ∙ e))));
   told = f.told r.told;
 }

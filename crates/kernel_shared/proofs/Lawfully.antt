@@ -11,7 +11,7 @@ use Rattle.kernel_abstract.specs.Shown.{Shown}
 use Rattle.kernel_abstract.specs.Step.{step, state_after, replies_of}
 use Rattle.kernel_abstract.proofs.Reached.Runs.{replies_of-nil, replies_of-cons, replies_of-append}
 use Rattle.kernel_shared.specs.declared.entry.Entry.{Entry}
-use Rattle.kernel_shared.specs.Laws.{Lawful, calls_of, replies_in}
+use Rattle.kernel_shared.specs.Laws.{Lawful, entry_calls, replies_in}
 use Rattle.kernel_shared.proofs.Numbered.{numbered_parts}
 
 replies_length : (p : ProfileName) (A : State) (cs : List Call) → length (replies_of p A cs) ≡ length cs
@@ -26,10 +26,10 @@ cut xs ys us vs l e = sym (take-append_seam xs ys) ∙ (ap (take (length xs)) e 
 pub lawful_part : (p : ProfileName) (o : Shown) (xs ys : List Entry) → Lawful p o (xs ++ ys) → Lawful p o xs
 lawful_part p o xs ys l = record {
   answered = λ A r e.
-      let calls : calls_of (xs ++ ys) ≡ calls_of xs ++ calls_of ys = map-append (λ (x : Entry). x.call) xs ys in
-      let whole : replies_in xs ++ replies_in ys ≡ replies_of p A (calls_of xs) ++ replies_of p (state_after p A (calls_of xs)) (calls_of ys) = sym (map-append (λ (x : Entry). x.reply) xs ys) ∙ (l.answered A r e ∙ (ap (replies_of p A) calls ∙ replies_of-append p A (calls_of xs) (calls_of ys))) in
-      cut (replies_in xs) (replies_in ys) (replies_of p A (calls_of xs)) (replies_of p (state_after p A (calls_of xs)) (calls_of ys))
-      (length-map xs (λ (x : Entry). x.reply) ∙ (sym (length-map xs (λ (x : Entry). x.call)) ∙ sym (replies_length p A (calls_of xs)))) whole;
+      let calls : entry_calls (xs ++ ys) ≡ entry_calls xs ++ entry_calls ys = map-append (λ (x : Entry). x.call) xs ys in
+      let whole : replies_in xs ++ replies_in ys ≡ replies_of p A (entry_calls xs) ++ replies_of p (state_after p A (entry_calls xs)) (entry_calls ys) = sym (map-append (λ (x : Entry). x.reply) xs ys) ∙ (l.answered A r e ∙ (ap (replies_of p A) calls ∙ replies_of-append p A (entry_calls xs) (entry_calls ys))) in
+      cut (replies_in xs) (replies_in ys) (replies_of p A (entry_calls xs)) (replies_of p (state_after p A (entry_calls xs)) (entry_calls ys))
+      (length-map xs (λ (x : Entry). x.reply) ∙ (sym (length-map xs (λ (x : Entry). x.call)) ∙ sym (replies_length p A (entry_calls xs)))) whole;
   numbered = (numbered_parts [] xs ys l.numbered).0;
 }
 

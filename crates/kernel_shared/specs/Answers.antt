@@ -8,7 +8,7 @@ use Rattle.kernel_abstract.specs.Step.{state_after}
 use Rattle.kernel_abstract.specs.Waiting.{thread_waiting}
 use Rattle.kernel_abstract.specs.Reached.{IsReached}
 use Rattle.kernel_shared.specs.declared.entry.Entry.{Entry}
-use Rattle.kernel_shared.specs.Laws.{calls_of}
+use Rattle.kernel_shared.specs.Laws.{entry_calls}
 use Rattle.kernel_shared.specs.declared.query.Query.{Query}
 use Rattle.kernel_shared.specs.declared.query.Query.TheVariants as q
 use Rattle.kernel_shared.specs.declared.query.Answer.{Answer}
@@ -28,4 +28,4 @@ abbrev pub IsAnswer : ProfileName → Shown → List Entry → Query → Answer 
 IsAnswer p opening front q.Length (a.Length entries) = entries ≡ length front
 IsAnswer p opening front (q.Entry place) (a.Entry entry) = entry ≡ slice_get front place
 IsAnswer p opening front query answer =
-    (A : State) → IsReached p A → opening ≡ shown A → IsRead (shown (state_after p A (calls_of front))) query answer
+    (A : State) → IsReached p A → opening ≡ shown A → IsRead (shown (state_after p A (entry_calls front))) query answer

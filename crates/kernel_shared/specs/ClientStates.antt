@@ -5,7 +5,7 @@ use Rattle.kernel_abstract.specs.declared.call.Call.{Call}
 use Rattle.kernel_abstract.specs.declared.call.Reply.{Reply}
 use Rattle.kernel_abstract.specs.Shown.{Shown}
 use Rattle.kernel_shared.specs.declared.entry.Entry.{Entry}
-use Rattle.kernel_shared.specs.Laws.{Lawful, entry, calls_of, count_of}
+use Rattle.kernel_shared.specs.Laws.{Lawful, client_entry, entry_calls, count_of}
 use Rattle.kernel_shared.specs.declared.client.Stray.{Stray}
 use Rattle.kernel_shared.specs.Fronts.{StartsWith}
 
@@ -30,8 +30,8 @@ abbrev pub client_state : ℕ → ℕ → List Entry → Option Lost → ClientS
 client_state id done front stray = record { id = id; done = done; front = front; stray = stray }
 
 -- a client's entry with a number below this one
-abbrev pub is_below : ℕ → ℕ → Entry → Bool
-is_below id number e = e.client == id && nat_lt e.number number
+abbrev pub is_earlier_entry : ℕ → ℕ → Entry → Bool
+is_earlier_entry id number e = e.client == id && nat_lt e.number number
 
 -- a client's entry with this number
 abbrev pub is_numbered_as : ℕ → ℕ → Entry → Bool
@@ -43,8 +43,8 @@ lost_calls None = []
 lost_calls (Some l) = l.call ∷ []
 
 -- the calls that the client made: those of its entries that were answered, in order, and then the one that was lost
-abbrev pub calls_made : ClientState → List Call
-calls_made t = calls_of (filter (is_below t.id t.done) t.front) ++ lost_calls t.stray
+abbrev pub client_calls_made : ClientState → List Call
+client_calls_made t = entry_calls (filter (is_earlier_entry t.id t.done) t.front) ++ lost_calls t.stray
 
 -- how many it made: its share of the ledger
 abbrev pub made : ClientState → ℕ
@@ -90,7 +90,7 @@ pub record IsAnswered (old : ClientState) (call : Call) (reply : Reply) (new : C
   pub later : StartsWith new.front old.front
   pub place : ℕ
   pub past : length old.front ≤ place
-  pub stands : slice_get new.front place ≡ Some (entry old.id old.done call reply)
+  pub stands : slice_get new.front place ≡ Some (client_entry old.id old.done call reply)
   pub once : count_by (is_numbered_as old.id old.done) new.front ≡ 1
   pub just : count_of old.id new.front ≡ new.done
   pub counted : new.done ≡ old.done + 1

@@ -7,7 +7,7 @@ use Rattle.kernel_shared.specs.declared.end.End.TheVariants as E
 use Rattle.kernel_shared.specs.declared.driving.Stop.{Stop}
 use Rattle.kernel_shared.specs.declared.driving.Stop.TheVariants.{Gate, Fault}
 use Rattle.kernel_shared.specs.Fronts.{StartsWith}
-use Rattle.kernel_shared.specs.ClientStates.{ClientState, Lost, calls_made, newly_lost, holds_not}
+use Rattle.kernel_shared.specs.ClientStates.{ClientState, Lost, client_calls_made, newly_lost, holds_not}
 use Rattle.kernel_shared.specs.Faults.{Told}
 
 -- what holds at each place of three lists
@@ -27,16 +27,16 @@ Ended ends limit t E.NoEntry = t.stray ≡ None
 
 -- A client made calls from the list, in order, until one was not answered: so many were answered, and after them one was
 -- lost where the client lost one.
-pub record IsRun (old : ClientState) (calls : List Call) (new : ClientState) (made : ℕ) : Type 0 where
+pub record IsClientRun (old : ClientState) (calls : List Call) (new : ClientState) (made : ℕ) : Type 0 where
   pub id : new.id ≡ old.id
   pub done : new.done ≡ old.done + made
   pub within : made ≤ length calls
   pub later : StartsWith new.front old.front
-  pub grown : calls_made new ≡ calls_made old ++ take (made + length (newly_lost old.stray new.stray)) calls
+  pub grown : client_calls_made new ≡ client_calls_made old ++ take (made + length (newly_lost old.stray new.stray)) calls
 
 -- it came to the end of its list exactly where nothing stopped it
 pub record IsThreadResult (ends : ℕ → ℕ → Type 0) (limit : ℕ) (old : ClientState) (calls : List Call) (new : ClientState) (made : ℕ) (end : End) : Type 0 where
-  pub run : IsRun old calls new made
+  pub run : IsClientRun old calls new made
   pub ended : (end ≡ E.Done) ↔ (made ≡ length calls)
   pub told : Ended ends limit new end
 
@@ -48,7 +48,7 @@ module _ {N T : Type 0} where
 
   -- a client that was driven: its run, and what stopped it, where something did
   pub record IsDriven (ends : ℕ → ℕ → Type 0) (limit : ℕ) (old : ClientState) (calls : List Call) (new : ClientState) (made : ℕ) (stopped : Option (Stop N T)) : Type 0 where
-    pub run : IsRun old calls new made
+    pub run : IsClientRun old calls new made
     pub ended : (stopped ≡ None) ↔ (made ≡ length calls)
     pub told : Stopped ends limit new stopped
 

@@ -4,7 +4,7 @@ ghost use Rattle.cap_core.specs.declared.limits.TheConstants.{MAX_CLIENTS};
 ghost use Rattle.kernel_abstract.specs.State.{State, shown};
 ghost use Rattle.kernel_abstract.specs.Step.{step};
 ghost use Rattle.kernel_abstract.specs.Reached.{IsReached};
-ghost use Rattle.kernel_shared.specs.Laws.{Lawful, StandsAfter, AreCounts, entry, count_of};
+ghost use Rattle.kernel_shared.specs.Laws.{Lawful, StandsAfter, AreCounts, client_entry, count_of};
 
 use crate::entry::Entry;
 use crate::naming::Naming;
@@ -126,7 +126,7 @@ impl<N: Naming, P: Profile, S: CapStore<P> + Drop, W: Waiters<P> + Drop> Book<N,
     pub fn take(&mut self, client: u32, number: u32, call: Call) -> Result<Reply, BookFault>
         ensures full { (result ≡ Err BookFault.Full) ↔ (length self.old.history.items ≡ N.limit) }
         ensures name_taken { (result ≡ Err BookFault.NameTaken) ↔ ((length self.old.history.items ≢ N.limit) × (number ≢ count_of client self.old.history.items)) }
-        ensures ok { IfOk result (λ r. self.new.history.items ≡ self.old.history.items ++ entry client number call r ∷ []) }
+        ensures ok { IfOk result (λ r. self.new.history.items ≡ self.old.history.items ++ client_entry client number call r ∷ []) }
         ensures reply { IfOk result (λ r. (A : State) → IsReached P.profile A → self.old.kernel ≡ shown A → r ≡ (step P.profile A call).reply) }
         ensures err { OnErr result ((self.new.history.items ≡ self.old.history.items) × (self.new.kernel ≡ self.old.kernel)) }
     {

@@ -1,6 +1,6 @@
 //! A client: its calls are numbered, and it looks without waiting.
 ghost use Rattle.std.specs.Prelude.{◌≡◌, ◌+◌, ◌≤◌, ◌<◌, ◌↔◌, ◌++◌, ◌∷◌, [], length, Some, None, slice_get, IfSome, IfNone, OnOk, IfErr, OnErr, IsTrue, ◌^◌, take};
-ghost use Rattle.kernel_shared.specs.Laws.{Lawful, count_of, entry};
+ghost use Rattle.kernel_shared.specs.Laws.{Lawful, count_of, client_entry};
 ghost use Rattle.kernel_shared.specs.Fronts.{StartsWith};
 ghost use Rattle.kernel_shared.specs.Answers.{IsAnswer};
 ghost use Rattle.kernel_shared.specs.ClientStates.{lost, made, client_state};
@@ -240,7 +240,7 @@ impl<N: Naming, T: HistoryCopy<N>> Client<N, T> {
     /// seen that entry too. `None` where the reader gave no entry, or that entry is another.
     pub fn confirm(&mut self, call: Call) -> Option<Reply>
         requires { self.old.stray ≡ Some (lost call self.old.front) }
-        ensures some { IfSome result (λ r. self.new ≡ client_state self.old.id (self.old.done + 1) (self.old.front ++ entry self.old.id self.old.done call r ∷ []) None) }
+        ensures some { IfSome result (λ r. self.new ≡ client_state self.old.id (self.old.done + 1) (self.old.front ++ client_entry self.old.id self.old.done call r ∷ []) None) }
         ensures none { IfNone result (self.new ≡ self.old) }
     {
         let Some(reader) = self.reader.take() else {
@@ -305,7 +305,7 @@ impl<N: Naming, T: HistoryCopy<N>> Client<N, T> {
 
 /// The reply of the entry at a place, where that is a request's.
 fn found<N: Naming, T: HistoryCopy<N>>(book: &T, place: u32, request: Request) -> Option<Reply>
-    ensures stands { IfSome result (λ r. slice_get (T.state book.now) place ≡ Some (entry request.client request.number request.call r)) }
+    ensures stands { IfSome result (λ r. slice_get (T.state book.now) place ≡ Some (client_entry request.client request.number request.call r)) }
     ensures fits { IfSome result (λ _. place + 1 < 2 ^ 32) }
 {
     if place >= book.length() {

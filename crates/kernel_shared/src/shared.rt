@@ -4,7 +4,7 @@ ghost use Rattle.kernel_shared.specs.Laws.{count_of};
 ghost use Rattle.kernel_shared.specs.declared.fault.SharedFault.TheVariants as Fault;
 ghost use Rattle.kernel_shared.specs.Fronts.{StartsWith};
 ghost use Rattle.kernel_shared.specs.Faults.{Told};
-ghost use Rattle.kernel_shared.specs.ClientStates.{Lost, IsAnswered, calls_made, lost, lost_calls};
+ghost use Rattle.kernel_shared.specs.ClientStates.{Lost, IsAnswered, client_calls_made, lost, lost_calls};
 
 use crate::Naming;
 use crate::client::Client;
@@ -71,12 +71,12 @@ impl<N: Naming, T: HistoryCopy<N>> Shared<N, T> {
         call: Call,
     ) -> Result<Reply, SharedFault<N, T>>
         ensures answered { IfOk result (λ r. IsAnswered client.old call r client.new) }
-        ensures made { OnOk result (calls_made client.new ≡ calls_made client.old ++ call ∷ []) }
+        ensures made { OnOk result (client_calls_made client.new ≡ client_calls_made client.old ++ call ∷ []) }
         ensures later { StartsWith client.new.front client.old.front }
         ensures id { client.new.id ≡ client.old.id }
         ensures unanswered { OnErr result (client.new.done ≡ client.old.done) }
         ensures told { IfErr result (Told N.limit client.new) }
-        ensures unmade { OnErr result (client.old.stray ≡ None → calls_made client.new ≡ calls_made client.old ++ lost_calls client.new.stray) }
+        ensures unmade { OnErr result (client.old.stray ≡ None → client_calls_made client.new ≡ client_calls_made client.old ++ lost_calls client.new.stray) }
         ensures lost { OnErr result (client.old.stray ≡ None → (client.new.stray ≡ None) ⊎ (client.new.stray ≡ Some (lost call client.new.front))) }
         ensures stuck { (s : Lost) → client.old.stray ≡ Some s → (result ≡ Err (Fault.Stray s.front)) × (client.new ≡ client.old) }
     {

@@ -26,19 +26,19 @@ abbrev pub verdict_text : Verdict → Option (List ℕ)
 verdict_text Absent = Some (codes "command line refused")
 verdict_text verdict = None
 
-abbrev pub answer_text : Result Found RunFault → Option (List ℕ)
-answer_text (Ok found) = verdict_text found.verdict
-answer_text (Err fault) = Some (run_fault_text fault)
+abbrev pub fault_answer_text : Result Found RunFault → Option (List ℕ)
+fault_answer_text (Ok found) = verdict_text found.verdict
+fault_answer_text (Err fault) = Some (run_fault_text fault)
 
 -- what is said of a fault that ends the check of several files
-abbrev pub files_text : Result Tally RunFault → Option (List ℕ)
-files_text (Ok tally) = None
-files_text (Err fault) = Some (run_fault_text fault)
+abbrev pub files_fault_text : Result Tally RunFault → Option (List ℕ)
+files_fault_text (Ok tally) = None
+files_fault_text (Err fault) = Some (run_fault_text fault)
 
 -- what is said first on standard error; of several files, after what is said of each
 abbrev pub end_text : {S F E : Type 0} → Ended S F E → Option (List ℕ)
-end_text (Did done) = answer_text done.answer
-end_text (Checked checked) = files_text checked.answer
+end_text (Did done) = fault_answer_text done.answer
+end_text (Checked checked) = files_fault_text checked.answer
 end_text (Helped (Ok done)) = None
 end_text (Helped (Err fault)) = Some (run_fault_text fault)
 end_text Refused = Some (codes "command line refused")

@@ -4,7 +4,7 @@ use Rattle.std.specs.List.{Contains, flat_map, AllByRecursion as Each}
 use Rattle.std.proofs.lemmas.List.Concat.{flat_map-cons}
 use Rattle.std.proofs.lemmas.List.Elements.{Contains-append_left, Contains-append_right, Contains-append_cases, Contains-push, Contains-push_cases, All-contains, All-from_recursion}
 use Rattle.std.proofs.lemmas.Bool.Decides.{nat_tests, eqb_tells}
-use Rattle.query_orders.specs.Orders.{below}
+use Rattle.query_orders.specs.Orders.{numbers_below}
 
 pub contains-nil : {X : Type 0} (x : X) → Contains [] x → ⊥
 contains-nil x h = let lt : h.0 < 0 = h.1 in omega (arith, lt)
@@ -47,11 +47,11 @@ contains-flat_map {X} {Y} f (z ∷ xs) x y h k =
       | inr more ↦ Contains-append_right (f z) (flat_map f xs) y (contains-flat_map f xs x y more k)
     ])
 
-pub contains-below : (n k : ℕ) → k < n → Contains (below n) k
+pub contains-below : (n k : ℕ) → k < n → Contains (numbers_below n) k
 contains-below zero k lt = absurd (omega (arith, lt))
-contains-below (suc n) k lt = elim (eqb_tells k n) as (λ _. Contains (below n ++ n ∷ []) k) [
-  | inl same ↦ subst (λ m. Contains (below n ++ n ∷ []) m) (sym same.1) (Contains-push (below n) n)
-  | inr other ↦ (let ne = other.0 in let less : k < n = grind (arith, nat_tests) in Contains-append_left (below n) (n ∷ []) k (contains-below n k less))
+contains-below (suc n) k lt = elim (eqb_tells k n) as (λ _. Contains (numbers_below n ++ n ∷ []) k) [
+  | inl same ↦ subst (λ m. Contains (numbers_below n ++ n ∷ []) m) (sym same.1) (Contains-push (numbers_below n) n)
+  | inr other ↦ (let ne = other.0 in let less : k < n = grind (arith, nat_tests) in Contains-append_left (numbers_below n) (n ∷ []) k (contains-below n k less))
 ]
 
 -- ---- facts of each element

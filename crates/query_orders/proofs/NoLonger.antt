@@ -8,27 +8,27 @@ use Rattle.std.proofs.lemmas.Bool.Decides.{eqb_tells}
 use Rattle.cap_core.specs.declared.profile.ProfileName.{ProfileName}
 use Rattle.kernel_abstract.specs.declared.call.Call.{Call}
 use Rattle.kernel_abstract.specs.State.{State, shown}
-use Rattle.query_orders.specs.World.{World, start, call_at, next_call, one_more, place_of, can_be_made, may_call, with_call, after_call, world_after}
-use Rattle.query_orders.specs.Orders.{below, clients, longer, orders}
+use Rattle.query_orders.specs.World.{World, start, call_of_client_at, next_client_call, one_more, next_place, can_be_made, may_call, with_call, after_call, world_after}
+use Rattle.query_orders.specs.Orders.{numbers_below, clients, longer, orders}
 use Rattle.query_orders.proofs.Contained.{each-flat_map, each-filter_map}
 
 -- ---- sums over the clients
 
-same-below : (f g : ℕ → ℕ) (n : ℕ) → ((j : ℕ) → j < n → f j ≡ g j) → sum_by f (below n) ≡ sum_by g (below n)
+same-below : (f g : ℕ → ℕ) (n : ℕ) → ((j : ℕ) → j < n → f j ≡ g j) → sum_by f (numbers_below n) ≡ sum_by g (numbers_below n)
 same-below f g zero h = refl
 same-below f g (suc n) h =
-    let a = sum_by_push f (below n) n in
-    let b = sum_by_push g (below n) n in
+    let a = sum_by_push f (numbers_below n) n in
+    let b = sum_by_push g (numbers_below n) n in
     let r = same-below f g n (λ j lt. h j (omega (arith, lt))) in
     let e = h n (omega arith) in
     omega (arith, a, b, r, e)
 
-one-less : (f g : ℕ → ℕ) (c n : ℕ) → c < n → f c ≡ g c + 1 → ((j : ℕ) → j ≢ c → f j ≡ g j) → sum_by f (below n) ≡ sum_by g (below n) + 1
+one-less : (f g : ℕ → ℕ) (c n : ℕ) → c < n → f c ≡ g c + 1 → ((j : ℕ) → j ≢ c → f j ≡ g j) → sum_by f (numbers_below n) ≡ sum_by g (numbers_below n) + 1
 one-less f g c zero lt e h = absurd (omega (arith, lt))
 one-less f g c (suc n) lt e h =
-    let a = sum_by_push f (below n) n in
-    let b = sum_by_push g (below n) n in
-    elim (eqb_tells n c) as (λ _. sum_by f (below n ++ n ∷ []) ≡ sum_by g (below n ++ n ∷ []) + 1) [
+    let a = sum_by_push f (numbers_below n) n in
+    let b = sum_by_push g (numbers_below n) n in
+    elim (eqb_tells n c) as (λ _. sum_by f (numbers_below n ++ n ∷ []) ≡ sum_by g (numbers_below n ++ n ∷ []) + 1) [
       | inl same ↦ (
           let at : f n ≡ g n + 1 = ap f same.1 ∙ e ∙ ap (λ j. g j + 1) (sym same.1) in
           let is = same.1 in
@@ -71,13 +71,13 @@ get-set_apart l i j n other = by (slice_get l j) refl
 module _ (own : List (List Call)) where
   -- how many calls a client has left
   abbrev left_of : List ℕ → ℕ → ℕ
-  left_of made client = length (unwrap_or (slice_get own client) []) - place_of made client
+  left_of made client = length (unwrap_or (slice_get own client) []) - next_place made client
 
   abbrev left : List ℕ → ℕ
   left made = sum_by (left_of made) (clients own)
 
-  next_within : (made : List ℕ) (client : ℕ) (call : Call) (m : Option ℕ) → slice_get made client ≡ m → option_and_then (call_at own client) m ≡ Some call →
-      (n : ℕ) × (slice_get made client ≡ Some n) × (call_at own client n ≡ Some call)
+  next_within : (made : List ℕ) (client : ℕ) (call : Call) (m : Option ℕ) → slice_get made client ≡ m → option_and_then (call_of_client_at own client) m ≡ Some call →
+      (n : ℕ) × (slice_get made client ≡ Some n) × (call_of_client_at own client n ≡ Some call)
   next_within made client call None e h = absurd (let no : ◌≡◌ {A = Option Call} None (Some call) = h in cc)
   next_within made client call (Some n) e h = (n, e, h)
 
@@ -87,32 +87,32 @@ module _ (own : List (List Call)) where
   own_within client n call (Some calls) e h =
       (slice_get_within own client calls e, subst (λ (o : Option (List Call)). n < length (unwrap_or o [])) (sym e) (slice_get_within calls n call h))
 
-  one_used : (made : List ℕ) (client : ℕ) (call : Call) → next_call own made client ≡ Some call → left made ≡ left (one_more client (slice_get made client) made) + 1
+  one_used : (made : List ℕ) (client : ℕ) (call : Call) → next_client_call own made client ≡ Some call → left made ≡ left (one_more client (slice_get made client) made) + 1
   one_used made client call h =
       let r = next_within made client call (slice_get made client) refl h in
       let s = own_within client r.0 call (slice_get own client) refl r.2 in
       let made' = slice_set made client (r.0 + 1) in
       let is : one_more client (slice_get made client) made ≡ made' = ap (λ (o : Option ℕ). one_more client o made) r.1 in
-      let place : place_of made client ≡ r.0 = ap (λ (o : Option ℕ). unwrap_or o 0) r.1 in
-      let place' : place_of made' client ≡ r.0 + 1 = ap (λ (o : Option ℕ). unwrap_or o 0) (get-set_same made client (r.0 + 1) r.0 r.1) in
+      let place : next_place made client ≡ r.0 = ap (λ (o : Option ℕ). unwrap_or o 0) r.1 in
+      let place' : next_place made' client ≡ r.0 + 1 = ap (λ (o : Option ℕ). unwrap_or o 0) (get-set_same made client (r.0 + 1) r.0 r.1) in
       let lt = s.1 in
       let at : left_of made client ≡ left_of made' client + 1 = omega (arith, place, place', lt) in
       one-less (left_of made) (left_of made') client (length own) s.0 at (λ j ne. ap (λ (o : Option ℕ). length (unwrap_or (slice_get own j) []) - unwrap_or o 0) (sym (get-set_apart made client j (r.0 + 1) ne)))
       ∙ ap (λ (l : List ℕ). left l + 1) (sym is)
 
   module _ (p : ProfileName) where
-    may_used : (w : World) (client : ℕ) (c : Option Call) → next_call own w.made client ≡ c → can_be_made (shown w.kernel) c ≡ true → left w.made ≡ left (with_call p w client c).made + 1
+    may_used : (w : World) (client : ℕ) (c : Option Call) → next_client_call own w.made client ≡ c → can_be_made (shown w.kernel) c ≡ true → left w.made ≡ left (with_call p w client c).made + 1
     may_used w client None e h = absurd (let no : false ≡ true = h in cc)
     may_used w client (Some call) e h = one_used w.made client call e
 
-    no_more : (w : World) (client : ℕ) (c : Option Call) → next_call own w.made client ≡ c → left (with_call p w client c).made ≤ left w.made
+    no_more : (w : World) (client : ℕ) (c : Option Call) → next_client_call own w.made client ≡ c → left (with_call p w client c).made ≤ left w.made
     no_more w client None e = omega arith
     no_more w client (Some call) e = let u = one_used w.made client call e in omega (arith, u)
 
     never_more : (order : List ℕ) (w : World) → left (world_after p own w order).made ≤ left w.made
     never_more [] w = omega arith
     never_more (client ∷ order) w =
-        let a = no_more w client (next_call own w.made client) refl in
+        let a = no_more w client (next_client_call own w.made client) refl in
         let b = never_more order (after_call p own w client) in
         omega (arith, a, b)
 
@@ -130,7 +130,7 @@ module _ (own : List (List Call)) where
         (λ order u. each-filter_map (may_call own (world_after p own w order)) (Used w first (suc n)) (λ client. order ++ client ∷ [])
         (λ client may. (
         let v = world_after p own w order in
-        let one = may_used v client (next_call own v.made client) refl may in
+        let one = may_used v client (next_client_call own v.made client) refl may in
         let last : left (world_after p own w (order ++ client ∷ [])).made ≡ left (after_call p own v client).made = ap (λ (x : World). left x.made) (after_last order client w) in
         omega (arith, u, one, last)))
         (clients own))
@@ -151,14 +151,14 @@ module _ (own : List (List Call)) where
   fresh-left j lt =
       let long = length-replicate {A = ℕ} (length own) 0 in
       let none : slice_get fresh j ≡ Some 0 = slice_get-get_or fresh j 0 (omega (arith, lt, long)) ∙ ap (λ n. Some n) (get_or-replicate {A = ℕ} (length own) j 0 0 lt) in
-      let zero-place : place_of fresh j ≡ 0 = ap (λ (o : Option ℕ). unwrap_or o 0) none in
+      let zero-place : next_place fresh j ≡ 0 = ap (λ (o : Option ℕ). unwrap_or o 0) none in
       let its : length (unwrap_or (slice_get own j) []) ≡ length (get_or own j []) = ap (λ (o : Option (List Call)). length (unwrap_or o [])) (slice_get-get_or own j [] lt) in
       omega (arith, zero-place, its)
 
-  fresh-front : (n : ℕ) → n ≤ length own → sum_by (left_of fresh) (below n) ≡ sum_by length (take n own)
+  fresh-front : (n : ℕ) → n ≤ length own → sum_by (left_of fresh) (numbers_below n) ≡ sum_by length (take n own)
   fresh-front zero le = refl
   fresh-front (suc n) le =
-      let a = sum_by_push (left_of fresh) (below n) n in
+      let a = sum_by_push (left_of fresh) (numbers_below n) n in
       let b = sum_by_more length own n [] (omega (arith, le)) in
       let i = fresh-front n (omega (arith, le)) in
       let e = fresh-left n (omega (arith, le)) in

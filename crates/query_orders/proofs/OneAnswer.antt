@@ -13,7 +13,7 @@ use Rattle.kernel_abstract.specs.State.{State, shown}
 use Rattle.kernel_abstract.specs.Step.{Outcome, step}
 use Rattle.query_orders.specs.declared.answer.Answer.TheVariants.{Replied, Waits, NotMade}
 use Rattle.query_orders.specs.declared.answer.WaitingCall.{WaitingCall}
-use Rattle.query_orders.specs.World.{World, start, call_at, next_call, one_more, place_of, is_wait, still_waits, waiting_call, waits_with, with_outcome, with_call, after_call, world_after}
+use Rattle.query_orders.specs.World.{World, start, call_of_client_at, next_client_call, one_more, next_place, is_wait, still_waits, waiting_call, waits_with, with_outcome, with_call, after_call, world_after}
 use Rattle.query_orders.specs.Orders.{clients}
 use Rattle.query_orders.specs.Answers.{Answered, answered, replied, wait_ended, waits_ended, outcome_answers, call_answers, numbers_from, places_left, end_answers, first_answers}
 use Rattle.query_orders.specs.Laws.{told_in, is_to, AnswersEachOnce}
@@ -43,12 +43,12 @@ module _ (i k : ℕ) where
 
   -- what a call tells, and the calls that wait then, weigh as much as those that waited before, and the call
   outcome_weighs : (w : World) (order : List ℕ) (client : ℕ) (call : Call) (o : Outcome) →
-      sum_by weigh (outcome_answers w order client o) + sum_by weigh_wait (with_outcome w client call o).waits ≡ sum_by weigh_wait w.waits + hit client (place_of w.made client)
+      sum_by weigh (outcome_answers w order client o) + sum_by weigh_wait (with_outcome w client call o).waits ≡ sum_by weigh_wait w.waits + hit client (next_place w.made client)
   outcome_weighs w order client call o =
       let v = shown o.state in
       let kept = filter (still_waits v) w.waits in
       let gone = filter (λ call. not (still_waits v call)) w.waits in
-      let place = place_of w.made client in
+      let place = next_place w.made client in
       let new = waiting_call call.thread client place in
       let a = sum_by-append weigh (replied order client place o.reply) (waits_ended order v w.waits o.reply) in
       let m = sum_by-map weigh (λ (call : WaitingCall). answered order call.client call.place (wait_ended o.reply call.thread)) gone in
@@ -123,26 +123,26 @@ module _ (own : List (List Call)) (i k : ℕ) (calls : List Call) (its_own : sli
     abbrev Goes : World → World → ℕ → List Answered → Type 0
     Goes w w' n told = (n' : ℕ) × (slice_get w'.made i ≡ Some n') × (sum_by w8 told + open_of w' n' ≡ open_of w n)
 
-    next_is : (w : World) (n : ℕ) → slice_get w.made i ≡ Some n → next_call own w.made i ≡ slice_get calls n
-    next_is w n h = ap (λ (o : Option ℕ). option_and_then (call_at own i) o) h ∙ ap (λ (o : Option (List Call)). option_and_then (λ (calls : List Call). slice_get calls n) o) its_own
+    next_is : (w : World) (n : ℕ) → slice_get w.made i ≡ Some n → next_client_call own w.made i ≡ slice_get calls n
+    next_is w n h = ap (λ (o : Option ℕ). option_and_then (call_of_client_at own i) o) h ∙ ap (λ (o : Option (List Call)). option_and_then (λ (calls : List Call). slice_get calls n) o) its_own
 
-    one_call : (w : World) (order : List ℕ) (client n : ℕ) (c : Option Call) → next_call own w.made client ≡ c → slice_get w.made i ≡ Some n → Goes w (with_call p w client c) n (call_answers p w order client c)
+    one_call : (w : World) (order : List ℕ) (client n : ℕ) (c : Option Call) → next_client_call own w.made client ≡ c → slice_get w.made i ≡ Some n → Goes w (with_call p w client c) n (call_answers p w order client c)
     one_call w order client n None e h = (n, h, omega arith)
     one_call w order client n (Some call) e h =
         let o = step p w.kernel call in
         let weighs = outcome_weighs i k w (order ++ client ∷ []) client call o in
         elim (eqb_tells client i) as (λ _. Goes w (with_call p w client (Some call)) n (call_answers p w order client (Some call))) [
           | inl same ↦ (
-              let mine : slice_get calls n ≡ Some call = sym (next_is w n h) ∙ ap (next_call own w.made) (sym same.1) ∙ e in
+              let mine : slice_get calls n ≡ Some call = sym (next_is w n h) ∙ ap (next_client_call own w.made) (sym same.1) ∙ e in
               let lt = slice_get_within calls n call mine in
               let made : slice_get w.made client ≡ Some n = ap (slice_get w.made) same.1 ∙ h in
               let more : slice_get (with_call p w client (Some call)).made i ≡ Some (n + 1) =
               ap (λ (o : Option ℕ). slice_get (one_more client o w.made) i) made ∙ ap (λ j. slice_get (slice_set w.made j (n + 1)) i) same.1 ∙ get-set_same w.made i (n + 1) n h in
-              let place : hit i k client (place_of w.made client) ≡ hits k n = ap (λ (o : Option ℕ). hit i k client (unwrap_or o 0)) made ∙ hit-own client n same.1 in
+              let place : hit i k client (next_place w.made client) ≡ hits k n = ap (λ (o : Option ℕ). hit i k client (unwrap_or o 0)) made ∙ hit-own client n same.1 in
               let further = one_further n lt in
               (n + 1, more, omega (arith, weighs, place, further)))
           | inr other ↦ (
-              let none : hit i k client (place_of w.made client) ≡ 0 = hit-other client (place_of w.made client) other.1 in
+              let none : hit i k client (next_place w.made client) ≡ 0 = hit-other client (next_place w.made client) other.1 in
               (n, kept other.1 (slice_get w.made client), omega (arith, weighs, none)))
         ]
       where
@@ -153,9 +153,9 @@ module _ (own : List (List Call)) (i k : ℕ) (calls : List Call) (its_own : sli
     all_calls : (order before : List ℕ) (w : World) (n : ℕ) → slice_get w.made i ≡ Some n → Goes w (world_after p own w order) n (first_answers p own w before order)
     all_calls [] before w n h = (n, h, omega arith)
     all_calls (client ∷ order) before w n h =
-        let one = one_call w before client n (next_call own w.made client) refl h in
+        let one = one_call w before client n (next_client_call own w.made client) refl h in
         let rest = all_calls order (before ++ client ∷ []) (after_call p own w client) one.0 one.1 in
-        let a = sum_by-append w8 (call_answers p w before client (next_call own w.made client)) (first_answers p own (after_call p own w client) (before ++ client ∷ []) order) in
+        let a = sum_by-append w8 (call_answers p w before client (next_client_call own w.made client)) (first_answers p own (after_call p own w client) (before ++ client ∷ []) order) in
         let x = one.2 in
         let y = rest.2 in
         (rest.0, rest.1, omega (arith, a, x, y))

@@ -5,14 +5,14 @@ use Rattle.std.specs.List.{Contains, AllByRecursion as Each}
 use Rattle.cap_core.specs.declared.profile.ProfileName.{ProfileName}
 use Rattle.kernel_abstract.specs.declared.call.Call.{Call}
 use Rattle.kernel_abstract.specs.State.{shown}
-use Rattle.query_orders.specs.World.{World, call_at, can_be_made, may_call, world_after}
+use Rattle.query_orders.specs.World.{World, call_of_client_at, can_be_made, may_call, world_after}
 use Rattle.query_orders.specs.Orders.{clients, longer, orders}
 use Rattle.query_orders.specs.Laws.{EachCanBeMade}
 use Rattle.query_orders.proofs.Contained.{each-contained, contains-map, contains-filter, contains-flat_map, contains-below, each-flat_map, each-filter_map}
 
 -- ---- only a client can call
 
-no_calls : (own : List (List Call)) (client : ℕ) (made : Option ℕ) → slice_get own client ≡ None → option_and_then (call_at own client) made ≡ None
+no_calls : (own : List (List Call)) (client : ℕ) (made : Option ℕ) → slice_get own client ≡ None → option_and_then (call_of_client_at own client) made ≡ None
 no_calls own client None e = refl
 no_calls own client (Some n) e = ap (λ (o : Option (List Call)). option_and_then (λ (calls : List Call). slice_get calls n) o) e
 

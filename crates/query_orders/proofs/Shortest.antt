@@ -17,7 +17,7 @@ use Rattle.query_orders.specs.declared.answer.Answer.{Answer}
 use Rattle.query_orders.specs.declared.answer.Answer.TheVariants.{Replied, Served, Cancelled, Waits, NotMade}
 use Rattle.query_orders.specs.declared.answer.WaitingCall.{WaitingCall}
 use Rattle.query_orders.specs.declared.left.LeftCall.{LeftCall}
-use Rattle.query_orders.specs.World.{World, next_call, may_call, is_wait, still_waits, place_of, world_after}
+use Rattle.query_orders.specs.World.{World, next_client_call, may_call, is_wait, still_waits, next_place, world_after}
 use Rattle.query_orders.specs.Orders.{clients, longer, orders, is_end, is_stuck, found_before}
 use Rattle.query_orders.specs.Answers.{Answered, answered, replied, wait_ended, waits_ended, call_answers, places_left, end_answers, answers_behind, same_answer}
 use Rattle.query_orders.specs.Ends.{StuckEnd, stuck_end, left_calls, stuck_behind, same_stuck}
@@ -156,8 +156,8 @@ module _ (order : List ℕ) where
   call_level p w client None = tt
   call_level p w client (Some call) =
       let o = step p w.kernel call in
-      each_append IsLevel (replied (order ++ client ∷ []) client (place_of w.made client) o.reply) (waits_ended (order ++ client ∷ []) (shown o.state) w.waits o.reply)
-      (replied_level client (place_of w.made client) o.reply) (ended_levels client (shown o.state) w.waits o.reply)
+      each_append IsLevel (replied (order ++ client ∷ []) client (next_place w.made client) o.reply) (waits_ended (order ++ client ∷ []) (shown o.state) w.waits o.reply)
+      (replied_level client (next_place w.made client) o.reply) (ended_levels client (shown o.state) w.waits o.reply)
 
   end_level : (own : List (List Call)) (w : World) → Each IsLevel (end_answers own w order)
   end_level own w =
@@ -170,8 +170,8 @@ module _ (order : List ℕ) where
   behind_levels p own w =
       let v = world_after p own w order in
       let able = filter (may_call own v) (clients own) in
-      each_append IsLevel (flat_map (λ client. call_answers p v order client (next_call own v.made client)) able) (cond (is_end own v) (end_answers own v order) [])
-      (each-flat_map (λ _. Unit {0}) IsLevel (λ client. call_answers p v order client (next_call own v.made client)) (λ client _. call_level p v client (next_call own v.made client)) able (each-all (λ _. Unit {0}) able (λ _. tt)))
+      each_append IsLevel (flat_map (λ client. call_answers p v order client (next_client_call own v.made client)) able) (cond (is_end own v) (end_answers own v order) [])
+      (each-flat_map (λ _. Unit {0}) IsLevel (λ client. call_answers p v order client (next_client_call own v.made client)) (λ client _. call_level p v client (next_client_call own v.made client)) able (each-all (λ _. Unit {0}) able (λ _. tt)))
       (elim (is_end own v) as (λ b. Each IsLevel (cond b (end_answers own v order) [])) [ true ↦ end_level own v | false ↦ tt ])
 
 level-le : (n : Answer) (k l : ℕ) → level_of n k ≤ level_of n l → k ≤ l

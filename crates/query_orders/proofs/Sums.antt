@@ -5,7 +5,7 @@ use Rattle.std.proofs.lemmas.List.Sums.{sum_by-append, sum_by-cons, sum_by_push}
 use Rattle.std.proofs.lemmas.List.Concat.{flat_map-cons}
 use Rattle.std.proofs.lemmas.List.Recursion.{is_count_by}
 use Rattle.std.proofs.lemmas.Bool.Decides.{eqb_tells}
-use Rattle.query_orders.specs.Orders.{below}
+use Rattle.query_orders.specs.Orders.{numbers_below}
 use Rattle.query_orders.specs.Answers.{numbers_from}
 
 pub sum_by-map : {X Y : Type 0} (f : Y → ℕ) (g : X → Y) (xs : List X) → sum_by f (map g xs) ≡ sum_by (λ x. f (g x)) xs
@@ -69,19 +69,19 @@ to_come k (suc n) first le lt =
     ]
 
 -- a sum over the numbers below one, of which one alone weighs
-pub none-below : (g : ℕ → ℕ) (i n : ℕ) → ((j : ℕ) → j ≢ i → g j ≡ 0) → n ≤ i → sum_by g (below n) ≡ 0
+pub none-below : (g : ℕ → ℕ) (i n : ℕ) → ((j : ℕ) → j ≢ i → g j ≡ 0) → n ≤ i → sum_by g (numbers_below n) ≡ 0
 none-below g i zero h le = refl
 none-below g i (suc n) h le =
-    let a = sum_by_push g (below n) n in
+    let a = sum_by_push g (numbers_below n) n in
     let r = none-below g i n h (omega (arith, le)) in
     let z : g n ≡ 0 = h n (λ e. omega (arith, e, le)) in
     omega (arith, a, r, z)
 
-pub one-below : (g : ℕ → ℕ) (i n : ℕ) → ((j : ℕ) → j ≢ i → g j ≡ 0) → i < n → sum_by g (below n) ≡ g i
+pub one-below : (g : ℕ → ℕ) (i n : ℕ) → ((j : ℕ) → j ≢ i → g j ≡ 0) → i < n → sum_by g (numbers_below n) ≡ g i
 one-below g i zero h lt = absurd (omega (arith, lt))
 one-below g i (suc n) h lt =
-    let a = sum_by_push g (below n) n in
-    elim (eqb_tells n i) as (λ _. sum_by g (below n ++ n ∷ []) ≡ g i) [
+    let a = sum_by_push g (numbers_below n) n in
+    elim (eqb_tells n i) as (λ _. sum_by g (numbers_below n ++ n ∷ []) ≡ g i) [
       | inl same ↦ (
           let e : g n ≡ g i = ap g same.1 in
           let n-is = same.1 in

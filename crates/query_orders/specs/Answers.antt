@@ -11,7 +11,7 @@ use Rattle.kernel_abstract.specs.Step.{Outcome, step}
 use Rattle.query_orders.specs.declared.answer.Answer.{Answer}
 use Rattle.query_orders.specs.declared.answer.Answer.TheVariants.{Replied, Served, Cancelled, Waits, NotMade}
 use Rattle.query_orders.specs.declared.answer.WaitingCall.{WaitingCall}
-use Rattle.query_orders.specs.World.{World, next_call, may_call, place_of, is_wait, still_waits, after_call, world_after}
+use Rattle.query_orders.specs.World.{World, next_client_call, may_call, next_place, is_wait, still_waits, after_call, world_after}
 use Rattle.query_orders.specs.Orders.{clients, is_end, found_before}
 
 -- the call of a client at a place of its own list comes to an answer, in an order
@@ -46,7 +46,7 @@ waits_ended order v waits reply =
 -- what a client's call tells, with its outcome: its own answer, and those of the waits that it ended
 abbrev pub outcome_answers : World → List ℕ → ℕ → Outcome → List Answered
 outcome_answers w order client outcome =
-    replied order client (place_of w.made client) outcome.reply ++ waits_ended order (shown outcome.state) w.waits outcome.reply
+    replied order client (next_place w.made client) outcome.reply ++ waits_ended order (shown outcome.state) w.waits outcome.reply
 
 abbrev pub call_answers : ProfileName → World → List ℕ → ℕ → Option Call → List Answered
 call_answers p w order client None = []
@@ -60,7 +60,7 @@ numbers_from first (suc n) = first ∷ numbers_from (first + 1) n
 -- the places of the calls that a client has left
 abbrev pub places_left : List (List Call) → List ℕ → ℕ → List ℕ
 places_left own made client =
-    numbers_from (place_of made client) (length (unwrap_or (slice_get own client) []) - place_of made client)
+    numbers_from (next_place made client) (length (unwrap_or (slice_get own client) []) - next_place made client)
 
 -- what the calls come to that wait, or are left, where an order ends
 abbrev pub end_answers : List (List Call) → World → List ℕ → List Answered
@@ -72,7 +72,7 @@ end_answers own w order =
 abbrev pub answers_behind : ProfileName → List (List Call) → World → List ℕ → List Answered
 answers_behind p own w order =
     let v = world_after p own w order in
-    flat_map (λ client. call_answers p v order client (next_call own v.made client)) (filter (may_call own v) (clients own))
+    flat_map (λ client. call_answers p v order client (next_client_call own v.made client)) (filter (may_call own v) (clients own))
     ++ cond (is_end own v) (end_answers own v order) []
 
 -- two answers are of one kind where one call comes to the same, by a test of what calls come to
@@ -88,4 +88,4 @@ answers_before same found p own w first n = found_before (same_answer same) (ans
 abbrev pub first_answers : ProfileName → List (List Call) → World → List ℕ → List ℕ → List Answered
 first_answers p own w made [] = []
 first_answers p own w made (client ∷ order) =
-    call_answers p w made client (next_call own w.made client) ++ first_answers p own (after_call p own w client) (made ++ client ∷ []) order
+    call_answers p w made client (next_client_call own w.made client) ++ first_answers p own (after_call p own w client) (made ++ client ∷ []) order

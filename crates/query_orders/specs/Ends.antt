@@ -6,18 +6,18 @@ use Rattle.kernel_abstract.specs.declared.call.Call.{Call}
 use Rattle.kernel_abstract.specs.Shown.{Shown, state_at}
 use Rattle.kernel_abstract.specs.State.{shown}
 use Rattle.query_orders.specs.declared.left.LeftCall.{LeftCall}
-use Rattle.query_orders.specs.World.{World, next_call, place_of, world_after}
+use Rattle.query_orders.specs.World.{World, next_client_call, next_place, world_after}
 use Rattle.query_orders.specs.Orders.{clients, orders, is_stuck, found_before}
 
 -- the next call of a client, with what its thread does
 abbrev pub left_call : Shown → List ℕ → ℕ → Option Call → List LeftCall
 left_call v made client None = []
 left_call v made client (Some call) =
-    record { client = client; place = place_of made client; thread = call.thread; state = state_at v call.thread } ∷ []
+    record { client = client; place = next_place made client; thread = call.thread; state = state_at v call.thread } ∷ []
 
 -- those of all clients that have calls left
 abbrev pub left_calls : List (List Call) → List ℕ → Shown → List LeftCall
-left_calls own made v = flat_map (λ client. left_call v made client (next_call own made client)) (clients own)
+left_calls own made v = flat_map (λ client. left_call v made client (next_client_call own made client)) (clients own)
 
 -- an order that ends stuck, with the calls that it leaves
 pub record StuckEnd : Type 0 where

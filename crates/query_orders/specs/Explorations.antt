@@ -19,19 +19,19 @@ use Rattle.query_orders.specs.Found.{answers_of, stuck_of, same_left}
 -- ---- how far it goes
 
 -- with so many states so far and so many more in the next layer, it ends here
-abbrev pub is_last : ℕ → ℕ → ℕ → Bool
-is_last limit states more = (more == 0) || nat_lt limit (saturated (states + more))
+abbrev pub ends_exploration : ℕ → ℕ → ℕ → Bool
+ends_exploration limit states more = (more == 0) || nat_lt limit (saturated (states + more))
 
 abbrev pub is_last_layer : ProfileName → List (List Call) → World → List ℕ → ℕ → ℕ → Bool
-is_last_layer p own w first limit n = is_last limit (saturated (states_before p own w first n)) (length (layer p own w first n))
+is_last_layer p own w first limit n = ends_exploration limit (saturated (states_before p own w first n)) (length (layer p own w first n))
 
 -- how many calls more the orders have at most that are explored, from so many on, and at most so many further
-abbrev pub depth_from : ProfileName → List (List Call) → World → List ℕ → ℕ → ℕ → ℕ → ℕ
-depth_from p own w first limit zero n = n
-depth_from p own w first limit (suc further) n = cond (is_last_layer p own w first limit n) n (depth_from p own w first limit further (suc n))
+abbrev pub layers_from : ProfileName → List (List Call) → World → List ℕ → ℕ → ℕ → ℕ → ℕ
+layers_from p own w first limit zero n = n
+layers_from p own w first limit (suc further) n = cond (is_last_layer p own w first limit n) n (layers_from p own w first limit further (suc n))
 
 abbrev pub depth : ProfileName → List (List Call) → World → List ℕ → ℕ → ℕ → ℕ
-depth p own w first limit count = depth_from p own w first limit count 0
+depth p own w first limit count = layers_from p own w first limit count 0
 
 -- ---- how orders begin
 

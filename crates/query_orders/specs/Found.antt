@@ -10,15 +10,15 @@ use Rattle.query_orders.specs.declared.answer.Answer.TheVariants.{Waits, NotMade
 use Rattle.query_orders.specs.declared.answer.WaitingCall.{WaitingCall}
 use Rattle.query_orders.specs.declared.left.LeftCall.{LeftCall}
 use Rattle.query_orders.specs.contracts.left.LeftCallPartialEq.TheImpl as left_eq
-use Rattle.query_orders.specs.World.{World, next_call, may_call, world_after}
-use Rattle.query_orders.specs.Orders.{below, clients, longer, is_end, is_stuck}
+use Rattle.query_orders.specs.World.{World, next_client_call, may_call, world_after}
+use Rattle.query_orders.specs.Orders.{numbers_below, clients, longer, is_end, is_stuck}
 use Rattle.query_orders.specs.Answers.{Answered, answered, call_answers, answers_behind, places_left, same_answer}
 use Rattle.query_orders.specs.Ends.{StuckEnd, stuck_end, stuck_behind, same_stuck}
 use Rattle.query_orders.specs.declared.exploring.node.Node.{Node}
 use Rattle.query_orders.specs.declared.exploring.found.FoundAnswer.{FoundAnswer}
 use Rattle.query_orders.specs.declared.exploring.stuck.FoundStuck.{FoundStuck}
 use Rattle.query_orders.specs.declared.exploring.stuck.Findings.{Findings}
-use Rattle.query_orders.specs.Nodes.{IsNode, AreNodes, lead_alike, entries_of}
+use Rattle.query_orders.specs.Nodes.{IsNode, AreNodes, lead_alike, node_orders}
 use Rattle.query_orders.specs.Counts.{saturated_sum}
 
 -- an answer that is found
@@ -32,13 +32,13 @@ answers_of found = map answer_of found
 abbrev pub one_told : ProfileName → List (List Call) → World → List ℕ → ℕ → List Answered
 one_told p own w order client =
     let v = world_after p own w order in
-    flat_map (λ c. call_answers p v order c (next_call own v.made c)) (filter (may_call own v) (client ∷ []))
+    flat_map (λ c. call_answers p v order c (next_client_call own v.made c)) (filter (may_call own v) (client ∷ []))
 
 -- what the next calls of all clients tell that can make one
 abbrev pub calls_told : ProfileName → List (List Call) → World → List ℕ → List Answered
 calls_told p own w order =
     let v = world_after p own w order in
-    flat_map (λ client. call_answers p v order client (next_call own v.made client)) (filter (may_call own v) (clients own))
+    flat_map (λ client. call_answers p v order client (next_client_call own v.made client)) (filter (may_call own v) (clients own))
 
 -- that calls of a client are not made
 abbrev pub not_made_told : List (List Call) → List ℕ → List ℕ → ℕ → List Answered
@@ -47,7 +47,7 @@ not_made_told own made order client = map (λ place. answered order client place
 -- what the calls of so many clients come to that wait, or are left, where an order ends, by the parts of a node
 abbrev pub end_told : List (List Call) → ℕ → List ℕ → List WaitingCall → List ℕ → List Answered
 end_told own count made waits order =
-    map (λ (call : WaitingCall). answered order call.client call.place Waits) waits ++ flat_map (not_made_told own made order) (below count)
+    map (λ (call : WaitingCall). answered order call.client call.place Waits) waits ++ flat_map (not_made_told own made order) (numbers_below count)
 
 -- ---- how orders end
 
@@ -69,13 +69,13 @@ pub record IsMade (p : ProfileName) (own : List (List Call)) (w : World) (n m : 
   pub is : IsNode p own w m
   pub order_is : m.order ≡ n.order ++ client ∷ []
   pub told_are : answers_of found' ≡ with_firsts (same_answer same) (answers_of found)
-      (call_answers p (world_after p own w n.order) n.order client (next_call own (world_after p own w n.order).made client))
+      (call_answers p (world_after p own w n.order) n.order client (next_client_call own (world_after p own w n.order).made client))
 
 -- to nodes and to what is found there have come these orders, each with a count, and the first of each kind of these answers
 pub record IsVisited (p : ProfileName) (own : List (List Call)) (w : World) (nodes nodes' : List Node) (orders : List (List ℕ × ℕ))
     (same : Answer → Answer → Bool) (found found' : List FoundAnswer) (told : List Answered) : Type 0 where
   pub are : AreNodes p own w nodes'
-  pub entries_are : entries_of nodes' ≡ with_counts_up_to (2 ^ 64 - 1) (lead_alike p own w) (entries_of nodes) orders
+  pub entries_are : node_orders nodes' ≡ with_counts_up_to (2 ^ 64 - 1) (lead_alike p own w) (node_orders nodes) orders
   pub told_are : answers_of found' ≡ with_firsts (same_answer same) (answers_of found) told
 
 -- of each of these orders, how often it counts where it leads to a world that passes a test
@@ -97,5 +97,5 @@ pub record IsFound (p : ProfileName) (own : List (List Call)) (w : World) (same 
 -- to nodes have come those that one call more leads to behind these orders, and what stands behind them was found
 pub record IsExpanded (p : ProfileName) (own : List (List Call)) (w : World) (nodes nodes' : List Node) (same : Answer → Answer → Bool) (found found' : Findings) (entries : List (List ℕ × ℕ)) : Type 0 where
   pub are : AreNodes p own w nodes'
-  pub entries_are : entries_of nodes' ≡ with_counts_up_to (2 ^ 64 - 1) (lead_alike p own w) (entries_of nodes) (flat_map (λ (e : List ℕ × ℕ). each_times e.1 (longer p own w e.0)) entries)
+  pub entries_are : node_orders nodes' ≡ with_counts_up_to (2 ^ 64 - 1) (lead_alike p own w) (node_orders nodes) (flat_map (λ (e : List ℕ × ℕ). each_times e.1 (longer p own w e.0)) entries)
   pub found_are : IsFound p own w same found found' entries

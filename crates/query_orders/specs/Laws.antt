@@ -6,7 +6,7 @@ use Rattle.kernel_abstract.specs.State.{State}
 use Rattle.kernel_lists.specs.Firsts.{IsKindTest}
 use Rattle.query_orders.specs.declared.answer.Answer.{Answer}
 use Rattle.query_orders.specs.declared.left.LeftCall.{LeftCall}
-use Rattle.query_orders.specs.World.{World, start, call_at, next_call, may_call, after_call, world_after}
+use Rattle.query_orders.specs.World.{World, start, call_of_client_at, next_client_call, may_call, after_call, world_after}
 use Rattle.query_orders.specs.Orders.{orders, has_calls_left}
 use Rattle.query_orders.specs.Answers.{Answered, first_answers, end_answers, answers_behind, answers_before}
 use Rattle.query_orders.specs.Ends.{StuckEnd, stuck_behind, stuck_before}
@@ -22,9 +22,9 @@ made_by client None = []
 made_by client (Some call) = (client, call) ∷ []
 
 -- the calls that an order makes, each with its client
-abbrev pub calls_made : ProfileName → List (List Call) → World → List ℕ → List (ℕ × Call)
-calls_made p own w [] = []
-calls_made p own w (client ∷ order) = made_by client (next_call own w.made client) ++ calls_made p own (after_call p own w client) order
+abbrev pub calls_of_orders : ProfileName → List (List Call) → World → List ℕ → List (ℕ × Call)
+calls_of_orders p own w [] = []
+calls_of_orders p own w (client ∷ order) = made_by client (next_client_call own w.made client) ++ calls_of_orders p own (after_call p own w client) order
 
 -- those of one client
 abbrev pub calls_of : ℕ → List (ℕ × Call) → List Call
@@ -34,7 +34,7 @@ calls_of client calls = map (λ (call : ℕ × Call). call.1) (filter (λ (call 
 abbrev pub IsShuffle : ProfileName → List (List Call) → State → List ℕ → Type 0
 IsShuffle p own A order =
     has_calls_left own (world_after p own (start own A) order) ≡ false →
-    (client : ℕ) (calls : List Call) → slice_get own client ≡ Some calls → calls_of client (calls_made p own (start own A) order) ≡ calls
+    (client : ℕ) (calls : List Call) → slice_get own client ≡ Some calls → calls_of client (calls_of_orders p own (start own A) order) ≡ calls
 
 -- what an order tells of calls, each of its calls in turn, and at its end
 abbrev pub told_in : ProfileName → List (List Call) → World → List ℕ → List Answered
@@ -47,7 +47,7 @@ is_to client place a = (a.client == client) && (a.place == place)
 -- of each call of the clients the order tells one answer
 abbrev pub AnswersEachOnce : ProfileName → List (List Call) → State → List ℕ → Type 0
 AnswersEachOnce p own A order =
-    (client place : ℕ) (call : Call) → call_at own client place ≡ Some call → count_by (is_to client place) (told_in p own (start own A) order) ≡ 1
+    (client place : ℕ) (call : Call) → call_of_client_at own client place ≡ Some call → count_by (is_to client place) (told_in p own (start own A) order) ≡ 1
 
 -- ---- of each thing that is found, the order that is told is one of the shortest that have it
 

@@ -8,7 +8,7 @@ use Rattle.kernel_abstract.specs.declared.call.Call.{Call}
 use Rattle.kernel_abstract.specs.Shown.{Shown}
 use Rattle.kernel_abstract.specs.State.{shown}
 use Rattle.kernel_lists.specs.Firsts.{firsts}
-use Rattle.query_orders.specs.Words.{listed, words_of}
+use Rattle.query_orders.specs.Words.{listed, shown_words}
 use Rattle.query_orders.specs.declared.answer.WaitingCall.{WaitingCall}
 use Rattle.query_orders.specs.World.{World, may_call, world_after}
 use Rattle.query_orders.specs.Orders.{orders}
@@ -24,7 +24,7 @@ wait_words call = call.thread ∷ call.client ∷ call.place ∷ []
 
 -- how many calls each client has made, which calls wait and what the kernel shows, as words
 abbrev pub state_words : List ℕ → List WaitingCall → Shown → List ℕ
-state_words made waits v = listed (λ n. n ∷ []) made ++ (listed wait_words waits ++ words_of v)
+state_words made waits v = listed (λ n. n ∷ []) made ++ (listed wait_words waits ++ shown_words v)
 
 abbrev pub world_words : World → List ℕ
 world_words w = state_words w.made w.waits (shown w.kernel)
@@ -51,8 +51,8 @@ abbrev pub AreNodes : ProfileName → List (List Call) → World → List Node �
 AreNodes p own w nodes = Each (IsNode p own w) nodes
 
 -- the order of a node, with how many orders lead to its state
-abbrev pub entry_of : Node → List ℕ × ℕ
-entry_of n = (n.order, n.weight)
+abbrev pub node_order : Node → List ℕ × ℕ
+node_order n = (n.order, n.weight)
 
-abbrev pub entries_of : List Node → List (List ℕ × ℕ)
-entries_of nodes = map entry_of nodes
+abbrev pub node_orders : List Node → List (List ℕ × ℕ)
+node_orders nodes = map node_order nodes

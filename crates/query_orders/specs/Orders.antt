@@ -4,16 +4,16 @@ use Rattle.std.specs.List.{flat_map, list_any}
 use Rattle.cap_core.specs.declared.profile.ProfileName.{ProfileName}
 use Rattle.kernel_abstract.specs.declared.call.Call.{Call}
 use Rattle.kernel_lists.specs.Firsts.{with_firsts}
-use Rattle.query_orders.specs.World.{World, next_call, may_call, world_after}
+use Rattle.query_orders.specs.World.{World, next_client_call, may_call, world_after}
 
 -- the numbers below one
-abbrev pub below : ℕ → List ℕ
-below zero = []
-below (suc n) = below n ++ n ∷ []
+abbrev pub numbers_below : ℕ → List ℕ
+numbers_below zero = []
+numbers_below (suc n) = numbers_below n ++ n ∷ []
 
 -- the numbers of the clients
 abbrev pub clients : List (List Call) → List ℕ
-clients own = below (length own)
+clients own = numbers_below (length own)
 
 -- an order, longer by the next call of each client that can make one
 abbrev pub longer : ProfileName → List (List Call) → World → List ℕ → List (List ℕ)
@@ -29,7 +29,7 @@ abbrev pub is_end : List (List Call) → World → Bool
 is_end own w = not (list_any (may_call own w) (clients own))
 
 abbrev pub has_calls_left : List (List Call) → World → Bool
-has_calls_left own w = list_any (λ client. is_some (next_call own w.made client)) (clients own)
+has_calls_left own w = list_any (λ client. is_some (next_client_call own w.made client)) (clients own)
 
 -- it ends stuck, in a deadlock, where calls are left then
 abbrev pub is_stuck : List (List Call) → World → Bool

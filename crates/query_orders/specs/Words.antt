@@ -36,12 +36,12 @@ cap_words (Tcb base) = 4 ∷ base ∷ 0 ∷ 0 ∷ 0 ∷ []
 abbrev pub message_words : Message → List ℕ
 message_words m = m.label ∷ m.count ∷ length m.words ∷ m.words
 
-abbrev pub state_words : Option ThreadState → List ℕ
-state_words None = 0 ∷ 0 ∷ []
-state_words (Some Ready) = 1 ∷ 0 ∷ []
-state_words (Some Inactive) = 2 ∷ 0 ∷ []
-state_words (Some (Sending e)) = 3 ∷ e ∷ []
-state_words (Some (Receiving e)) = 4 ∷ e ∷ []
+abbrev pub thread_state_words : Option ThreadState → List ℕ
+thread_state_words None = 0 ∷ 0 ∷ []
+thread_state_words (Some Ready) = 1 ∷ 0 ∷ []
+thread_state_words (Some Inactive) = 2 ∷ 0 ∷ []
+thread_state_words (Some (Sending e)) = 3 ∷ e ∷ []
+thread_state_words (Some (Receiving e)) = 4 ∷ e ∷ []
 
 abbrev pub inbox_words : Option Inbox → List ℕ
 inbox_words None = 0 ∷ []
@@ -57,12 +57,12 @@ object_words v Null = []
 object_words v (Untyped base bits free) = []
 object_words v (Endpoint base badge rights) = listed waiter_words (waiting_at v base)
 object_words v (CNode base radix guard) = []
-object_words v (Tcb base) = state_words (state_at v base) ++ inbox_words (inbox_at v base)
+object_words v (Tcb base) = thread_state_words (state_at v base) ++ inbox_words (inbox_at v base)
 
 -- a full slot, with the slot that it is derived from, and the object that its capability names
 abbrev pub slot_words : Shown → Entry × Option ℕ → List ℕ
 slot_words v e = e.0.slot ∷ bit e.0.original ∷ (parent_words e.1 ++ (cap_words e.0.cap ++ object_words v e.0.cap))
 
 -- the full slots, each before those that are derived from it
-abbrev pub words_of : Shown → List ℕ
-words_of v = listed (slot_words v) (derivations_of v.derivations)
+abbrev pub shown_words : Shown → List ℕ
+shown_words v = listed (slot_words v) (derivations_of v.derivations)

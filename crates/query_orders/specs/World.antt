@@ -22,12 +22,12 @@ abbrev pub start : List (List Call) → State → World
 start own A = record { made = replicate (length own) 0; waits = []; kernel = A }
 
 -- a client's call at a place of its own list
-abbrev pub call_at : List (List Call) → ℕ → ℕ → Option Call
-call_at own client place = option_and_then (λ (calls : List Call). slice_get calls place) (slice_get own client)
+abbrev pub call_of_client_at : List (List Call) → ℕ → ℕ → Option Call
+call_of_client_at own client place = option_and_then (λ (calls : List Call). slice_get calls place) (slice_get own client)
 
 -- the next call of a client, by how many calls each has made
-abbrev pub next_call : List (List Call) → List ℕ → ℕ → Option Call
-next_call own made client = option_and_then (call_at own client) (slice_get made client)
+abbrev pub next_client_call : List (List Call) → List ℕ → ℕ → Option Call
+next_client_call own made client = option_and_then (call_of_client_at own client) (slice_get made client)
 
 -- a thread that is ready makes calls, and no other: one that waits, is inactive or is not there runs no code
 abbrev pub is_ready : Option ThreadState → Bool
@@ -43,7 +43,7 @@ can_be_made v None = false
 can_be_made v (Some call) = is_ready (state_at v call.thread)
 
 abbrev pub may_call : List (List Call) → World → ℕ → Bool
-may_call own w client = can_be_made (shown w.kernel) (next_call own w.made client)
+may_call own w client = can_be_made (shown w.kernel) (next_client_call own w.made client)
 
 -- ---- one call more
 
@@ -52,8 +52,8 @@ one_more client None made = made
 one_more client (Some n) made = slice_set made client (n + 1)
 
 -- how many calls a client has made, which is the place of its next one
-abbrev pub place_of : List ℕ → ℕ → ℕ
-place_of made client = unwrap_or (slice_get made client) 0
+abbrev pub next_place : List ℕ → ℕ → ℕ
+next_place made client = unwrap_or (slice_get made client) 0
 
 abbrev pub is_waiting : Option ThreadState → Bool
 is_waiting None = false
@@ -90,7 +90,7 @@ abbrev pub with_outcome : World → ℕ → Call → Outcome → World
 with_outcome w client call outcome =
     record {
       made = one_more client (slice_get w.made client) w.made;
-      waits = waits_after (shown outcome.state) w.waits (waiting_call call.thread client (place_of w.made client)) outcome.reply;
+      waits = waits_after (shown outcome.state) w.waits (waiting_call call.thread client (next_place w.made client)) outcome.reply;
       kernel = outcome.state;
     }
 
@@ -100,7 +100,7 @@ with_call p w client (Some call) = with_outcome w client call (step p w.kernel c
 
 -- after the next call of a client
 abbrev pub after_call : ProfileName → List (List Call) → World → ℕ → World
-after_call p own w client = with_call p w client (next_call own w.made client)
+after_call p own w client = with_call p w client (next_client_call own w.made client)
 
 -- after the next calls of clients in an order
 abbrev pub world_after : ProfileName → List (List Call) → World → List ℕ → World

@@ -6,7 +6,7 @@ use Rattle.kernel_delete.specs.Members.{In}
 use Rattle.cap_core.specs.declared.profile.ProfileName.{ProfileName}
 use Rattle.query_reach.specs.declared.filled.FullSlot.{FullSlot}
 use Rattle.query_reach.specs.declared.chains.chain.Target.{Target}
-use Rattle.query_reach.specs.Private.Layers.{leads, is_next, layer_at, is_sought_at, AreStepped, IsRunFrom, IsBack}
+use Rattle.query_reach.specs.Private.Layers.{leads_to_layer, is_next, layer_at, is_sought_at, AreStepped, IsRunFrom, IsBack}
 
 module _ (p : ProfileName) (ls : List (List FullSlot)) (depth : ℕ) (end : FullSlot) where
   pub back_begun : (back : List FullSlot) → In end (layer_at ls depth) → back ≡ end ∷ [] → IsBack p ls depth end 0 end back
@@ -25,7 +25,7 @@ module _ (p : ProfileName) (ls : List (List FullSlot)) (depth : ℕ) (end : Full
     one_behind : is.at ≡ suc (depth - 1 - k)
     one_behind = omega (arith, is.place, below)
 
-    pub back_more : (slot : FullSlot) (new : List FullSlot) → In slot layer → leads p slot head ≡ true → new ≡ back ++ slot ∷ [] → IsBack p ls depth end (k + 1) slot new
+    pub back_more : (slot : FullSlot) (new : List FullSlot) → In slot layer → leads_to_layer p slot head ≡ true → new ≡ back ++ slot ∷ [] → IsBack p ls depth end (k + 1) slot new
     back_more slot new i h e =
         let in_layer : In slot (layer_at ls (depth - 1 - k)) = subst (In slot) (sym there) i in
         record {

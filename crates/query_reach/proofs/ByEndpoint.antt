@@ -11,7 +11,7 @@ use Rattle.std.proofs.lemmas.List.Elements.{filter-append, filter_passes}
 use Rattle.std.proofs.lemmas.List.Filters.{All-dedup}
 use Rattle.std.proofs.lemmas.Map.Views.{any-filter_same}
 use Rattle.query_reach.specs.declared.endpoints.EndpointWord.{EndpointWord}
-use Rattle.query_reach.specs.Channels.{is_receiver, is_sender, receivers, receivers_without_sender, sends_to}
+use Rattle.query_reach.specs.Channels.{is_receiver, sends_by_word, receivers, receivers_without_sender, is_sender_to}
 use Rattle.query_reach.specs.ByEndpoint.{AreByEndpoint, leads_to, may_receive, same_receiver}
 
 -- ---- a test that all elements pass, or none
@@ -266,10 +266,10 @@ first_true true b h = refl
 first_true false b h = h
 
 -- who may send to a receiver sends to its endpoint
-sender_leads : (e : ℕ) (v u : EndpointWord) → v.endpoint ≡ e → sends_to v u ≡ true → leads_to e u ≡ true
+sender_leads : (e : ℕ) (v u : EndpointWord) → v.endpoint ≡ e → is_sender_to v u ≡ true → leads_to e u ≡ true
 sender_leads e v u at h =
     eq-eqb u.endpoint e
-    (eqb-true u.endpoint v.endpoint (first_true (u.endpoint == v.endpoint) (not (u.thread == v.thread)) (second_true (is_sender u) _ h)) ∙ at)
+    (eqb-true u.endpoint v.endpoint (first_true (u.endpoint == v.endpoint) (not (u.thread == v.thread)) (second_true (sends_by_word u) _ h)) ∙ at)
 
 filter_like : {X : Type 0} (p q : X → Bool) (xs : List X) → All (λ (x : X). p x ≡ q x) xs → filter p xs ≡ filter q xs
 filter_like p q [] h = refl
@@ -285,7 +285,7 @@ at_endpoint e words =
 
 pub unserved_of : (e : ℕ) (words : List EndpointWord) → receivers_without_sender (filter (leads_to e) words) e ≡ receivers_without_sender words e
 unserved_of e words =
-    ap (filter (λ (v : EndpointWord). not (list_any (sends_to v) (filter (leads_to e) words)))) (receivers_of e words)
-    ∙ filter_like (λ (v : EndpointWord). not (list_any (sends_to v) (filter (leads_to e) words))) (λ (v : EndpointWord). not (list_any (sends_to v) words)) (receivers words e)
+    ap (filter (λ (v : EndpointWord). not (list_any (is_sender_to v) (filter (leads_to e) words)))) (receivers_of e words)
+    ∙ filter_like (λ (v : EndpointWord). not (list_any (is_sender_to v) (filter (leads_to e) words))) (λ (v : EndpointWord). not (list_any (is_sender_to v) words)) (receivers words e)
     (λ k d lt. let v = get_or (receivers words e) k d in
-    ap not (any-filter_same (sends_to v) (leads_to e) true (λ u h. sender_leads e v u (at_endpoint e words k d lt) h) words))
+    ap not (any-filter_same (is_sender_to v) (leads_to e) true (λ u h. sender_leads e v u (at_endpoint e words k d lt) h) words))

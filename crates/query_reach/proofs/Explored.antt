@@ -20,7 +20,7 @@ use Rattle.query_reach.specs.declared.filled.FullSlot.{FullSlot}
 use Rattle.query_reach.specs.declared.paths.Path.{Path}
 use Rattle.query_reach.specs.FullSlots.{AreFullSlots, AreLawful}
 use Rattle.query_reach.specs.Private.Paths.{path_at, IsUpTo, HasUpTo, AreWithinBits}
-use Rattle.query_reach.specs.Private.Exploring.{target_from, IsStep, StepsFrom, ExtendsRow, ComesFrom, StandsForIndex, IsExplored, AreStarts}
+use Rattle.query_reach.specs.Private.Exploring.{target_from, IsStep, StepsFrom, ExtendsRow, ComesFrom, StandsForIndex, IsSpaceExplored, AreStarts}
 use Rattle.query_reach.proofs.Numbers.{taken_below, word_below, word_made}
 use Rattle.query_reach.proofs.Searched.{node_is_full}
 use Rattle.query_reach.proofs.NextWords.{words_most}
@@ -192,7 +192,7 @@ stands_more p memory f filled old new done word depth index slot all are short f
 
 pub explored_more : (p : ProfileName) (memory : ℕ) (f : Forest Entry) (filled : List FullSlot) (first old new : List (List (Option Path))) (done : ℕ) →
     ((s : ℕ) → (cap_at f s ≡ Null) ⊎ IsLawful p memory (cap_at f s)) → AreFullSlots f filled →
-    ExtendsRow p done filled (length filled) old new → IsExplored p f filled first old done → IsExplored p f filled first new (done + 1)
+    ExtendsRow p done filled (length filled) old new → IsSpaceExplored p f filled first old done → IsSpaceExplored p f filled first new (done + 1)
 explored_more p memory f filled first old new done all are s was = record {
   sound = λ t k w u e is. elim (s.only t k w e) [
     | inl old' ↦ was.sound t k w u old' is
@@ -203,7 +203,7 @@ explored_more p memory f filled first old new done all are s was = record {
       stands_more p memory f filled old new done start.word depth index slot all are short full s (was.whole place from start depth index slot starts holds short led full);
 }
 
-pub explored_first : (p : ProfileName) (f : Forest Entry) (filled : List FullSlot) (rows : List (List (Option Path))) → AreStarts rows → IsExplored p f filled rows rows 0
+pub explored_first : (p : ProfileName) (f : Forest Entry) (filled : List FullSlot) (rows : List (List (Option Path))) → AreStarts rows → IsSpaceExplored p f filled rows rows 0
 explored_first p f filled rows starts = record {
   sound = λ read place path u e is. (
       let s = starts read place path e in

@@ -28,9 +28,9 @@ use Rattle.query_reach.specs.declared.reached.Reached.{Reached}
 use Rattle.query_reach.specs.FullSlots.{AreFullSlots, AreRising}
 use Rattle.query_reach.specs.Reaching.{Reaches}
 use Rattle.query_reach.specs.Lists.{AreReached}
-use Rattle.query_reach.specs.Holding.{Names, IsUnreached, IsNoLater, IsEarlier, AreHeld}
-use Rattle.query_reach.specs.Private.Paths.{path_in, row_of, path_at, IsUpTo, AreWithinBits, IsFirstAt}
-use Rattle.query_reach.specs.Private.Exploring.{whole_slot, target_from, IsExplored, AreStarts, StandsForIndex}
+use Rattle.query_reach.specs.Holding.{Names, IsUnreached, IsNoLater, IsEarlier, AreHeldSlots}
+use Rattle.query_reach.specs.Private.Paths.{path_in, path_row, path_at, IsUpTo, AreWithinBits, IsFirstAt}
+use Rattle.query_reach.specs.Private.Exploring.{whole_slot, target_from, IsSpaceExplored, AreStarts, StandsForIndex}
 use Rattle.query_reach.specs.Private.Entries.{HasStarts, path_of, earlier, IsHeldAt, IsBest, IsListed, HasEntry}
 use Rattle.query_reach.proofs.FullSlots.{one_place, got_contains, contains_got}
 use Rattle.query_reach.specs.Private.Paths.{IsPut}
@@ -99,7 +99,7 @@ pub within_rows : (rows : List (List (Option Path))) (t k : ℕ) (w : Path) → 
 within_rows rows t k w e = elim (cases_lt t (length rows)) [
   | inl h ↦ h
   | inr past ↦ (let none : slice_get rows t ≡ None = slice_get_past rows t past in
-      let row : row_of rows t ≡ [] = ap (λ (o : Option (List (Option Path))). unwrap_or o []) none in
+      let row : path_row rows t ≡ [] = ap (λ (o : Option (List (Option Path))). unwrap_or o []) none in
       let path : path_at rows t k ≡ None = ap (λ (r : List (Option Path)). path_in r k) row in
       cc)
 ]
@@ -335,7 +335,7 @@ pub record IsSearched (p : ProfileName) (f : Forest Entry) (thread : ℕ) (fille
   pub front : (place : ℕ) → path_at rows 0 place ≡ path_at first 0 place
   pub high : length rows ≡ word_bits p + 1
   pub bits : AreWithinBits rows
-  pub explored : IsExplored p f filled first rows (word_bits p + 1)
+  pub explored : IsSpaceExplored p f filled first rows (word_bits p + 1)
 
 up_to_word : (path : Path) (start word index left : ℕ) → left ≡ 0 → start ≤ word →
     IsUpTo (record { word = path.word; index = path.index * 2 ^ left + index % 2 ^ left }) (record { word = start; index = index }) →
@@ -510,7 +510,7 @@ pub are_held : (p : ProfileName) (f : Forest Entry) (thread : ℕ) (filled : Lis
     IsSearched p f thread filled reached first rows → ((h : Held) → Contains found h → IsListed rows filled h) →
     ((place : ℕ) (u : FullSlot) → slice_get filled place ≡ Some u → HasEntry rows place u.address found) →
     ((h : Held) → Contains found h → (s : Held) × (Contains put s × (s.slot ≡ h.slot))) → ((h : Held) → Contains put h → Contains found h) →
-    IsStrictlySortedBy held_order put → AreHeld p f thread put
+    IsStrictlySortedBy held_order put → AreHeldSlots p f thread put
 are_held p f thread filled reached first rows found put s only all kept none_new order = record {
   sound = λ h c. (let l = only h (none_new h c) in
       let n = held_named p f thread filled reached first rows s h l in

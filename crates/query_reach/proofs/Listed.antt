@@ -14,9 +14,9 @@ use Rattle.cap_core.specs.Numbers.{word_bits}
 use Rattle.kernel_forest.specs.Forest.{Forest}
 use Rattle.kernel_forest.specs.Entries.{Entry, cap_at, is_full}
 use Rattle.query_reach.specs.Reaching.{leads, Reaches}
-use Rattle.query_reach.specs.Private.Nodes.{goes_on}
+use Rattle.query_reach.specs.Private.Nodes.{found_from}
 use Rattle.query_reach.specs.FullSlots.{AreFullSlots, AreRising}
-use Rattle.query_reach.specs.Private.Search.{IsBounded, StandsFor, IsSearch}
+use Rattle.query_reach.specs.Private.Search.{IsBounded, EntryStandsFor, IsSearch}
 use Rattle.query_reach.proofs.Searched.{within_rows, entered}
 use Rattle.query_reach.proofs.FullSlots.{empty_is_null}
 use Rattle.std.proofs.Math.Nat.{mod-eq_of_lt}
@@ -28,12 +28,12 @@ use Rattle.cspace_core.specs.Resolution.{resolution, resolution_within}
 use Rattle.kernel_abstract.specs.Lookups.{slot_found}
 use Rattle.query_reach.specs.declared.filled.FullSlot.{FullSlot}
 use Rattle.query_reach.specs.declared.reached.Reached.{Reached}
-use Rattle.query_reach.specs.Private.Tables.{word_in, row_at, word_at, IsFirst}
+use Rattle.query_reach.specs.Private.Tables.{word_in, left_row, word_at, IsFirstTable}
 use Rattle.query_reach.specs.Lists.{AreReached}
-use Rattle.query_reach.specs.Private.Rows.{IsFound}
+use Rattle.query_reach.specs.Private.Rows.{IsFoundInRows}
 
 pub found_only : (row : List (Option ℕ)) (filled : List FullSlot) (place : ℕ) (at : FullSlot) (word : ℕ) (list : List Reached) → slice_get filled place ≡ Some at → word_in row place ≡ Some word →
-    ((r : Reached) → Contains list r → IsFound row filled r) → (r : Reached) → Contains (list ++ (record { word = word; slot = at.address }) ∷ []) r → IsFound row filled r
+    ((r : Reached) → Contains list r → IsFoundInRows row filled r) → (r : Reached) → Contains (list ++ (record { word = word; slot = at.address }) ∷ []) r → IsFoundInRows row filled r
 found_only row filled place at word list holds is only r h =
     let new : Reached = record { word = word; slot = at.address } in
     elim (Contains-push_cases list new r h) [
@@ -42,8 +42,8 @@ found_only row filled place at word list holds is only r h =
     ]
 
 pub found_more : (row : List (Option ℕ)) (filled : List FullSlot) (place : ℕ) (at : FullSlot) (word : ℕ) (list : List Reached) → slice_get filled place ≡ Some at → word_in row place ≡ Some word →
-    ((r : Reached) (is : IsFound row filled r) → is.place < place → Contains list r) →
-    (r : Reached) (is : IsFound row filled r) → is.place < place + 1 → Contains (list ++ (record { word = word; slot = at.address }) ∷ []) r
+    ((r : Reached) (is : IsFoundInRows row filled r) → is.place < place → Contains list r) →
+    (r : Reached) (is : IsFoundInRows row filled r) → is.place < place + 1 → Contains (list ++ (record { word = word; slot = at.address }) ∷ []) r
 found_more row filled place at word list holds had all r is low =
     let new : Reached = record { word = word; slot = at.address } in
     elim (cases_eq is.place place) [
@@ -61,8 +61,8 @@ found_more row filled place at word list holds had all r is low =
     made w s = record { word = w; slot = s }
 
 pub found_skip : (row : List (Option ℕ)) (filled : List FullSlot) (place : ℕ) (list : List Reached) → word_in row place ≡ None →
-    ((r : Reached) (is : IsFound row filled r) → is.place < place → Contains list r) →
-    (r : Reached) (is : IsFound row filled r) → is.place < place + 1 → Contains list r
+    ((r : Reached) (is : IsFoundInRows row filled r) → is.place < place → Contains list r) →
+    (r : Reached) (is : IsFoundInRows row filled r) → is.place < place + 1 → Contains list r
 found_skip row filled place list none all r is low = elim (cases_eq is.place place) [
   | inr ne ↦ all r is (omega arith)
   | inl e ↦ (let here : word_in row place ≡ Some r.word = rw e at is.word in cc)
@@ -91,11 +91,11 @@ same_entry a b w s = ap (λ (x : ℕ). made x a.slot) w ∙ ap (made b.word) s
 
 -- a row of a search whose other rows are empty
 record Ends (p : ProfileName) (f : Forest Entry) (thread : ℕ) (filled : List FullSlot) (row : List (Option ℕ)) : Type 0 where
-  sound : (r : Reached) → IsFound row filled r → (r.word < 2 ^ word_bits p) × Reaches p f thread r.word r.slot
-  whole : (word slot : ℕ) → word < 2 ^ word_bits p → Reaches p f thread word slot → (r : Reached) × (IsFound row filled r × ((r.slot ≡ slot) × (r.word ≤ word)))
+  sound : (r : Reached) → IsFoundInRows row filled r → (r.word < 2 ^ word_bits p) × Reaches p f thread r.word r.slot
+  whole : (word slot : ℕ) → word < 2 ^ word_bits p → Reaches p f thread word slot → (r : Reached) × (IsFoundInRows row filled r × ((r.slot ≡ slot) × (r.word ≤ word)))
 
 ends : (p : ProfileName) (f : Forest Entry) (thread : ℕ) (filled : List FullSlot) (rows : List (List (Option ℕ))) → AreFullSlots f filled → length rows ≡ 1 → IsBounded p rows →
-    IsSearch p f thread filled rows → Ends p f thread filled (row_at rows 0)
+    IsSearch p f thread filled rows → Ends p f thread filled (left_row rows 0)
 ends p f thread filled rows are one bounded is = record {
   sound = λ r found. (
       let low : r.word + 2 ^ 0 ≤ 2 ^ word_bits p = bounded 0 found.place r.word found.word in
@@ -106,18 +106,18 @@ ends p f thread filled rows are one bounded is = record {
   whole = λ word slot low reaches. whole_at word slot (is.whole word slot low reaches);
 }
   where
-    whole_at : (word slot : ℕ) → StandsFor p f filled rows word slot → (r : Reached) × (IsFound (row_at rows 0) filled r × ((r.slot ≡ slot) × (r.word ≤ word)))
+    whole_at : (word slot : ℕ) → EntryStandsFor p f filled rows word slot → (r : Reached) × (IsFoundInRows (left_row rows 0) filled r × ((r.slot ≡ slot) × (r.word ≤ word)))
     whole_at word slot st =
         let inside : st.left < length rows = within_rows rows st.left st.place st.least st.noted in
         let none : st.left ≡ 0 = omega arith in
         let noted : word_at rows 0 st.place ≡ Some st.least = rw none at st.noted in
-        let led : goes_on p f 0 st.at.address word ≡ Ok slot = rw none at st.leads in
+        let led : found_from p f 0 st.at.address word ≡ Ok slot = rw none at st.leads in
         let there : st.at.address ≡ slot = cc in
         (record { word = st.least; slot = st.at.address }, (record { place = st.place; at = st.at; holds = st.holds; word = noted; slot = refl }, (there, omega (arith, st.low))))
 
 pub are_reached : (p : ProfileName) (f : Forest Entry) (thread : ℕ) (filled : List FullSlot) (rows : List (List (Option ℕ))) (found put : List Reached) → AreFullSlots f filled → AreRising filled →
     length rows ≡ 1 → IsBounded p rows → IsSearch p f thread filled rows →
-    ((r : Reached) → Contains found r → IsFound (row_at rows 0) filled r) → ((r : Reached) → IsFound (row_at rows 0) filled r → Contains found r) →
+    ((r : Reached) → Contains found r → IsFoundInRows (left_row rows 0) filled r) → ((r : Reached) → IsFoundInRows (left_row rows 0) filled r → Contains found r) →
     ((r : Reached) → Contains found r → (s : Reached) × (Contains put s × ((r.word ≡ s.word) × (r.slot ≡ s.slot)))) → ((r : Reached) → Contains put r → Contains found r) →
     IsStrictlySortedBy (λ (a b : Reached). ordering_then (nat_cmp a.word b.word) (nat_cmp a.slot b.slot)) put → AreReached p f thread put
 are_reached p f thread filled rows found put are up one bounded is only all kept none_new order = record {
@@ -129,8 +129,8 @@ are_reached p f thread filled rows found put are up one bounded is only all kept
       let there = w.1.0 in
       let same : here.at.address ≡ there.at.address = sym here.slot ∙ (sym w.1.1.0 ∙ there.slot) in
       let place : here.place ≡ there.place = one_place here.place there.place here.at there.at here.holds there.holds same in
-      let found' : word_in (row_at rows 0) there.place ≡ Some r.word = rw place at here.word in
-      let word' : r.word ≡ w.0.word = (let other : word_in (row_at rows 0) there.place ≡ Some w.0.word = there.word in cc) in
+      let found' : word_in (left_row rows 0) there.place ≡ Some r.word = rw place at here.word in
+      let word' : r.word ≡ w.0.word = (let other : word_in (left_row rows 0) there.place ≡ Some w.0.word = there.word in cc) in
       omega (arith, word', w.1.1.1));
   once = λ i j d less within same. (
       let rise = rising i j d less within in
@@ -142,14 +142,14 @@ are_reached p f thread filled rows found put are up one bounded is only all kept
       let fb = only b (none_new b cb) in
       let there : fa.at.address ≡ fb.at.address = sym fa.slot ∙ (same ∙ fb.slot) in
       let place : fa.place ≡ fb.place = one_place fa.place fb.place fa.at fb.at fa.holds fb.holds there in
-      let wa : word_in (row_at rows 0) fb.place ≡ Some a.word = rw place at fa.word in
-      let wb : word_in (row_at rows 0) fb.place ≡ Some b.word = fb.word in
+      let wa : word_in (left_row rows 0) fb.place ≡ Some a.word = rw place at fa.word in
+      let wb : word_in (left_row rows 0) fb.place ≡ Some b.word = fb.word in
       let word : a.word ≡ b.word = cc in
       omega (arith, rise, word));
   rising = rising;
 }
   where
-    end : Ends p f thread filled (row_at rows 0)
+    end : Ends p f thread filled (left_row rows 0)
     end = ends p f thread filled rows are one bounded is
 
     among : (word slot : ℕ) → word < 2 ^ word_bits p → Reaches p f thread word slot → (r : Reached) × (Contains put r × ((r.slot ≡ slot) × (r.word ≤ word)))
@@ -214,7 +214,7 @@ bits_some : (p : ProfileName) → 0 < word_bits p
 bits_some Wide = omega arith
 bits_some Narrow = omega arith
 
-pub first_search : (p : ProfileName) (f : Forest Entry) (thread width root : ℕ) (filled : List FullSlot) (rows : List (List (Option ℕ))) (at : FullSlot) → IsFirst (word_bits p) width root rows →
+pub first_search : (p : ProfileName) (f : Forest Entry) (thread width root : ℕ) (filled : List FullSlot) (rows : List (List (Option ℕ))) (at : FullSlot) → IsFirstTable (word_bits p) width root rows →
     slice_get filled root ≡ Some at → at.address ≡ thread → IsSearch p f thread filled rows
 first_search p f thread width root filled rows at first holds here = record {
   sound = λ t k w u e is rest low. (
@@ -249,6 +249,6 @@ any_same r put h =
     (s, ((h.0, h.2, h.3), (eqb-true r.word s.word both.0, eqb-true r.slot s.slot both.1)))
 
 -- the row of a table that has one
-pub only_row : {A : Type 0} (items : A → List (Option ℕ)) (rows : List A) (row : A) → length rows ≡ 1 → row ≡ get_or rows 0 row → items row ≡ row_at (map items rows) 0
+pub only_row : {A : Type 0} (items : A → List (Option ℕ)) (rows : List A) (row : A) → length rows ≡ 1 → row ≡ get_or rows 0 row → items row ≡ left_row (map items rows) 0
 only_row items [] row one e = absurd (omega arith)
 only_row items (first ∷ rows) row one e = ap items e

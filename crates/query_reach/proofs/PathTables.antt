@@ -14,8 +14,8 @@ use Rattle.cspace_core.specs.Inside.{IsSlotOf}
 use Rattle.cspace_core.proofs.Nodes.{lawful_node}
 use Rattle.query_reach.specs.declared.filled.FullSlot.{FullSlot}
 use Rattle.query_reach.specs.declared.paths.Path.{Path}
-use Rattle.query_reach.specs.Private.Paths.{path_in, row_of, path_at, IsUpTo, lesser_path, first_with, put_in, put, HasUpTo, IsWide, IsOpened, IsPut}
-use Rattle.query_reach.specs.Private.Exploring.{IsStep, IsStepAt, Adds, Extends, ExtendsRow}
+use Rattle.query_reach.specs.Private.Paths.{path_in, path_row, path_at, IsUpTo, lesser_path, first_with, put_in, put, HasUpTo, IsWide, IsOpened, IsPut}
+use Rattle.query_reach.specs.Private.Exploring.{IsStep, IsStepAt, Adds, ExtendsExplored, ExtendsRow}
 use Rattle.query_reach.proofs.Tabled.{slice_get-set_same, slice_get-set_other}
 
 -- the order of paths
@@ -61,24 +61,24 @@ pub put_is : {A : Type 0} (items : A → List (Option Path)) (rows : List A) (re
     items row' ≡ put_in (items row) place path → map items (set rows read row') ≡ put (map items rows) read place path
 put_is items rows read place path row row' h at e =
     let there : slice_get (map items rows) read ≡ Some (items row) = slice_get-map items rows read ∙ ap (option_map items) (slice_get_read rows (length rows) read row refl h at) in
-    let row_is : row_of (map items rows) read ≡ items row = ap (λ (o : Option (List (Option Path))). unwrap_or o []) there in
+    let row_is : path_row (map items rows) read ≡ items row = ap (λ (o : Option (List (Option Path))). unwrap_or o []) there in
     map-set items rows read row' ∙ ap (set (map items rows) read) (e ∙ ap (λ (r : List (Option Path)). put_in r place path) (sym row_is))
 
-row-set_same : (rows : List (List (Option Path))) (read : ℕ) (row : List (Option Path)) → read < length rows → row_of (set rows read row) read ≡ row
+row-set_same : (rows : List (List (Option Path))) (read : ℕ) (row : List (Option Path)) → read < length rows → path_row (set rows read row) read ≡ row
 row-set_same rows read row h = ap (λ (o : Option (List (Option Path))). unwrap_or o []) (slice_get-set_same rows read row h)
 
-row-set_other : (rows : List (List (Option Path))) (read t : ℕ) (row : List (Option Path)) → t ≢ read → row_of (set rows read row) t ≡ row_of rows t
+row-set_other : (rows : List (List (Option Path))) (read t : ℕ) (row : List (Option Path)) → t ≢ read → path_row (set rows read row) t ≡ path_row rows t
 row-set_other rows read t row h = ap (λ (o : Option (List (Option Path))). unwrap_or o []) (slice_get-set_other rows read t row h)
 
-put_there : (rows : List (List (Option Path))) (read place : ℕ) (path : Path) → read < length rows → place < length (row_of rows read) →
+put_there : (rows : List (List (Option Path))) (read place : ℕ) (path : Path) → read < length rows → place < length (path_row rows read) →
     path_at (put rows read place path) read place ≡ Some (first_with path (path_at rows read place))
-put_there rows read place path h h' = rw (row-set_same rows read (put_in (row_of rows read) place path) h, slice_get-set_same (row_of rows read) place (Some (first_with path (path_at rows read place))) h') refl
+put_there rows read place path h h' = rw (row-set_same rows read (put_in (path_row rows read) place path) h, slice_get-set_same (path_row rows read) place (Some (first_with path (path_at rows read place))) h') refl
 
 put_beside : (rows : List (List (Option Path))) (read place k : ℕ) (path : Path) → read < length rows → k ≢ place → path_at (put rows read place path) read k ≡ path_at rows read k
-put_beside rows read place k path h ne = rw (row-set_same rows read (put_in (row_of rows read) place path) h, slice_get-set_other (row_of rows read) place k (Some (first_with path (path_at rows read place))) ne) refl
+put_beside rows read place k path h ne = rw (row-set_same rows read (put_in (path_row rows read) place path) h, slice_get-set_other (path_row rows read) place k (Some (first_with path (path_at rows read place))) ne) refl
 
 put_elsewhere : (rows : List (List (Option Path))) (read place t k : ℕ) (path : Path) → t ≢ read → path_at (put rows read place path) t k ≡ path_at rows t k
-put_elsewhere rows read place t k path ne = ap (λ (r : List (Option Path)). path_in r k) (row-set_other rows read t (put_in (row_of rows read) place path) ne)
+put_elsewhere rows read place t k path ne = ap (λ (r : List (Option Path)). path_in r k) (row-set_other rows read t (put_in (path_row rows read) place path) ne)
 
 first-below : (path : Path) (known : Option Path) → IsUpTo (first_with path known) path
 first-below path None = up_to_itself path
@@ -95,7 +95,7 @@ first-keeps path v None e = cc
 first-keeps path v (Some old) e = let s : old ≡ v = cc in rw (← s) (lesser old path).left
 
 -- the facts of one write
-is_put : (rows : List (List (Option Path))) (read place : ℕ) (path : Path) → read < length rows → place < length (row_of rows read) → IsPut rows read place path (put rows read place path)
+is_put : (rows : List (List (Option Path))) (read place : ℕ) (path : Path) → read < length rows → place < length (path_row rows read) → IsPut rows read place path (put rows read place path)
 is_put rows read place path h h' = record {
   front = λ t k less. put_elsewhere rows read place t k path (λ e. omega arith);
   kept = λ t k w e. elim (cases_eq t read) [
@@ -123,17 +123,17 @@ width-same : (row row' : List (Option Path)) (width : ℕ) → length row' ≡ l
 width-same row row' width e (inl h) = inl (e ∙ h)
 width-same row row' width e (inr h) = inr (e ∙ h)
 
-put_width : (rows : List (List (Option Path))) (read place t : ℕ) (path : Path) → read < length rows → length (row_of (put rows read place path) t) ≡ length (row_of rows t)
+put_width : (rows : List (List (Option Path))) (read place t : ℕ) (path : Path) → read < length rows → length (path_row (put rows read place path) t) ≡ length (path_row rows t)
 put_width rows read place t path h = elim (cases_eq t read) [
-  | inr ne ↦ ap length (row-set_other rows read t (put_in (row_of rows read) place path) ne)
-  | inl e ↦ rw e (ap length (row-set_same rows read (put_in (row_of rows read) place path) h)
-      ∙ length-set (row_of rows read) place (Some (first_with path (path_at rows read place))))
+  | inr ne ↦ ap length (row-set_other rows read t (put_in (path_row rows read) place path) ne)
+  | inl e ↦ rw e (ap length (row-set_same rows read (put_in (path_row rows read) place path) h)
+      ∙ length-set (path_row rows read) place (Some (first_with path (path_at rows read place))))
 ]
 
 put_wide : (height width : ℕ) (rows : List (List (Option Path))) (read place : ℕ) (path : Path) → read < length rows → IsWide height width rows → IsWide height width (put rows read place path)
 put_wide height width rows read place path h is = record {
-  high = length-set rows read (put_in (row_of rows read) place path) ∙ is.high;
-  wide = λ t. width-same (row_of rows t) (row_of (put rows read place path) t) width (put_width rows read place t path h) (is.wide t);
+  high = length-set rows read (put_in (path_row rows read) place path) ∙ is.high;
+  wide = λ t. width-same (path_row rows t) (path_row (put rows read place path) t) width (put_width rows read place t path h) (is.wide t);
 }
 
 -- a row that is given places
@@ -146,24 +146,24 @@ no_path : (row : List (Option Path)) (k : ℕ) → length row ≡ 0 → path_in 
 no_path [] k e = refl
 no_path (path ∷ row) k e = absurd (omega arith)
 
-opened : (rows : List (List (Option Path))) (read width : ℕ) → read < length rows → length (row_of rows read) ≡ 0 →
+opened : (rows : List (List (Option Path))) (read width : ℕ) → read < length rows → length (path_row rows read) ≡ 0 →
     IsOpened read width rows (set rows read (replicate width None))
 opened rows read width h none = record {
   wide = λ height is. record {
     high = length-set rows read (replicate width None) ∙ is.high;
     wide = λ t. elim (cases_eq t read) [
-      | inr ne ↦ width-same (row_of rows t) (row_of (set rows read (replicate width None)) t) width (ap length (row-set_other rows read t (replicate width None) ne)) (is.wide t)
+      | inr ne ↦ width-same (path_row rows t) (path_row (set rows read (replicate width None)) t) width (ap length (row-set_other rows read t (replicate width None) ne)) (is.wide t)
       | inl e ↦ inr (rw e (ap length (row-set_same rows read (replicate width None) h) ∙ length-replicate width None))
     ];
   };
   places = ap length (row-set_same rows read (replicate width None) h) ∙ length-replicate width None;
   paths = λ t k. elim (cases_eq t read) [
     | inr ne ↦ ap (λ (r : List (Option Path)). path_in r k) (row-set_other rows read t (replicate width None) ne)
-    | inl e ↦ rw e (ap (λ (r : List (Option Path)). path_in r k) (row-set_same rows read (replicate width None) h) ∙ (row_none width k ∙ sym (no_path (row_of rows read) k none)))
+    | inl e ↦ rw e (ap (λ (r : List (Option Path)). path_in r k) (row-set_same rows read (replicate width None) h) ∙ (row_none width k ∙ sym (no_path (path_row rows read) k none)))
   ];
 }
 
-pub row_read : {A : Type 0} (items : A → List (Option Path)) (rows : List A) (read : ℕ) (row : A) → read < length rows → row ≡ get_or rows read row → row_of (map items rows) read ≡ items row
+pub row_read : {A : Type 0} (items : A → List (Option Path)) (rows : List A) (read : ℕ) (row : A) → read < length rows → row ≡ get_or rows read row → path_row (map items rows) read ≡ items row
 row_read items rows read row h at =
     let there : slice_get (map items rows) read ≡ Some (items row) = slice_get-map items rows read ∙ ap (option_map items) (slice_get_read rows (length rows) read row refl h at) in
     ap (λ (o : Option (List (Option Path))). unwrap_or o []) there
@@ -242,7 +242,7 @@ add_none p from read path place slot rows none = record {
 
 -- one place more
 pub extend_from : (p : ProfileName) (from : Cap) (read : ℕ) (path : Path) (filled : List FullSlot) (start : ℕ) (rows : List (List (Option Path))) →
-    ((k t : ℕ) (w : Path) → IsStepAt p from read path filled k t w → start ≤ k) → Extends p from read path filled start rows rows
+    ((k t : ℕ) (w : Path) → IsStepAt p from read path filled k t w → start ≤ k) → ExtendsExplored p from read path filled start rows rows
 extend_from p from read path filled start rows front = record {
   front = λ t k low. refl;
   kept = λ t k w e. (w, (up_to_itself w, e));
@@ -251,8 +251,8 @@ extend_from p from read path filled start rows front = record {
 }
 
 pub extend_more : (p : ProfileName) (from : Cap) (read : ℕ) (path : Path) (filled : List FullSlot) (count : ℕ) (a b c : List (List (Option Path))) (to : FullSlot) →
-    slice_get filled count ≡ Some to → Extends p from read path filled count a b → Adds p from read path count to.address b c →
-    Extends p from read path filled (count + 1) a c
+    slice_get filled count ≡ Some to → ExtendsExplored p from read path filled count a b → Adds p from read path count to.address b c →
+    ExtendsExplored p from read path filled (count + 1) a c
 extend_more p from read path filled count a b c to is s v = record {
   front = λ t k low. v.front t k low ∙ s.front t k low;
   kept = λ t k w e. still c b v.kept t k w (s.kept t k w e);
@@ -269,7 +269,7 @@ extend_more p from read path filled count a b c to is s v = record {
 }
 
 pub extend_all : (p : ProfileName) (from : Cap) (read : ℕ) (path : Path) (filled : List FullSlot) (count more : ℕ) (a b : List (List (Option Path))) →
-    ((k t : ℕ) (w : Path) → IsStepAt p from read path filled k t w → k < count) → Extends p from read path filled count a b → Extends p from read path filled more a b
+    ((k t : ℕ) (w : Path) → IsStepAt p from read path filled k t w → k < count) → ExtendsExplored p from read path filled count a b → ExtendsExplored p from read path filled more a b
 extend_all p from read path filled count more a b back s = record {
   front = s.front;
   kept = s.kept;
@@ -288,7 +288,7 @@ extend_row_none p read filled rows = record {
 
 pub extend_row_more : (p : ProfileName) (read : ℕ) (filled : List FullSlot) (count : ℕ) (a b c : List (List (Option Path))) (from : FullSlot) (path : Path) →
     slice_get filled count ≡ Some from → path_at b read count ≡ Some path → ExtendsRow p read filled count a b →
-    Extends p from.cap read path filled (length filled) b c → ExtendsRow p read filled (count + 1) a c
+    ExtendsExplored p from.cap read path filled (length filled) b c → ExtendsRow p read filled (count + 1) a c
 extend_row_more p read filled count a b c from path is has s v =
     let had : path_at a read count ≡ Some path = sym (s.front read count (omega arith)) ∙ has in record {
       front = λ t k low. v.front t k low ∙ s.front t k low;
@@ -323,12 +323,12 @@ extend_row_skip p read filled count a b has s = record {
 
 -- a row has no paths behind its places
 pub extend_row_all : (p : ProfileName) (read : ℕ) (filled : List FullSlot) (count more : ℕ) (a b : List (List (Option Path))) →
-    length (row_of a read) ≤ count → ExtendsRow p read filled count a b → ExtendsRow p read filled more a b
+    length (path_row a read) ≤ count → ExtendsRow p read filled count a b → ExtendsRow p read filled more a b
 extend_row_all p read filled count more a b past s = record {
   front = s.front;
   kept = s.kept;
   only = s.only;
-  added = λ holder t k w h n. s.added holder t k w (let within = path_within (row_of a read) holder n.path n.entered in omega arith) n;
+  added = λ holder t k w h n. s.added holder t k w (let within = path_within (path_row a read) holder n.path n.entered in omega arith) n;
 }
   where
     path_within : (row : List (Option Path)) (k : ℕ) (path : Path) → path_in row k ≡ Some path → k < length row
@@ -364,7 +364,7 @@ rows_more items rows row n x e e' =
     ∙ (ap (λ (l : List (List (Option Path))). l ++ items row ∷ []) e
     ∙ (ap (λ (r : List (Option Path)). replicate n x ++ r ∷ []) e' ∙ replicate_more n x))
 
-row_empty : (height t : ℕ) → row_of (replicate height []) t ≡ []
+row_empty : (height t : ℕ) → path_row (replicate height []) t ≡ []
 row_empty zero t = refl
 row_empty (suc height) zero = refl
 row_empty (suc height) (suc t) = row_empty height t

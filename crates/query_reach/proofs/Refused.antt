@@ -33,7 +33,7 @@ use Rattle.kernel_abstract.specs.State.{State, shown}
 use Rattle.kernel_abstract.specs.Step.{step, outcome}
 use Rattle.kernel_abstract.proofs.Checks.Walked.{unrefused, word_passed}
 use Rattle.query_reach.specs.Reaching.{leads}
-use Rattle.query_reach.specs.Laws.{allows, allows_to, ReachesNo, IsRefused, IsRefusedSends, IsRefusedReceives, SendsElsewhere, ReceivesElsewhere}
+use Rattle.query_reach.specs.Laws.{endpoint_allows, allows_to, ReachesNo, IsRefused, IsRefusedSends, IsRefusedReceives, SendsElsewhere, ReceivesElsewhere}
 use Rattle.query_reach.specs.declared.reached.Reached.{Reached}
 use Rattle.query_reach.specs.Listed.{IsEnough}
 use Rattle.query_reach.proofs.FullSlots.{empty_is_null}
@@ -53,17 +53,17 @@ fails_there p f thread test null none word slot led = elim (is_full slot f) as (
 ] refl
 
 -- no service without the right
-unserved : (needed : Right) (slot : ℕ) (cap : Cap) → allows (right_bit needed) cap ≡ false → (reason : Reason) × (service_in needed slot cap ≡ Err reason)
+unserved : (needed : Right) (slot : ℕ) (cap : Cap) → endpoint_allows (right_bit needed) cap ≡ false → (reason : Reason) × (service_in needed slot cap ≡ Err reason)
 unserved needed slot Null h = (_, refl)
 unserved needed slot (Untyped base bits free) h = (_, refl)
 unserved needed slot (Endpoint base badge rights) h = (NoRight (record { slot = slot; cap = Endpoint base badge rights }) needed, rw h refl)
 unserved needed slot (CNode base radix guard) h = (_, refl)
 unserved needed slot (Tcb base) h = (_, refl)
 
-unsent : (slot : ℕ) (cap : Cap) (message : Message) (block : Bool) → allows write_bit cap ≡ false → (reason : Reason) × (checked_send slot cap message block ≡ Err reason)
+unsent : (slot : ℕ) (cap : Cap) (message : Message) (block : Bool) → endpoint_allows write_bit cap ≡ false → (reason : Reason) × (checked_send slot cap message block ≡ Err reason)
 unsent slot cap message block h = let u = unserved Write slot cap h in (u.0, ap (λ (r : Result Service Reason). r >>= λ service. Ok (Send service message block)) u.1)
 
-unreceived : (slot : ℕ) (cap : Cap) (block : Bool) → allows read_bit cap ≡ false → (reason : Reason) × (checked_receive slot cap block ≡ Err reason)
+unreceived : (slot : ℕ) (cap : Cap) (block : Bool) → endpoint_allows read_bit cap ≡ false → (reason : Reason) × (checked_receive slot cap block ≡ Err reason)
 unreceived slot cap block h = let u = unserved Read slot cap h in (u.0, ap (λ (r : Result Service Reason). r >>= λ service. Ok (Receive service block)) u.1)
 
 -- a lookup, and then a check that fails
@@ -95,13 +95,13 @@ step_refused p A thread o reason e =
 pub sends_refused : (p : ProfileName) (A : State) (thread : ℕ) → IsRefusedSends p A thread
 sends_refused p A thread none word message =
     let on = λ (block : Bool). chain_refused p A.derivations thread word (λ slot. checked_send slot (cap_at A.derivations slot) message block)
-    (λ slot led. unsent slot (cap_at A.derivations slot) message block (fails_there p A.derivations thread (allows write_bit) refl none word slot led)) in
+    (λ slot led. unsent slot (cap_at A.derivations slot) message block (fails_there p A.derivations thread (endpoint_allows write_bit) refl none word slot led)) in
     (step_refused p A thread (op.Send word message) (on true).0 (on true).1, step_refused p A thread (op.NbSend word message) (on false).0 (on false).1)
 
 pub receives_refused : (p : ProfileName) (A : State) (thread : ℕ) → IsRefusedReceives p A thread
 receives_refused p A thread none word =
     let on = λ (block : Bool). chain_refused p A.derivations thread word (λ slot. checked_receive slot (cap_at A.derivations slot) block)
-    (λ slot led. unreceived slot (cap_at A.derivations slot) block (fails_there p A.derivations thread (allows read_bit) refl none word slot led)) in
+    (λ slot led. unreceived slot (cap_at A.derivations slot) block (fails_there p A.derivations thread (endpoint_allows read_bit) refl none word slot led)) in
     (step_refused p A thread (op.Recv word) (on true).0 (on true).1, step_refused p A thread (op.NbRecv word) (on false).0 (on false).1)
 
 -- of one endpoint

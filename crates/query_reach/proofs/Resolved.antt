@@ -17,7 +17,7 @@ use Rattle.cspace_core.proofs.Bits.{length-low_bits}
 use Rattle.cspace_core.proofs.Nodes.{lawful_node, too_short_for_guard, other_guard, too_short_for_radix, slot_chosen}
 use Rattle.cspace_core.proofs.Steps.{choice_is}
 use Rattle.kernel_abstract.specs.Lookups.{slot_found}
-use Rattle.query_reach.specs.Private.Nodes.{goes_on}
+use Rattle.query_reach.specs.Private.Nodes.{found_from}
 
 -- the first step: a fault, or the slot that the bits behind the guard choose
 pub data FirstStep (p : ProfileName) (cap : Cap) (n word : ℕ) : Type 0 where
@@ -84,7 +84,7 @@ first_choice p memory cap_in all cap n word lawful =
 -- where a CNode chooses a slot, resolution goes on at it with the bits that are left
 went_on : (p : ProfileName) (f : Forest Entry) (slot m word : ℕ) (t : Bool) → is_cnode (cap_at f slot) ≡ t →
     slot_found (found_or (cap_at f) (resolution p (cap_at f)) (Ok (record { slot = slot; left = low_bits m word })))
-    ≡ goes_on p f (cond t m 0) slot word
+    ≡ found_from p f (cond t m 0) slot word
 went_on p f slot m word false e = rw e refl
 went_on p f slot zero word true e = rw (length-low_bits zero word, and-false (is_cnode (cap_at f slot))) refl
 went_on p f slot (suc m) word true e =
@@ -96,7 +96,7 @@ pub from_node : (p : ProfileName) (memory : ℕ) (f : Forest Entry) → ((s : �
     (base radix n word : ℕ) (guard : Guard) → (CNode base radix guard ≡ Null) ⊎ IsLawful p memory (CNode base radix guard) →
     guard.size ≤ n → radix ≤ n - guard.size → word / 2 ^ (n - guard.size) % 2 ^ guard.size ≡ guard.value →
     let m = n - guard.size - radix in let slot = slot_of p base (word / 2 ^ m % 2 ^ radix) in
-    slot_found (resolution p (cap_at f) (CNode base radix guard) (low_bits n word)) ≡ goes_on p f (cond (is_cnode (cap_at f slot)) m 0) slot word
+    slot_found (resolution p (cap_at f) (CNode base radix guard) (low_bits n word)) ≡ found_from p f (cond (is_cnode (cap_at f slot)) m 0) slot word
 from_node p memory f all base radix n word guard lawful long enough is =
     let m : ℕ = n - guard.size - radix in
     let slot : ℕ = slot_of p base (word / 2 ^ m % 2 ^ radix) in
@@ -109,7 +109,7 @@ from_node p memory f all base radix n word guard lawful long enough is =
 pub data LeadsOn (p : ProfileName) (f : Forest Entry) (cap : Cap) (n word slot : ℕ) : Type 0 where
   leads_on : (base radix : ℕ) (guard : Guard) → cap ≡ CNode base radix guard → guard.size ≤ n → radix ≤ n - guard.size →
       word / 2 ^ (n - guard.size) % 2 ^ guard.size ≡ guard.value →
-      goes_on p f (cond (is_cnode (cap_at f (slot_of p base (word / 2 ^ (n - guard.size - radix) % 2 ^ radix)))) (n - guard.size - radix) 0)
+      found_from p f (cond (is_cnode (cap_at f (slot_of p base (word / 2 ^ (n - guard.size - radix) % 2 ^ radix)))) (n - guard.size - radix) 0)
       (slot_of p base (word / 2 ^ (n - guard.size - radix) % 2 ^ radix)) word ≡ Ok slot → LeadsOn p f cap n word slot
 
 leads_from : (p : ProfileName) (memory : ℕ) (f : Forest Entry) → ((s : ℕ) → (cap_at f s ≡ Null) ⊎ IsLawful p memory (cap_at f s)) →

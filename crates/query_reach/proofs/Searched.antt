@@ -20,10 +20,10 @@ use Rattle.cspace_core.proofs.Nodes.{lawful_node}
 use Rattle.kernel_abstract.specs.Lookups.{slot_found}
 use Rattle.query_reach.specs.declared.filled.FullSlot.{FullSlot}
 use Rattle.query_reach.specs.Reaching.{leads}
-use Rattle.query_reach.specs.Private.Nodes.{goes_on, IsNext}
-use Rattle.query_reach.specs.Private.Tables.{word_in, row_at, word_at, IsWide, IsAtMost}
+use Rattle.query_reach.specs.Private.Nodes.{found_from, IsNext}
+use Rattle.query_reach.specs.Private.Tables.{word_in, left_row, word_at, IsWideTable, IsAtMost}
 use Rattle.query_reach.specs.FullSlots.{AreLawful, AreFullSlots}
-use Rattle.query_reach.specs.Private.Search.{RowLeads, RowSpreads, IsBounded, StandsFor, IsSearch}
+use Rattle.query_reach.specs.Private.Search.{RowLeads, RowSpreads, IsBounded, EntryStandsFor, IsSearch}
 use Rattle.query_reach.proofs.Numbers.{taken_below, word_below, guard_read, index_read, rest_read, word_made}
 use Rattle.query_reach.proofs.Resolved.{from_node, LeadsOn, leads_on, leading}
 use Rattle.query_reach.proofs.NextWords.{next_made}
@@ -42,12 +42,12 @@ node_is_full f slot e = node_in slot (preorder f) e
 
 -- what is entered with some bits is resolved with them
 pub entered : (p : ProfileName) (f : Forest Entry) (left slot word : ℕ) → 0 < left →
-    goes_on p f left slot word ≡ slot_found (resolution p (cap_at f) (cap_at f slot) (low_bits left word))
+    found_from p f left slot word ≡ slot_found (resolution p (cap_at f) (cap_at f slot) (low_bits left word))
 entered p f zero slot word h = absurd (omega arith)
 entered p f (suc left) slot word h = refl
 
 -- only the bits that are left count
-goes_same : (p : ProfileName) (f : Forest Entry) (left slot a b : ℕ) → a % 2 ^ left ≡ b % 2 ^ left → goes_on p f left slot a ≡ goes_on p f left slot b
+goes_same : (p : ProfileName) (f : Forest Entry) (left slot a b : ℕ) → a % 2 ^ left ≡ b % 2 ^ left → found_from p f left slot a ≡ found_from p f left slot b
 goes_same p f zero slot a b e = refl
 goes_same p f (suc left) slot a b e =
     let within : suc left ≤ suc left = omega arith in
@@ -72,7 +72,7 @@ record Before (p : ProfileName) (f : Forest Entry) (holder left word slot more n
   behind : ℕ
   below : behind < 2 ^ left
   sum : next + rest ≡ word + behind
-  leads : goes_on p f left holder behind ≡ goes_on p f more slot rest
+  leads : found_from p f left holder behind ≡ found_from p f more slot rest
 
 before : (p : ProfileName) (memory : ℕ) (f : Forest Entry) → ((s : ℕ) → (cap_at f s ≡ Null) ⊎ IsLawful p memory (cap_at f s)) →
     (holder left word slot more next : ℕ) → IsNext p (cap_at f holder) left word slot (cap_at f slot) more next →
@@ -98,9 +98,9 @@ before p memory f all holder left word slot more next n rest low =
     let on = from_node p memory f all n.base n.radix left (taken * 2 ^ m + rest) n.guard lawful (omega arith) (omega arith) begins in
     let there : slot_of p n.base ((taken * 2 ^ m + rest) / 2 ^ m % 2 ^ n.radix) ≡ slot =
     ap (slot_of p n.base) (index_read n.radix m n.guard.value n.index rest n.within short) ∙ sym n.chosen in
-    let on' : slot_found (resolution p (cap_at f) (cap_at f holder) (low_bits left (taken * 2 ^ m + rest))) ≡ goes_on p f (cond t m 0) slot (taken * 2 ^ m + rest) =
+    let on' : slot_found (resolution p (cap_at f) (cap_at f holder) (low_bits left (taken * 2 ^ m + rest))) ≡ found_from p f (cond t m 0) slot (taken * 2 ^ m + rest) =
     rw n.node (rw (same_m, there) at on) in
-    let whole : goes_on p f left holder (taken * 2 ^ m + rest) ≡ goes_on p f (cond t m 0) slot rest =
+    let whole : found_from p f left holder (taken * 2 ^ m + rest) ≡ found_from p f (cond t m 0) slot rest =
     entered p f left holder (taken * 2 ^ m + rest) (omega arith) ∙ (on' ∙ goes_same p f (cond t m 0) slot (taken * 2 ^ m + rest) rest (same_rest t m taken rest few)) in
     record {
       behind = taken * 2 ^ m + rest;
@@ -117,10 +117,10 @@ record Through (p : ProfileName) (f : Forest Entry) (holder left least word slot
   full : is_full there f ≡ true
   is : IsNext p (cap_at f holder) left least there (cap_at f there) more next
   low : next + word % 2 ^ more ≤ word
-  leads : goes_on p f more there word ≡ Ok slot
+  leads : found_from p f more there word ≡ Ok slot
 
 full_where : (p : ProfileName) (f : Forest Entry) (there m word slot : ℕ) (t : Bool) → is_cnode (cap_at f there) ≡ t →
-    goes_on p f (cond t m 0) there word ≡ Ok slot → is_full slot f ≡ true → is_full there f ≡ true
+    found_from p f (cond t m 0) there word ≡ Ok slot → is_full slot f ≡ true → is_full there f ≡ true
 full_where p f there m word slot true e is full = node_is_full f there e
 full_where p f there m word slot false e is full =
     let same : there ≡ slot = cc in
@@ -162,7 +162,7 @@ through_node p f holder left least word slot full low (leads_on base radix guard
     }
 
 through : (p : ProfileName) (memory : ℕ) (f : Forest Entry) → ((s : ℕ) → (cap_at f s ≡ Null) ⊎ IsLawful p memory (cap_at f s)) →
-    (holder left least word slot : ℕ) → 0 < left → goes_on p f left holder word ≡ Ok slot → is_full slot f ≡ true → least + word % 2 ^ left ≤ word →
+    (holder left least word slot : ℕ) → 0 < left → found_from p f left holder word ≡ Ok slot → is_full slot f ≡ true → least + word % 2 ^ left ≤ word →
     Through p f holder left least word slot
 through p memory f all holder left least word slot some is full low =
     through_node p f holder left least word slot full low
@@ -182,7 +182,7 @@ pub within_rows : (rows : List (List (Option ℕ))) (t k w : ℕ) → word_at ro
 within_rows rows t k w e = elim (cases_lt t (length rows)) [
   | inl h ↦ h
   | inr past ↦ (let none : slice_get rows t ≡ None = slice_get_past rows t past in
-      let row : row_at rows t ≡ [] = ap (λ (o : Option (List (Option ℕ))). unwrap_or o []) none in
+      let row : left_row rows t ≡ [] = ap (λ (o : Option (List (Option ℕ))). unwrap_or o []) none in
       let word : word_at rows t k ≡ None = ap (λ (r : List (Option ℕ)). word_in r k) row in
       cc)
 ]
@@ -211,7 +211,7 @@ sound_more : (p : ProfileName) (memory : ℕ) (f : Forest Entry) (thread : ℕ) 
     ((s : ℕ) → (cap_at f s ≡ Null) ⊎ IsLawful p memory (cap_at f s)) → AreFullSlots f filled →
     IsSearch p f thread filled (rows ++ row ∷ []) → RowSpreads p row (length rows) filled count rows rows' →
     (t k w : ℕ) (u : FullSlot) → word_at rows' t k ≡ Some w → slice_get filled k ≡ Some u →
-    (rest : ℕ) → rest < 2 ^ t → leads p f thread (w + rest) ≡ goes_on p f t u.address rest
+    (rest : ℕ) → rest < 2 ^ t → leads p f thread (w + rest) ≡ found_from p f t u.address rest
 sound_more p memory f thread filled rows rows' row count all are was s t k w u e is rest low = elim (s.only t k w e) [
   | inl old ↦ was.sound t k w u (front_word rows row t k (within_rows rows t k w old) ∙ old) is rest low
   | inr new ↦ (let next = new.1.next in
@@ -220,7 +220,7 @@ sound_more p memory f thread filled rows rows' row count all are was s t k w u e
       let to_is : u.cap ≡ cap_at f u.address = are.holds k u is in
       let n : IsNext p (cap_at f new.1.from.address) (length rows) new.1.word u.address (cap_at f u.address) t w = rw (same, from_is, to_is) at next.1.1 in
       let b = before p memory f all new.1.from.address (length rows) new.1.word u.address t w n rest low in
-      let led : leads p f thread (new.1.word + b.behind) ≡ goes_on p f (length rows) new.1.from.address b.behind =
+      let led : leads p f thread (new.1.word + b.behind) ≡ found_from p f (length rows) new.1.from.address b.behind =
       was.sound (length rows) new.0 new.1.word new.1.from (last_word rows row new.0 ∙ new.1.entered) new.1.holds b.behind b.below in
       rw b.sum (led ∙ b.leads))
 ]
@@ -228,7 +228,7 @@ sound_more p memory f thread filled rows rows' row count all are was s t k w u e
 whole_through : (p : ProfileName) (f : Forest Entry) (filled : List FullSlot) (rows rows' : List (List (Option ℕ))) (row : List (Option ℕ)) (left : ℕ) → AreFullSlots f filled →
     RowSpreads p row left filled (length filled) rows rows' → (word slot place least k : ℕ) (at to : FullSlot) →
     slice_get filled place ≡ Some at → word_in row place ≡ Some least → (th : Through p f at.address left least word slot) →
-    slice_get filled k ≡ Some to → to.address ≡ th.there → StandsFor p f filled rows' word slot
+    slice_get filled k ≡ Some to → to.address ≡ th.there → EntryStandsFor p f filled rows' word slot
 whole_through p f filled rows rows' row left are s word slot place least k at to holds entry th found there =
     let from_is : at.cap ≡ cap_at f at.address = are.holds place at holds in
     let to_is : to.cap ≡ cap_at f to.address = are.holds k to found in
@@ -240,8 +240,8 @@ whole_through p f filled rows rows' row left are s word slot place least k at to
 whole_last : (p : ProfileName) (memory : ℕ) (f : Forest Entry) (filled : List FullSlot) (rows rows' : List (List (Option ℕ))) (row : List (Option ℕ)) (left : ℕ) →
     ((s : ℕ) → (cap_at f s ≡ Null) ⊎ IsLawful p memory (cap_at f s)) → AreFullSlots f filled → 0 < left →
     RowSpreads p row left filled (length filled) rows rows' → (word slot place least : ℕ) (at : FullSlot) → is_full slot f ≡ true →
-    slice_get filled place ≡ Some at → word_in row place ≡ Some least → goes_on p f left at.address word ≡ Ok slot → least + word % 2 ^ left ≤ word →
-    StandsFor p f filled rows' word slot
+    slice_get filled place ≡ Some at → word_in row place ≡ Some least → found_from p f left at.address word ≡ Ok slot → least + word % 2 ^ left ≤ word →
+    EntryStandsFor p f filled rows' word slot
 whole_last p memory f filled rows rows' row left all are some s word slot place least at full holds entry goes low =
     let th = through p memory f all at.address left least word slot some goes full low in
     let found = are.all th.there th.full in
@@ -250,7 +250,7 @@ whole_last p memory f filled rows rows' row left all are some s word slot place 
 whole_more : (p : ProfileName) (memory : ℕ) (f : Forest Entry) (filled : List FullSlot) (rows rows' : List (List (Option ℕ))) (row : List (Option ℕ)) →
     ((s : ℕ) → (cap_at f s ≡ Null) ⊎ IsLawful p memory (cap_at f s)) → AreFullSlots f filled → 0 < length rows →
     RowSpreads p row (length rows) filled (length filled) rows rows' → (word slot : ℕ) → is_full slot f ≡ true →
-    StandsFor p f filled (rows ++ row ∷ []) word slot → StandsFor p f filled rows' word slot
+    EntryStandsFor p f filled (rows ++ row ∷ []) word slot → EntryStandsFor p f filled rows' word slot
 whole_more p memory f filled rows rows' row all are some s word slot full st = elim (cases_lt st.left (length rows)) [
   | inl early ↦ (let kept = s.kept st.left st.place st.least (sym (front_word rows row st.left st.place early) ∙ st.noted) in
       record { left = st.left; place = st.place; least = kept.0; at = st.at; noted = kept.1.1; holds = st.holds; low = omega (arith, kept.1.0, st.low); leads = st.leads })
@@ -275,18 +275,18 @@ popped_words p all rows row e bounded k w is =
     let b : IsBounded p (rows ++ row ∷ []) = rw e at bounded in
     b (length rows) k w (last_word rows row k ∙ is)
 
-pub popped_width : (all rows : List (List (Option ℕ))) (row : List (Option ℕ)) (n : ℕ) → all ≡ rows ++ row ∷ [] → IsWide n all → length row ≤ n
+pub popped_width : (all rows : List (List (Option ℕ))) (row : List (Option ℕ)) (n : ℕ) → all ≡ rows ++ row ∷ [] → IsWideTable n all → length row ≤ n
 popped_width all rows row n e wide =
-    let w : IsWide n (rows ++ row ∷ []) = rw e at wide in
-    let last : row_at (rows ++ row ∷ []) (length rows) ≡ row = ap (λ (o : Option (List (Option ℕ))). unwrap_or o []) (last_row rows row) in
-    let same : length (row_at (rows ++ row ∷ []) (length rows)) ≡ length row = ap length last in
+    let w : IsWideTable n (rows ++ row ∷ []) = rw e at wide in
+    let last : left_row (rows ++ row ∷ []) (length rows) ≡ row = ap (λ (o : Option (List (Option ℕ))). unwrap_or o []) (last_row rows row) in
+    let same : length (left_row (rows ++ row ∷ []) (length rows)) ≡ length row = ap length last in
     elim (w (length rows)) [ inl none ↦ omega (arith, same, none) | inr is ↦ omega (arith, same, is) ]
 
-pub popped_wide : (all rows : List (List (Option ℕ))) (row : List (Option ℕ)) (n : ℕ) → all ≡ rows ++ row ∷ [] → IsWide n all → IsWide n rows
+pub popped_wide : (all rows : List (List (Option ℕ))) (row : List (Option ℕ)) (n : ℕ) → all ≡ rows ++ row ∷ [] → IsWideTable n all → IsWideTable n rows
 popped_wide all rows row n e wide t =
-    let w : IsWide n (rows ++ row ∷ []) = rw e at wide in
+    let w : IsWideTable n (rows ++ row ∷ []) = rw e at wide in
     elim (cases_lt t (length rows)) [
-      | inl h ↦ (let front : row_at (rows ++ row ∷ []) t ≡ row_at rows t = ap (λ (o : Option (List (Option ℕ))). unwrap_or o []) (front_row rows (row ∷ []) t h) in rw front at (w t))
+      | inl h ↦ (let front : left_row (rows ++ row ∷ []) t ≡ left_row rows t = ap (λ (o : Option (List (Option ℕ))). unwrap_or o []) (front_row rows (row ∷ []) t h) in rw front at (w t))
       | inr past ↦ inl (ap length (ap (λ (o : Option (List (Option ℕ))). unwrap_or o []) (slice_get_past rows t past)))
     ]
 

@@ -16,7 +16,7 @@ use Rattle.query_reach.specs.declared.reached.Reached.{Reached}
 use Rattle.query_reach.specs.FullSlots.{AreFullSlots}
 use Rattle.query_reach.specs.declared.senders.Channel.{Channel}
 use Rattle.query_reach.specs.Endpoints.{endpoint_word, endpoint_words}
-use Rattle.query_reach.specs.Channels.{is_sender, others, channel, channels_of, channels}
+use Rattle.query_reach.specs.Channels.{sends_by_word, other_words, channel, channels_of, channels}
 
 pub no_endpoint : (thread word : ℕ) (cap : Cap) → ((base : ℕ) (badge : Badge) (rights : Rights) → cap ≡ Endpoint base badge rights → ⊥) → endpoint_word thread word cap ≡ None
 no_endpoint thread word Null none = refl
@@ -53,20 +53,20 @@ words_none f thread list i d out h e e' =
 
 -- one receiver more
 others_more : (thread : ℕ) (list : List EndpointWord) (i : ℕ) (d : EndpointWord) → i < length list →
-    others thread (take (i + 1) list) ≡ others thread (take i list) ++ cond (not ((get_or list i d).thread == thread)) (get_or list i d ∷ []) []
+    other_words thread (take (i + 1) list) ≡ other_words thread (take i list) ++ cond (not ((get_or list i d).thread == thread)) (get_or list i d ∷ []) []
 others_more thread list i d h =
-    ap (others thread) (take_more list i d h) ∙ filter-append (λ (v : EndpointWord). not (v.thread == thread)) (take i list) (get_or list i d ∷ [])
+    ap (other_words thread) (take_more list i d h) ∙ filter-append (λ (v : EndpointWord). not (v.thread == thread)) (take i list) (get_or list i d ∷ [])
 
 others_same : (thread : ℕ) (list : List EndpointWord) (i : ℕ) (d : EndpointWord) → i < length list → (get_or list i d).thread ≡ thread →
-    others thread (take (i + 1) list) ≡ others thread (take i list)
+    other_words thread (take (i + 1) list) ≡ other_words thread (take i list)
 others_same thread list i d h e =
     others_more thread list i d h
-    ∙ (ap (λ (b : Bool). others thread (take i list) ++ cond (not b) (get_or list i d ∷ []) []) (eq-eqb (get_or list i d).thread thread e) ∙ append-nil (others thread (take i list)))
+    ∙ (ap (λ (b : Bool). other_words thread (take i list) ++ cond (not b) (get_or list i d ∷ []) []) (eq-eqb (get_or list i d).thread thread e) ∙ append-nil (other_words thread (take i list)))
 
 -- what was added so far
 pub record IsAdded (u : EndpointWord) (old : List Channel) (receivers : List EndpointWord) (count : ℕ) (out : List Channel) (alone : Bool) : Type 0 where
-  pub added : out ≡ old ++ map (λ (w : EndpointWord). channel u (Some w)) (others u.thread (take count receivers))
-  pub alone_is : alone ≡ (length (others u.thread (take count receivers)) == 0)
+  pub added : out ≡ old ++ map (λ (w : EndpointWord). channel u (Some w)) (other_words u.thread (take count receivers))
+  pub alone_is : alone ≡ (length (other_words u.thread (take count receivers)) == 0)
 
 pub all_of : {X : Type 0} (list : List X) (n : ℕ) → length list ≤ n → take n list ≡ list
 all_of [] zero h = refl
@@ -74,5 +74,5 @@ all_of [] (suc n) h = refl
 all_of (x ∷ list) zero h = absurd (omega arith)
 all_of (x ∷ list) (suc n) h = ap (λ (l : List _). x ∷ l) (all_of list n (omega arith))
 
-pub senders_all : (words : List EndpointWord) (n : ℕ) (out : List Channel) → length words ≤ n → out ≡ flat_map (channels_of words) (filter is_sender (take n words)) → out ≡ channels words
-senders_all words n out h e = e ∙ ap (λ (l : List EndpointWord). flat_map (channels_of words) (filter is_sender l)) (all_of words n h)
+pub senders_all : (words : List EndpointWord) (n : ℕ) (out : List Channel) → length words ≤ n → out ≡ flat_map (channels_of words) (filter sends_by_word (take n words)) → out ≡ channels words
+senders_all words n out h e = e ∙ ap (λ (l : List EndpointWord). flat_map (channels_of words) (filter sends_by_word l)) (all_of words n h)

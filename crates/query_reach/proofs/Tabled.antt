@@ -9,7 +9,7 @@ use Rattle.cap_core.specs.declared.profile.ProfileName.{ProfileName}
 use Rattle.cap_core.specs.declared.capability.Cap.{Cap}
 use Rattle.query_reach.specs.declared.filled.FullSlot.{FullSlot}
 use Rattle.query_reach.specs.Private.Nodes.{IsNext}
-use Rattle.query_reach.specs.Private.Tables.{word_in, row_at, word_at, least_with, noted_in, noted, AreEmpty, IsWide, IsAtMost, SameShape, IsOpened, IsNoted, IsFirst}
+use Rattle.query_reach.specs.Private.Tables.{word_in, left_row, word_at, least_with, noted_in, noted, AreEmpty, IsWideTable, IsAtMost, SameShape, IsRowOpened, IsNoted, IsFirstTable}
 use Rattle.query_reach.specs.Private.Search.{IsNextAt, Visits, Spreads, RowSpreads}
 use Rattle.query_reach.proofs.FullSlots.{none_in}
 
@@ -30,27 +30,27 @@ pub note_is : {A : Type 0} (items : A → List (Option ℕ)) (rows : List A) (le
     items row' ≡ noted_in (items row) place word → map items (set rows left row') ≡ noted (map items rows) left place word
 note_is items rows left place word row row' h read e =
     let there : slice_get (map items rows) left ≡ Some (items row) = slice_get-map items rows left ∙ ap (option_map items) (slice_get_read rows (length rows) left row refl h read) in
-    let row_is : row_at (map items rows) left ≡ items row = ap (λ (o : Option (List (Option ℕ))). unwrap_or o []) there in
+    let row_is : left_row (map items rows) left ≡ items row = ap (λ (o : Option (List (Option ℕ))). unwrap_or o []) there in
     map-set items rows left row' ∙ ap (set (map items rows) left) (e ∙ ap (λ (r : List (Option ℕ)). noted_in r place word) (sym row_is))
 
-row-set_same : (rows : List (List (Option ℕ))) (left : ℕ) (row : List (Option ℕ)) → left < length rows → row_at (set rows left row) left ≡ row
+row-set_same : (rows : List (List (Option ℕ))) (left : ℕ) (row : List (Option ℕ)) → left < length rows → left_row (set rows left row) left ≡ row
 row-set_same rows left row h = ap (λ (o : Option (List (Option ℕ))). unwrap_or o []) (slice_get-set_same rows left row h)
 
-row-set_other : (rows : List (List (Option ℕ))) (left t : ℕ) (row : List (Option ℕ)) → t ≢ left → row_at (set rows left row) t ≡ row_at rows t
+row-set_other : (rows : List (List (Option ℕ))) (left t : ℕ) (row : List (Option ℕ)) → t ≢ left → left_row (set rows left row) t ≡ left_row rows t
 row-set_other rows left t row h = ap (λ (o : Option (List (Option ℕ))). unwrap_or o []) (slice_get-set_other rows left t row h)
 
 -- the three facts of a note
-noted_there : (rows : List (List (Option ℕ))) (left place word : ℕ) → left < length rows → place < length (row_at rows left) →
+noted_there : (rows : List (List (Option ℕ))) (left place word : ℕ) → left < length rows → place < length (left_row rows left) →
     word_at (noted rows left place word) left place ≡ Some (least_with word (word_at rows left place))
-noted_there rows left place word h h' = rw (row-set_same rows left (noted_in (row_at rows left) place word) h, slice_get-set_same (row_at rows left) place (Some (least_with word (word_at rows left place))) h') refl
+noted_there rows left place word h h' = rw (row-set_same rows left (noted_in (left_row rows left) place word) h, slice_get-set_same (left_row rows left) place (Some (least_with word (word_at rows left place))) h') refl
 
 noted_beside : (rows : List (List (Option ℕ))) (left place word k : ℕ) → left < length rows → k ≢ place →
     word_at (noted rows left place word) left k ≡ word_at rows left k
-noted_beside rows left place word k h ne = rw (row-set_same rows left (noted_in (row_at rows left) place word) h, slice_get-set_other (row_at rows left) place k (Some (least_with word (word_at rows left place))) ne) refl
+noted_beside rows left place word k h ne = rw (row-set_same rows left (noted_in (left_row rows left) place word) h, slice_get-set_other (left_row rows left) place k (Some (least_with word (word_at rows left place))) ne) refl
 
 noted_elsewhere : (rows : List (List (Option ℕ))) (left place word t k : ℕ) → t ≢ left →
     word_at (noted rows left place word) t k ≡ word_at rows t k
-noted_elsewhere rows left place word t k ne = ap (λ (r : List (Option ℕ)). word_in r k) (row-set_other rows left t (noted_in (row_at rows left) place word) ne)
+noted_elsewhere rows left place word t k ne = ap (λ (r : List (Option ℕ)). word_in r k) (row-set_other rows left t (noted_in (left_row rows left) place word) ne)
 
 least-below : (word : ℕ) (known : Option ℕ) → least_with word known ≤ word
 least-below word None = omega arith
@@ -66,7 +66,7 @@ least-keeps : (word v : ℕ) (known : Option ℕ) → known ≡ Some v → least
 least-keeps word v None e = cc
 least-keeps word v (Some old) e = let s : old ≡ v = cc in omega arith
 
-pub noted-kept : (rows : List (List (Option ℕ))) (left place word : ℕ) → left < length rows → place < length (row_at rows left) →
+pub noted-kept : (rows : List (List (Option ℕ))) (left place word : ℕ) → left < length rows → place < length (left_row rows left) →
     (t k w : ℕ) → word_at rows t k ≡ Some w → IsAtMost (noted rows left place word) t k w
 noted-kept rows left place word h h' t k w e = elim (cases_eq t left) [
   | inr ne ↦ (w, (omega arith, noted_elsewhere rows left place word t k ne ∙ e))
@@ -77,7 +77,7 @@ noted-kept rows left place word h h' t k w e = elim (cases_eq t left) [
   ]
 ]
 
-pub noted-only : (rows : List (List (Option ℕ))) (left place word : ℕ) → left < length rows → place < length (row_at rows left) →
+pub noted-only : (rows : List (List (Option ℕ))) (left place word : ℕ) → left < length rows → place < length (left_row rows left) →
     (t k w : ℕ) → word_at (noted rows left place word) t k ≡ Some w → (word_at rows t k ≡ Some w) ⊎ ((t ≡ left) × ((k ≡ place) × (w ≡ word)))
 noted-only rows left place word h h' t k w e = elim (cases_eq t left) [
   | inr ne ↦ inl (sym (noted_elsewhere rows left place word t k ne) ∙ e)
@@ -90,7 +90,7 @@ noted-only rows left place word h h' t k w e = elim (cases_eq t left) [
   ]
 ]
 
-pub noted-at : (rows : List (List (Option ℕ))) (left place word : ℕ) → left < length rows → place < length (row_at rows left) →
+pub noted-at : (rows : List (List (Option ℕ))) (left place word : ℕ) → left < length rows → place < length (left_row rows left) →
     IsAtMost (noted rows left place word) left place word
 noted-at rows left place word h h' = (least_with word (word_at rows left place), (least-below word (word_at rows left place), noted_there rows left place word h h'))
 
@@ -98,19 +98,19 @@ width-same : (row row' : List (Option ℕ)) (width : ℕ) → length row' ≡ le
 width-same row row' width e (inl h) = inl (e ∙ h)
 width-same row row' width e (inr h) = inr (e ∙ h)
 
-noted-width : (rows : List (List (Option ℕ))) (left place word t : ℕ) → left < length rows → length (row_at (noted rows left place word) t) ≡ length (row_at rows t)
+noted-width : (rows : List (List (Option ℕ))) (left place word t : ℕ) → left < length rows → length (left_row (noted rows left place word) t) ≡ length (left_row rows t)
 noted-width rows left place word t h = elim (cases_eq t left) [
-  | inr ne ↦ ap length (row-set_other rows left t (noted_in (row_at rows left) place word) ne)
-  | inl is ↦ rw is (ap length (row-set_same rows left (noted_in (row_at rows left) place word) h) ∙ length-set (row_at rows left) place (Some (least_with word (word_at rows left place))))
+  | inr ne ↦ ap length (row-set_other rows left t (noted_in (left_row rows left) place word) ne)
+  | inl is ↦ rw is (ap length (row-set_same rows left (noted_in (left_row rows left) place word) h) ∙ length-set (left_row rows left) place (Some (least_with word (word_at rows left place))))
 ]
 
-noted-shape : (rows : List (List (Option ℕ))) (left place word width : ℕ) → left < length rows → IsWide width rows → SameShape width rows (noted rows left place word)
+noted-shape : (rows : List (List (Option ℕ))) (left place word width : ℕ) → left < length rows → IsWideTable width rows → SameShape width rows (noted rows left place word)
 noted-shape rows left place word width h wide = record {
-  height = length-set rows left (noted_in (row_at rows left) place word);
-  wide = λ t. width-same (row_at rows t) (row_at (noted rows left place word) t) width (noted-width rows left place word t h) (wide t);
+  height = length-set rows left (noted_in (left_row rows left) place word);
+  wide = λ t. width-same (left_row rows t) (left_row (noted rows left place word) t) width (noted-width rows left place word t h) (wide t);
 }
 
-pub same_shape : (rows : List (List (Option ℕ))) (width : ℕ) → IsWide width rows → SameShape width rows rows
+pub same_shape : (rows : List (List (Option ℕ))) (width : ℕ) → IsWideTable width rows → SameShape width rows rows
 same_shape rows width wide = record { height = refl; wide = wide }
 
 pub shapes : (a b c : List (List (Option ℕ))) (width : ℕ) → SameShape width a b → SameShape width b c → SameShape width a c
@@ -121,36 +121,36 @@ no_word : (row : List (Option ℕ)) (k : ℕ) → length row ≡ 0 → word_in r
 no_word [] k e = refl
 no_word (word ∷ row) k e = absurd (omega arith)
 
-opened : (rows : List (List (Option ℕ))) (left width : ℕ) → left < length rows → length (row_at rows left) ≡ 0 → IsWide width rows →
-    IsOpened left width rows (set rows left (replicate width None))
+opened : (rows : List (List (Option ℕ))) (left width : ℕ) → left < length rows → length (left_row rows left) ≡ 0 → IsWideTable width rows →
+    IsRowOpened left width rows (set rows left (replicate width None))
 opened rows left width h none wide = record {
   shape = record {
     height = length-set rows left (replicate width None);
     wide = λ t. elim (cases_eq t left) [
-      | inr ne ↦ width-same (row_at rows t) (row_at (set rows left (replicate width None)) t) width (ap length (row-set_other rows left t (replicate width None) ne)) (wide t)
+      | inr ne ↦ width-same (left_row rows t) (left_row (set rows left (replicate width None)) t) width (ap length (row-set_other rows left t (replicate width None) ne)) (wide t)
       | inl is ↦ inr (rw is (ap length (row-set_same rows left (replicate width None) h) ∙ length-replicate width None))
     ];
   };
   places = ap length (row-set_same rows left (replicate width None) h) ∙ length-replicate width None;
   words = λ t k. elim (cases_eq t left) [
     | inr ne ↦ ap (λ (r : List (Option ℕ)). word_in r k) (row-set_other rows left t (replicate width None) ne)
-    | inl is ↦ rw is (ap (λ (r : List (Option ℕ)). word_in r k) (row-set_same rows left (replicate width None) h) ∙ (none_in width k ∙ sym (no_word (row_at rows left) k none)))
+    | inl is ↦ rw is (ap (λ (r : List (Option ℕ)). word_in r k) (row-set_same rows left (replicate width None) h) ∙ (none_in width k ∙ sym (no_word (left_row rows left) k none)))
   ];
 }
 
-row_read : {A : Type 0} (items : A → List (Option ℕ)) (rows : List A) (left : ℕ) (row : A) → left < length rows → row ≡ get_or rows left row → row_at (map items rows) left ≡ items row
+row_read : {A : Type 0} (items : A → List (Option ℕ)) (rows : List A) (left : ℕ) (row : A) → left < length rows → row ≡ get_or rows left row → left_row (map items rows) left ≡ items row
 row_read items rows left row h read =
     let there : slice_get (map items rows) left ≡ Some (items row) = slice_get-map items rows left ∙ ap (option_map items) (slice_get_read rows (length rows) left row refl h read) in
     ap (λ (o : Option (List (Option ℕ))). unwrap_or o []) there
 
 pub open_is : {A : Type 0} (items : A → List (Option ℕ)) (rows : List A) (left width : ℕ) (row row' : A) → left < length rows → row ≡ get_or rows left row →
-    length (items row) ≡ 0 → items row' ≡ replicate width None → IsWide width (map items rows) → IsOpened left width (map items rows) (map items (set rows left row'))
+    length (items row) ≡ 0 → items row' ≡ replicate width None → IsWideTable width (map items rows) → IsRowOpened left width (map items rows) (map items (set rows left row'))
 open_is items rows left width row row' h read none e wide =
     let m : length (map items rows) ≡ length rows = rw length-map refl in
     rw (map-set items rows left row', e) (opened (map items rows) left width (omega arith) (ap length (row_read items rows left row h read) ∙ none) wide)
 
 pub open_already : {A : Type 0} (items : A → List (Option ℕ)) (rows : List A) (left width : ℕ) (row : A) → left < length rows → row ≡ get_or rows left row →
-    (length (items row) ≡ 0 → ⊥) → IsWide width (map items rows) → IsOpened left width (map items rows) (map items rows)
+    (length (items row) ≡ 0 → ⊥) → IsWideTable width (map items rows) → IsRowOpened left width (map items rows) (map items rows)
 open_already items rows left width row h read some wide = record {
   shape = record { height = refl; wide = wide };
   places = elim (wide left) [
@@ -161,11 +161,11 @@ open_already items rows left width row h read some wide = record {
 }
 
 -- and in which a word is noted
-pub noted_opened : (old mid : List (List (Option ℕ))) (left width place word : ℕ) → IsOpened left width old mid → left < length old → place < width →
+pub noted_opened : (old mid : List (List (Option ℕ))) (left width place word : ℕ) → IsRowOpened left width old mid → left < length old → place < width →
     IsNoted left place word old (noted mid left place word)
 noted_opened old mid left width place word o h low =
     let h' : left < length mid = omega (arith, h, o.shape.height) in
-    let low' : place < length (row_at mid left) = omega (arith, low, o.places) in
+    let low' : place < length (left_row mid left) = omega (arith, low, o.places) in
     record {
       kept = λ t k w e. noted-kept mid left place word h' low' t k w (o.words t k ∙ e);
       only = λ t k w e. elim (noted-only mid left place word h' low' t k w e) [
@@ -175,17 +175,17 @@ noted_opened old mid left width place word o h low =
       there = noted-at mid left place word h' low';
     }
 
-pub shape_opened : (old mid : List (List (Option ℕ))) (left width place word : ℕ) → IsOpened left width old mid → left < length old →
+pub shape_opened : (old mid : List (List (Option ℕ))) (left width place word : ℕ) → IsRowOpened left width old mid → left < length old →
     SameShape width old (noted mid left place word)
 shape_opened old mid left width place word o h =
     let s = noted-shape mid left place word width (omega (arith, h, o.shape.height)) o.shape.wide in
     record { height = s.height ∙ o.shape.height; wide = s.wide }
 
 -- the first note of a table
-pub empty_wide : (width : ℕ) (rows : List (List (Option ℕ))) → AreEmpty rows → IsWide width rows
+pub empty_wide : (width : ℕ) (rows : List (List (Option ℕ))) → AreEmpty rows → IsWideTable width rows
 empty_wide width rows empty t = inl (ap length (empty t))
 
-pub first_noted : (left width place : ℕ) (old new : List (List (Option ℕ))) → AreEmpty old → SameShape width old new → IsNoted left place 0 old new → IsFirst left width place new
+pub first_noted : (left width place : ℕ) (old new : List (List (Option ℕ))) → AreEmpty old → SameShape width old new → IsNoted left place 0 old new → IsFirstTable left width place new
 first_noted left width place old new empty shape n = record {
   wide = shape.wide;
   there = (let zero : n.there.0 ≡ 0 = (let low = n.there.1.0 in omega arith) in rw zero at n.there.1.1);

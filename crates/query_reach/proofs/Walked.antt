@@ -11,7 +11,7 @@ use Rattle.query_reach.specs.declared.chains.chain.Target.{Target}
 use Rattle.query_reach.specs.FullSlots.{AreFullSlots}
 use Rattle.query_reach.specs.Chain.{IsFullSlot, LeadsOn, IsChain, IsShortest}
 use Rattle.kernel_delete.specs.Members.{In}
-use Rattle.query_reach.specs.Private.Layers.{IsLaid, layer_at, is_sought_at, is_sought_in, HasNone, IsFirst, IsLaidOut, IsRun, IsRunFrom}
+use Rattle.query_reach.specs.Private.Layers.{IsLaid, layer_at, is_sought_at, is_sought_in, HasNoneSought, IsFirstLayer, IsInLayers, IsLayerRun, IsRunFrom}
 use Rattle.kernel_delete.proofs.Members.{any_in, tells}
 use Rattle.query_reach.proofs.Filtered.{in_filter, of_filter, get_in, in_get}
 use Rattle.query_reach.proofs.Laid.{UpTo, up_to_at, layer_within, in_first, one_more, laid_first, laid_in}
@@ -74,22 +74,22 @@ module _ (p : ProfileName) (f : Forest Entry) (root : ℕ) (target : Target) (fi
         ),
       )
 
-  pub none_found : HasNone p target ls (length ls) → IsShortest p f target root []
+  pub none_found : HasNoneSought p target ls (length ls) → IsShortest p f target root []
   none_found none other is =
       let at = shown other is in
       false≢true (sym (none at.0 at.1.1.0) ∙ at.1.1.1)
 
-  run_full : (s : FullSlot) → IsLaidOut ls s → IsFullSlot f s
+  run_full : (s : FullSlot) → IsInLayers ls s → IsFullSlot f s
   run_full s i = elim (laid_in p ls (filter (λ (u : FullSlot). u.address == root) filled) (filter (λ (u : FullSlot). not (u.address == root)) filled) laid i.0 s i.1) [
     | inl here ↦ listed f filled are s (of_filter (λ (u : FullSlot). u.address == root) filled s here).0
     | inr there ↦ listed f filled are s (of_filter (λ (u : FullSlot). not (u.address == root)) filled s there).0
   ]
 
-  run_leads : (s : FullSlot) (more : List FullSlot) → IsRun p target ls s more → LeadsOn p f target s more
+  run_leads : (s : FullSlot) (more : List FullSlot) → IsLayerRun p target ls s more → LeadsOn p f target s more
   run_leads s [] run = (run_full s run.0, run.1)
   run_leads s (t ∷ more) run = (run_full s run.0, (run.1.0, run_leads t more run.1.1))
 
-  pub found : (depth : ℕ) (end : FullSlot) → IsFirst p target ls depth end → (chain : List FullSlot) → IsRunFrom p target ls 0 depth chain →
+  pub found : (depth : ℕ) (end : FullSlot) → IsFirstLayer p target ls depth end → (chain : List FullSlot) → IsRunFrom p target ls 0 depth chain →
       IsShortest p f target root chain
   found depth end is [] run = absurd run
   found depth end is (s ∷ more) run = (

@@ -7,8 +7,8 @@ use Rattle.query_reach.specs.declared.endpoints.EndpointWord.{EndpointWord}
 use Rattle.query_reach.specs.declared.senders.Channel.{Channel}
 
 -- a word by which its thread may send; one by which it may receive from an endpoint
-abbrev pub is_sender : EndpointWord → Bool
-is_sender u = has_right write_bit u.rights
+abbrev pub sends_by_word : EndpointWord → Bool
+sends_by_word u = has_right write_bit u.rights
 
 abbrev pub is_receiver : ℕ → EndpointWord → Bool
 is_receiver e v = (v.endpoint == e) && has_right read_bit v.rights
@@ -18,8 +18,8 @@ abbrev pub receivers : List EndpointWord → ℕ → List EndpointWord
 receivers words e = dedup (λ (v w : EndpointWord). v.thread == w.thread) (filter (is_receiver e) words)
 
 -- a sender's channels are to all receivers but its own thread; without these there is one to nobody
-abbrev pub others : ℕ → List EndpointWord → List EndpointWord
-others thread list = filter (λ (v : EndpointWord). not (v.thread == thread)) list
+abbrev pub other_words : ℕ → List EndpointWord → List EndpointWord
+other_words thread list = filter (λ (v : EndpointWord). not (v.thread == thread)) list
 
 abbrev pub channel : EndpointWord → Option EndpointWord → Channel
 channel u v = record { sender = u; receiver = v }
@@ -29,17 +29,17 @@ channels_to u [] = channel u None ∷ []
 channels_to u (v ∷ list) = map (λ (w : EndpointWord). channel u (Some w)) (v ∷ list)
 
 abbrev pub channels_of : List EndpointWord → EndpointWord → List Channel
-channels_of words u = channels_to u (others u.thread (receivers words u.endpoint))
+channels_of words u = channels_to u (other_words u.thread (receivers words u.endpoint))
 
 -- all channels between the threads whose words are listed, in the order of the senders
 abbrev pub channels : List EndpointWord → List Channel
-channels words = flat_map (channels_of words) (filter is_sender words)
+channels words = flat_map (channels_of words) (filter sends_by_word words)
 
 -- a word by which another thread may send to a receiver
-abbrev pub sends_to : EndpointWord → EndpointWord → Bool
-sends_to v u = is_sender u && ((u.endpoint == v.endpoint) && not (u.thread == v.thread))
+abbrev pub is_sender_to : EndpointWord → EndpointWord → Bool
+is_sender_to v u = sends_by_word u && ((u.endpoint == v.endpoint) && not (u.thread == v.thread))
 
 -- the receivers of an endpoint to which no other thread may send
 abbrev pub receivers_without_sender : List EndpointWord → ℕ → List EndpointWord
 receivers_without_sender words e =
-    filter (λ (v : EndpointWord). not (list_any (sends_to v) words)) (receivers words e)
+    filter (λ (v : EndpointWord). not (list_any (is_sender_to v) words)) (receivers words e)

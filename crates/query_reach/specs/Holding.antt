@@ -31,7 +31,7 @@ IsNoLater word depth index word' depth' index' =
 
 -- a list of held slots is that of a thread: each entry's word, depth and index name its slot, to which no word leads; each such
 -- slot has an entry; no word, depth and index in front of an entry's name its slot; no slot has two entries; and they rise
-pub record AreHeld (p : ProfileName) (f : Forest Entry) (thread : ℕ) (list : List Held) : Type 0 where
+pub record AreHeldSlots (p : ProfileName) (f : Forest Entry) (thread : ℕ) (list : List Held) : Type 0 where
   pub sound : (h : Held) → Contains list h →
       (h.word < 2 ^ word_bits p) × ((h.index < 2 ^ h.depth) × (Names p f thread h.word h.depth h.index h.slot × IsUnreached p f thread h.slot))
   pub whole : (word depth index slot : ℕ) → word < 2 ^ word_bits p → Names p f thread word depth index slot → IsUnreached p f thread slot →

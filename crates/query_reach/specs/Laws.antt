@@ -22,9 +22,9 @@ use Rattle.kernel_abstract.specs.Step.{step, state_after}
 use Rattle.query_reach.specs.Reaching.{Reaches}
 
 -- an endpoint capability with a right; the same, of one endpoint
-abbrev pub allows : ℕ → Cap → Bool
-allows right (Endpoint base badge rights) = has_right right rights
-allows right cap = false
+abbrev pub endpoint_allows : ℕ → Cap → Bool
+endpoint_allows right (Endpoint base badge rights) = has_right right rights
+endpoint_allows right cap = false
 
 abbrev pub allows_to : ℕ → ℕ → Cap → Bool
 allows_to right e (Endpoint base badge rights) = base == e && has_right right rights
@@ -41,12 +41,12 @@ IsRefused p A thread op = (refusal : Refusal) × ((step p A (record { thread = t
 
 -- a thread that reaches no endpoint capability with Write is refused every send, by whatever word
 abbrev pub IsRefusedSends : ProfileName → State → ℕ → Type 0
-IsRefusedSends p A thread = ReachesNo p A.derivations thread (allows write_bit) →
+IsRefusedSends p A thread = ReachesNo p A.derivations thread (endpoint_allows write_bit) →
     (word : ℕ) (message : Message) → IsRefused p A thread (Send word message) × IsRefused p A thread (NbSend word message)
 
 -- one that reaches none with Read is refused every receive
 abbrev pub IsRefusedReceives : ProfileName → State → ℕ → Type 0
-IsRefusedReceives p A thread = ReachesNo p A.derivations thread (allows read_bit) →
+IsRefusedReceives p A thread = ReachesNo p A.derivations thread (endpoint_allows read_bit) →
     (word : ℕ) → IsRefused p A thread (Recv word) × IsRefused p A thread (NbRecv word)
 
 -- of one endpoint: a thread that reaches no capability of it with Write has no send accepted that is one to it, and so for

@@ -11,7 +11,7 @@ use Rattle.query_reach.specs.declared.held.Held.{Held}
 use Rattle.query_reach.specs.declared.reached.Reached.{Reached}
 use Rattle.query_reach.specs.Reaching.{leads}
 use Rattle.query_reach.specs.Lists.{AreReached}
-use Rattle.query_reach.specs.Holding.{AreHeld}
+use Rattle.query_reach.specs.Holding.{AreHeldSlots}
 
 -- the words of an operation that are looked up in the capability space of its thread
 abbrev pub words_of : Op → List ℕ
@@ -71,5 +71,5 @@ IsTold reached held slot =
 
 -- each full slot that one operation of a thread names is in one of its lists
 abbrev pub AreAllThatAreNamed : ProfileName → Forest Entry → ℕ → List Reached → List Held → Type 0
-AreAllThatAreNamed p f thread reached held = AreReached p f thread reached → AreHeld p f thread held →
+AreAllThatAreNamed p f thread reached held = AreReached p f thread reached → AreHeldSlots p f thread held →
     (op : Op) (slot : ℕ) → is_full slot f ≡ true → NamesSlot p f thread op slot → IsTold reached held slot

@@ -8,7 +8,7 @@ ghost use Rattle.kernel_forest.specs.Entries.{Entry};
 ghost use Rattle.query_reach.specs.declared.paths.Path.{Path as PathOf};
 ghost use Rattle.query_reach.specs.FullSlots.{AreFullSlots, AreLawful, AreRising};
 ghost use Rattle.query_reach.specs.Private.Paths.{path_at, IsWide, AreWithinBits};
-ghost use Rattle.query_reach.specs.Private.Exploring.{IsStep, Extends, ExtendsRow, IsExplored, AreStarts};
+ghost use Rattle.query_reach.specs.Private.Exploring.{IsStep, ExtendsExplored, ExtendsRow, IsSpaceExplored, AreStarts};
 
 use crate::filled::FullSlot;
 use crate::nodes::index_in;
@@ -59,7 +59,7 @@ fn extend<P: Profile>(
     requires index { path.index < 2 ^ read }
     requires wide { IsWide (word_bits P.profile + 1) (length filled.now) (map (λ r. r.items) rows.old.items) }
     ensures wide { OnOk result (IsWide (word_bits P.profile + 1) (length filled.now) (map (λ r. r.items) rows.new.items)) }
-    ensures extends { OnOk result (Extends P.profile from read path filled.now (length filled.now) (map (λ r. r.items) rows.old.items) (map (λ r. r.items) rows.new.items)) }
+    ensures extends { OnOk result (ExtendsExplored P.profile from read path filled.now (length filled.now) (map (λ r. r.items) rows.old.items) (map (λ r. r.items) rows.new.items)) }
 {
     let (start, stop) = places_in::<P>(filled, from);
     for place in start..stop {
@@ -110,7 +110,7 @@ pub fn explore<P: Profile>(
     ensures wide { OnOk result (IsWide (word_bits P.profile + 1) (length filled.now) (map (λ r. r.items) rows.new.items)) }
     ensures bits { OnOk result (AreWithinBits (map (λ r. r.items) rows.new.items)) }
     ensures front { OnOk result ((place : ℕ) → path_at (map (λ r. r.items) rows.new.items) 0 place ≡ path_at (map (λ r. r.items) rows.old.items) 0 place) }
-    ensures explored { OnOk result ((f : Forest Entry) → AreFullSlots f filled.now → IsExplored P.profile f filled.now (map (λ r. r.items) rows.old.items) (map (λ r. r.items) rows.new.items) (word_bits P.profile + 1)) }
+    ensures explored { OnOk result ((f : Forest Entry) → AreFullSlots f filled.now → IsSpaceExplored P.profile f filled.now (map (λ r. r.items) rows.old.items) (map (λ r. r.items) rows.new.items) (word_bits P.profile + 1)) }
 {
     for read in 0..rows.len() {
         extend_row::<P>(alloc, filled, read, rows)?;

@@ -8,7 +8,7 @@ ghost use Rattle.query_reach.specs.declared.held.Held.{Held as HeldOf};
 ghost use Rattle.query_reach.specs.declared.filled.FullSlot.{FullSlot as FullSlotOf};
 ghost use Rattle.query_reach.specs.FullSlots.{AreFullSlots, AreLawful, AreRising};
 ghost use Rattle.query_reach.specs.Lists.{AreReached};
-ghost use Rattle.query_reach.specs.Holding.{AreHeld};
+ghost use Rattle.query_reach.specs.Holding.{AreHeldSlots};
 ghost use Rattle.query_reach.specs.Private.Paths.{IsWide};
 ghost use Rattle.query_reach.specs.Private.Exploring.{AreStarts};
 ghost use Rattle.query_reach.specs.Private.Entries.{HasStarts, earlier, IsHeldAt, IsListed, HasEntry, AreDepths};
@@ -162,7 +162,7 @@ pub fn held_slots<P: Profile>(
     requires lawful { AreLawful P.profile filled.now }
     requires rising { AreRising filled.now }
     ensures { IfOk result (λ list. (f : Forest Entry) (thread : ℕ) → AreFullSlots f filled.now → AreReached P.profile f thread reached.now
-        → AreHeld P.profile f thread list.items) }
+        → AreHeldSlots P.profile f thread list.items) }
 {
     let mut rows = start_rows::<P>(alloc, filled, reached)?;
     explore::<P>(alloc, filled, &mut rows)?;

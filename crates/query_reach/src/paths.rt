@@ -1,7 +1,7 @@
 //! The table of a search by index and depth. A row has its places from the first path on that is put in it: few numbers of
 //! bits are ever read.
 ghost use Rattle.std.specs.Prelude.{◌≡◌, ℕ, ◌<◌, length, map, vec_len, IfOk, OnOk, None, replicate};
-ghost use Rattle.query_reach.specs.Private.Paths.{row_of, path_in, path_at, lesser_path, put_in, put, IsWide, IsOpened, IsPut};
+ghost use Rattle.query_reach.specs.Private.Paths.{path_row, path_in, path_at, lesser_path, put_in, put, IsWide, IsOpened, IsPut};
 
 use std::alloc::{AllocError, Global};
 
@@ -38,7 +38,7 @@ fn put_in_row(row: &mut Vec<Option<Path>>, place: usize, path: Path)
 /// Puts a path at a place of the row of a number of bits read, where the row has places.
 fn put_at(rows: &mut Vec<Vec<Option<Path>>>, read: usize, place: usize, path: Path)
     requires read { read < vec_len rows.old }
-    requires place { place < length (row_of (map (λ r. r.items) rows.old.items) read) }
+    requires place { place < length (path_row (map (λ r. r.items) rows.old.items) read) }
     ensures { map (λ r. r.items) rows.new.items ≡ put (map (λ r. r.items) rows.old.items) read place path }
 {
     put_in_row(&mut rows[read], place, path);
@@ -112,7 +112,7 @@ pub fn known_path(rows: &[Vec<Option<Path>>], read: usize, place: usize) -> Opti
 /// How many places the row of a number of bits read has.
 pub fn places_of(rows: &[Vec<Option<Path>>], read: usize) -> usize
     requires { read < length rows.now }
-    ensures { result ≡ length (row_of (map (λ r. r.items) rows.now) read) }
+    ensures { result ≡ length (path_row (map (λ r. r.items) rows.now) read) }
 {
     rows[read].len()
 }

@@ -7,7 +7,7 @@ ghost use Rattle.kernel_forest.specs.Forest.{Forest};
 ghost use Rattle.kernel_forest.specs.Entries.{Entry};
 ghost use Rattle.query_reach.specs.FullSlots.{AreFullSlots, AreLawful, AreRising};
 ghost use Rattle.query_reach.specs.Lists.{AreReached};
-ghost use Rattle.query_reach.specs.Private.Rows.{IsFound};
+ghost use Rattle.query_reach.specs.Private.Rows.{IsFoundInRows};
 
 use crate::filled::FullSlot;
 use crate::search::{place_of, search};
@@ -29,8 +29,8 @@ fn found(
     filled: &[FullSlot],
 ) -> Result<Vec<Reached>, AllocError>
     requires { length row.now ≤ length filled.now }
-    ensures only { IfOk result (λ list. (r : ReachedOf) → Contains list.items r → IsFound row.now filled.now r) }
-    ensures all { IfOk result (λ list. (r : ReachedOf) → IsFound row.now filled.now r → Contains list.items r) }
+    ensures only { IfOk result (λ list. (r : ReachedOf) → Contains list.items r → IsFoundInRows row.now filled.now r) }
+    ensures all { IfOk result (λ list. (r : ReachedOf) → IsFoundInRows row.now filled.now r → Contains list.items r) }
 {
     let mut list = Vec::new(alloc);
     for place in 0..row.len() {

@@ -4,7 +4,7 @@ ghost use Rattle.cap_core.specs.declared.capability.Cap.TheVariants.{Null};
 ghost use Rattle.cap_core.specs.Numbers.{word_bits};
 ghost use Rattle.cap_core.specs.Objects.{IsLawful};
 ghost use Rattle.cspace_core.specs.Inside.{IsSlotOf};
-ghost use Rattle.query_reach.specs.Private.Tables.{word_in, row_at, IsWide, SameShape};
+ghost use Rattle.query_reach.specs.Private.Tables.{word_in, left_row, IsWideTable, SameShape};
 ghost use Rattle.kernel_forest.specs.Forest.{Forest};
 ghost use Rattle.kernel_forest.specs.Entries.{Entry, cap_at};
 ghost use Rattle.query_reach.specs.declared.filled.FullSlot.{FullSlot as FullSlotOf};
@@ -33,7 +33,7 @@ fn visit<P: Profile>(
     requires some { 0 < left }
     requires rows { left ≤ vec_len rows.old }
     requires place { place < length filled.now }
-    requires wide { IsWide (length filled.now) (map (λ r. r.items) rows.old.items) }
+    requires wide { IsWideTable (length filled.now) (map (λ r. r.items) rows.old.items) }
     ensures shape { OnOk result (SameShape (length filled.now) (map (λ r. r.items) rows.old.items) (map (λ r. r.items) rows.new.items)) }
     ensures visits { OnOk result (Visits P.profile from left word filled.now place (map (λ r. r.items) rows.old.items) (map (λ r. r.items) rows.new.items)) }
 {
@@ -97,7 +97,7 @@ fn expand<P: Profile>(
     requires word { word + 2 ^ left ≤ 2 ^ word_bits P.profile }
     requires some { 0 < left }
     requires rows { left ≤ vec_len rows.old }
-    requires wide { IsWide (length filled.now) (map (λ r. r.items) rows.old.items) }
+    requires wide { IsWideTable (length filled.now) (map (λ r. r.items) rows.old.items) }
     ensures shape { OnOk result (SameShape (length filled.now) (map (λ r. r.items) rows.old.items) (map (λ r. r.items) rows.new.items)) }
     ensures spreads { OnOk result (Spreads P.profile from left word filled.now (length filled.now) (map (λ r. r.items) rows.old.items) (map (λ r. r.items) rows.new.items)) }
 {
@@ -123,7 +123,7 @@ fn expand_row<P: Profile>(
     requires rows { left ≡ vec_len rows.old }
     requires width { length row.now ≤ length filled.now }
     requires words { (k w : ℕ) → word_in row.now k ≡ Some w → w + 2 ^ left ≤ 2 ^ word_bits P.profile }
-    requires wide { IsWide (length filled.now) (map (λ r. r.items) rows.old.items) }
+    requires wide { IsWideTable (length filled.now) (map (λ r. r.items) rows.old.items) }
     ensures shape { OnOk result (SameShape (length filled.now) (map (λ r. r.items) rows.old.items) (map (λ r. r.items) rows.new.items)) }
     ensures spreads { OnOk result (RowSpreads P.profile row.now left filled.now (length filled.now) (map (λ r. r.items) rows.old.items) (map (λ r. r.items) rows.new.items)) }
 {
@@ -151,9 +151,9 @@ pub fn search<P: Profile>(
     requires some { 0 < vec_len rows.old }
     requires rows { vec_len rows.old ≤ word_bits P.profile + 1 }
     requires bounded { IsBounded P.profile (map (λ r. r.items) rows.old.items) }
-    requires wide { IsWide (length filled.now) (map (λ r. r.items) rows.old.items) }
+    requires wide { IsWideTable (length filled.now) (map (λ r. r.items) rows.old.items) }
     ensures one { OnOk result (vec_len rows.new ≡ 1) }
-    ensures width { OnOk result (length (row_at (map (λ r. r.items) rows.new.items) 0) ≤ length filled.now) }
+    ensures width { OnOk result (length (left_row (map (λ r. r.items) rows.new.items) 0) ≤ length filled.now) }
     ensures bounded { OnOk result (IsBounded P.profile (map (λ r. r.items) rows.new.items)) }
     ensures found { OnOk result ((memory : ℕ) (f : Forest Entry) (thread : ℕ) → ((s : ℕ) → (cap_at f s ≡ Null) ⊎ IsLawful P.profile memory (cap_at f s)) → AreFullSlots f filled.now
         → IsSearch P.profile f thread filled.now (map (λ r. r.items) rows.old.items) → IsSearch P.profile f thread filled.now (map (λ r. r.items) rows.new.items)) }

@@ -1,7 +1,7 @@
 //! Who can send to whom.
 ghost use Rattle.std.specs.Prelude.{◌≡◌, ◌++◌, IfOk, OnOk};
 ghost use Rattle.std.specs.List.{list_any};
-ghost use Rattle.query_reach.specs.Channels.{others, channels_to, channels as all_channels, sends_to, receivers_without_sender as unserved};
+ghost use Rattle.query_reach.specs.Channels.{other_words, channels_to, channels as all_channels, is_sender_to, receivers_without_sender as unserved};
 
 use crate::endpoints::EndpointWord;
 use crate::receivers::{first_receivers, words_at};
@@ -23,7 +23,7 @@ fn add_channels(
     receivers: &[EndpointWord],
     sender: EndpointWord,
 ) -> Result<(), AllocError>
-    ensures { OnOk result (channels.new.items ≡ channels.old.items ++ channels_to sender (others sender.thread receivers.now)) }
+    ensures { OnOk result (channels.new.items ≡ channels.old.items ++ channels_to sender (other_words sender.thread receivers.now)) }
 {
     let mut alone = true;
     for receiver in receivers {
@@ -67,7 +67,7 @@ pub fn channels(alloc: Global, words: &[EndpointWord]) -> Result<Vec<Channel>, A
 
 /// Whether another thread may send to a receiver.
 fn has_sender(words: &[EndpointWord], receiver: &EndpointWord) -> bool
-    ensures { result ≡ list_any (sends_to receiver.now) words.now }
+    ensures { result ≡ list_any (is_sender_to receiver.now) words.now }
 {
     words.iter().any(|word| {
         word.rights.contains(Rights::WRITE)

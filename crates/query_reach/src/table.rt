@@ -1,7 +1,7 @@
 //! The table of a search. A row has its places from the first word on that is noted in it: few numbers of bits are ever left.
 ghost use Rattle.std.specs.Prelude.{◌≡◌, ◌+◌, ◌<◌, length, map, vec_len, IfOk, OnOk, None, replicate};
 ghost use Rattle.cap_core.specs.Numbers.{word_bits};
-ghost use Rattle.query_reach.specs.Private.Tables.{row_at, noted_in, noted, AreEmpty, IsWide, IsOpened, IsNoted, SameShape, IsFirst};
+ghost use Rattle.query_reach.specs.Private.Tables.{left_row, noted_in, noted, AreEmpty, IsWideTable, IsRowOpened, IsNoted, SameShape, IsFirstTable};
 
 use cap_core::Profile;
 use std::alloc::{AllocError, Global};
@@ -21,7 +21,7 @@ fn note_in(row: &mut Vec<Option<u64>>, place: usize, word: u64)
 /// Notes a word at a place of the row of a number of bits left, where the row has places.
 fn note_at(rows: &mut Vec<Vec<Option<u64>>>, left: usize, place: usize, word: u64)
     requires left { left < vec_len rows.old }
-    requires place { place < length (row_at (map (λ r. r.items) rows.old.items) left) }
+    requires place { place < length (left_row (map (λ r. r.items) rows.old.items) left) }
     ensures { map (λ r. r.items) rows.new.items ≡ noted (map (λ r. r.items) rows.old.items) left place word }
 {
     note_in(&mut rows[left], place, word);
@@ -42,8 +42,8 @@ fn open_row(
     width: usize,
 ) -> Result<(), AllocError>
     requires left { left < vec_len rows.old }
-    requires wide { IsWide width (map (λ r. r.items) rows.old.items) }
-    ensures { OnOk result (IsOpened left width (map (λ r. r.items) rows.old.items) (map (λ r. r.items) rows.new.items)) }
+    requires wide { IsWideTable width (map (λ r. r.items) rows.old.items) }
+    ensures { OnOk result (IsRowOpened left width (map (λ r. r.items) rows.old.items) (map (λ r. r.items) rows.new.items)) }
 {
     if rows[left].is_empty() {
         rows[left] = empty_row(alloc, width)?;
@@ -65,7 +65,7 @@ pub fn note(
     word: u64,
 ) -> Result<(), AllocError>
     requires left { left < vec_len rows.old }
-    requires wide { IsWide width (map (λ r. r.items) rows.old.items) }
+    requires wide { IsWideTable width (map (λ r. r.items) rows.old.items) }
     requires place { place < width }
     ensures shape { OnOk result (SameShape width (map (λ r. r.items) rows.old.items) (map (λ r. r.items) rows.new.items)) }
     ensures noted { OnOk result (IsNoted left place word (map (λ r. r.items) rows.old.items) (map (λ r. r.items) rows.new.items)) }
@@ -95,7 +95,7 @@ pub fn first_rows<P: Profile>(
 ) -> Result<Vec<Vec<Option<u64>>>, AllocError>
     requires { root < width }
     ensures height { IfOk result (λ rows. vec_len rows ≡ word_bits P.profile + 1) }
-    ensures first { IfOk result (λ rows. IsFirst (word_bits P.profile) width root (map (λ r. r.items) rows.items)) }
+    ensures first { IfOk result (λ rows. IsFirstTable (word_bits P.profile) width root (map (λ r. r.items) rows.items)) }
 {
     let mut rows = empty_rows(alloc, P::WORD_BITS as usize + 1)?;
     note(alloc, &mut rows, P::WORD_BITS as usize, width, root, 0)?;

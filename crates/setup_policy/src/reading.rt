@@ -4,7 +4,7 @@ use crate::file::{GroupEntry, PolicyFile, UseEntry, WayEntry, Word};
 use crate::near::did_you_mean;
 use crate::values::{
     Bad, badge, group_name, group_names, is_group_name, number, rights, switch, version, word,
-    words,
+    word_in, words,
 };
 use cap_core::Rights;
 use std::alloc::Global;
@@ -112,6 +112,11 @@ impl<'a> Reader<'a> {
         }
     }
 
+    fn needed_words(self, key: &str) -> Result<Vec<Word>, Refusal> {
+        let value = self.value(key)?;
+        self.taken(key, words(self.alloc, value))
+    }
+
     fn switch(self, key: &str) -> Result<bool, Refusal> {
         match self.table.get(key) {
             None => Ok(true),
@@ -134,9 +139,29 @@ impl<'a> Reader<'a> {
         self.taken("badge", badge(self.alloc, value))
     }
 
-    fn rights(self) -> Result<Rights, Refusal> {
+    fn needed_rights(self) -> Result<Rights, Refusal> {
         let value = self.value("rights")?;
         self.taken("rights", rights(self.alloc, value))
+    }
+
+    /// The rights, or others where the key is missing.
+    fn rights(self, others: Rights) -> Result<Rights, Refusal> {
+        match self.table.get("rights") {
+            None => Ok(others),
+            Some(value) => self.taken("rights", rights(self.alloc, value)),
+        }
+    }
+
+    /// The fault of a key that is none of these.
+    fn unknown(self, key: &str, keys: &[&str], has: &str) -> Result<(), Refusal> {
+        let others = format!(in self.alloc; "; the keys are {has}")?;
+        let question = did_you_mean(self.alloc, key, keys, others.as_str())?;
+        let words = format!(in self.alloc; "there is no key {key}{question}")?;
+        self.fault(
+            Fault::Unknown,
+            if is_group_name(key) { key } else { "?" },
+            words,
+        )
     }
 
     /// A fault where the table has a key that is none of these.
@@ -144,11 +169,7 @@ impl<'a> Reader<'a> {
         for (key, _) in self.table {
             let key = key.as_str();
             if !keys.iter().any(|known| *known == key) {
-                let others = format!(in self.alloc; "; the keys are {has}")?;
-                let question = did_you_mean(self.alloc, key, keys, others.as_str())?;
-                let words = format!(in self.alloc; "there is no key {key}{question}")?;
-                let told = if is_group_name(key) { key } else { "?" };
-                return self.fault(Fault::Unknown, told, words);
+                return self.unknown(key, keys, has);
             }
         }
         Ok(())
@@ -196,24 +217,45 @@ fn hint(alloc: Global, form: Form) -> Result<String, Refusal> {
     Ok(format!(in alloc; "; a {name} has {has}")?)
 }
 
+/// The one thread of a group of its own, which has the group's name.
+fn one_thread(top: Reader<'_>, name: &str) -> Result<Vec<Word>, Refusal> {
+    let thread = top.taken("alone", word_in(top.alloc, name))?;
+    let mut threads = Vec::new(top.alloc);
+    threads.push(thread)?;
+    Ok(threads)
+}
+
+/// The group of a name of `alone`.
+fn alone_group(top: Reader<'_>, name: &str, place: Place) -> Result<GroupEntry, Refusal> {
+    Ok(GroupEntry {
+        name: String::from_str(top.alloc, name)?,
+        threads: one_thread(top, name)?,
+        regions: Vec::new(top.alloc),
+        place,
+    })
+}
+
 /// Adds a group for each name of `alone`.
 fn add_alone(groups: &mut Vec<GroupEntry>, top: Reader<'_>) -> Result<(), Refusal> {
     let Some(value) = top.table.get("alone") else {
         return Ok(());
     };
     let names = top.taken("alone", group_names(top.alloc, value))?;
-    for (i, name) in names.into_iter().enumerate() {
-        let thread = Value::String(String::from_str(top.alloc, name.as_str())?);
-        let mut threads = Vec::new(top.alloc);
-        threads.push(top.taken("alone", word(top.alloc, &thread))?)?;
-        groups.push(GroupEntry {
-            name,
-            threads,
-            regions: Vec::new(top.alloc),
-            place: Place::Alone(i.saturating_add(1)),
-        })?;
+    for (i, name) in names.iter().enumerate() {
+        let place = Place::Alone(i.saturating_add(1));
+        groups.push(alone_group(top, name.as_str(), place)?)?;
     }
     Ok(())
+}
+
+/// The group of a table of `group`.
+fn group_in(reader: Reader<'_>) -> Result<GroupEntry, Refusal> {
+    Ok(GroupEntry {
+        name: reader.group_name("name")?,
+        threads: reader.needed_words("threads")?,
+        regions: reader.words("regions")?,
+        place: reader.place,
+    })
 }
 
 /// Adds the groups of `group`.
@@ -222,17 +264,20 @@ fn add_groups(groups: &mut Vec<GroupEntry>, top: Reader<'_>) -> Result<(), Refus
     for (i, value) in entries(top, GROUP)?.iter().enumerate() {
         let place = Place::Group(i.saturating_add(1));
         let reader = entry(top, GROUP, value, place, hint.as_str())?;
-        let name = reader.group_name("name")?;
-        let value = reader.value("threads")?;
-        let threads = reader.taken("threads", words(top.alloc, value))?;
-        groups.push(GroupEntry {
-            name,
-            threads,
-            regions: reader.words("regions")?,
-            place,
-        })?;
+        groups.push(group_in(reader)?)?;
     }
     Ok(())
+}
+
+/// The way of a table of `way`.
+fn way_in(reader: Reader<'_>) -> Result<WayEntry, Refusal> {
+    Ok(WayEntry {
+        from: reader.group_name("from")?,
+        to: reader.group_name("to")?,
+        by: reader.word("by")?,
+        badge: reader.badge()?,
+        rights: Rights(reader.rights(Rights(0))?.0 | Rights::WRITE.0),
+    })
 }
 
 fn ways(top: Reader<'_>) -> Result<Vec<WayEntry>, Refusal> {
@@ -241,23 +286,19 @@ fn ways(top: Reader<'_>) -> Result<Vec<WayEntry>, Refusal> {
     for (i, value) in entries(top, WAY)?.iter().enumerate() {
         let place = Place::Way(i.saturating_add(1));
         let reader = entry(top, WAY, value, place, hint.as_str())?;
-        let (from, to) = (reader.group_name("from")?, reader.group_name("to")?);
-        let (by, badge) = (reader.word("by")?, reader.badge()?);
-        let has_rights = reader.table.contains_key("rights");
-        let rights = if has_rights {
-            reader.rights()?
-        } else {
-            Rights(0)
-        };
-        ways.push(WayEntry {
-            from,
-            to,
-            by,
-            badge,
-            rights: Rights(rights.0 | Rights::WRITE.0),
-        })?;
+        ways.push(way_in(reader)?)?;
     }
     Ok(ways)
+}
+
+/// The use of a table of `use`.
+fn use_in(reader: Reader<'_>) -> Result<UseEntry, Refusal> {
+    Ok(UseEntry {
+        group: reader.group_name("group")?,
+        of: reader.word("of")?,
+        badge: reader.badge()?,
+        rights: reader.needed_rights()?,
+    })
 }
 
 fn uses(top: Reader<'_>) -> Result<Vec<UseEntry>, Refusal> {
@@ -266,12 +307,7 @@ fn uses(top: Reader<'_>) -> Result<Vec<UseEntry>, Refusal> {
     for (i, value) in entries(top, USE)?.iter().enumerate() {
         let place = Place::Use(i.saturating_add(1));
         let reader = entry(top, USE, value, place, hint.as_str())?;
-        uses.push(UseEntry {
-            group: reader.group_name("group")?,
-            of: reader.word("of")?,
-            badge: reader.badge()?,
-            rights: reader.rights()?,
-        })?;
+        uses.push(use_in(reader)?)?;
     }
     Ok(uses)
 }
@@ -297,6 +333,35 @@ fn refuse_twice(alloc: Global, text: &str, groups: &[GroupEntry]) -> Result<(), 
     Ok(())
 }
 
+/// The version and the keys of the top table.
+fn check_top(top: Reader<'_>) -> Result<(), Refusal> {
+    let value = top.value("policy")?;
+    top.taken("policy", version(top.alloc, value))?;
+    let keys = TOP_KEYS.join(top.alloc, ", ")?;
+    top.refuse_unknown(&TOP_KEYS, keys.as_str())
+}
+
+fn after(top: Reader<'_>) -> Result<Option<u64>, Refusal> {
+    match top.table.get("after") {
+        None => Ok(None),
+        Some(value) => top.taken("after", number(top.alloc, value)),
+    }
+}
+
+/// What a policy says, but for its groups, ways and uses.
+fn head(top: Reader<'_>) -> Result<PolicyFile, Refusal> {
+    Ok(PolicyFile {
+        after: after(top)?,
+        silent: top.words("silent")?,
+        messages: top.words("messages")?,
+        groups: Vec::new(top.alloc),
+        grant: true,
+        calls: true,
+        ways: Vec::new(top.alloc),
+        uses: Vec::new(top.alloc),
+    })
+}
+
 fn read_table(alloc: Global, text: &str, table: &Table) -> Result<PolicyFile, Refusal> {
     let top = Reader {
         alloc,
@@ -305,31 +370,16 @@ fn read_table(alloc: Global, text: &str, table: &Table) -> Result<PolicyFile, Re
         place: Place::Top,
         hint: "; write policy = 1 at the top",
     };
-    let value = top.value("policy")?;
-    top.taken("policy", version(alloc, value))?;
-    let keys = TOP_KEYS.join(alloc, ", ")?;
-    top.refuse_unknown(&TOP_KEYS, keys.as_str())?;
-    let after = match table.get("after") {
-        None => None,
-        Some(value) => top.taken("after", number(alloc, value))?,
-    };
-    let (silent, messages) = (top.words("silent")?, top.words("messages")?);
-    let mut groups = Vec::new(alloc);
-    add_alone(&mut groups, top)?;
-    let (grant, calls) = (top.switch("seL4_grant")?, top.switch("calls_succeed")?);
-    add_groups(&mut groups, top)?;
-    let (ways, uses) = (ways(top)?, uses(top)?);
-    refuse_twice(alloc, text, groups.as_slice())?;
-    Ok(PolicyFile {
-        after,
-        silent,
-        messages,
-        grant,
-        calls,
-        groups,
-        ways,
-        uses,
-    })
+    check_top(top)?;
+    let mut policy = head(top)?;
+    add_alone(&mut policy.groups, top)?;
+    policy.grant = top.switch("seL4_grant")?;
+    policy.calls = top.switch("calls_succeed")?;
+    add_groups(&mut policy.groups, top)?;
+    policy.ways = ways(top)?;
+    policy.uses = uses(top)?;
+    refuse_twice(alloc, text, policy.groups.as_slice())?;
+    Ok(policy)
 }
 
 /// Reads a policy file.

@@ -112,7 +112,8 @@ pub fn group_name(alloc: Global, value: &Value) -> Result<String, Bad> {
     }
 }
 
-fn word_in(alloc: Global, text: &str) -> Result<Word, Bad> {
+/// A word for a thread, an endpoint or a region, from a text.
+pub fn word_in(alloc: Global, text: &str) -> Result<Word, Bad> {
     let name = text.strip_prefix("@").unwrap_or(text);
     if name.is_empty() {
         return wrong_value(String::from_str(alloc, "the name is empty")?);

@@ -9,7 +9,7 @@ use Rattle.kernel_forest.specs.Forest.{Forest, none, preorder}
 use Rattle.kernel_forest.specs.Entries.{Entry, cap_at, is_full}
 use Rattle.kernel_forest.specs.Derivation.{derived, rooted}
 use Rattle.kernel_forest.specs.Disjoint.{IsDisjoint}
-use Rattle.test_parts.specs.Memory.{root, endpoint, node, in_root, with_root, with_endpoint, with_node, with_guarded, with_copy, with_itself}
+use Rattle.test_parts.specs.Memory.{root_cnode, endpoint, node, in_root, with_root, with_endpoint, with_node, with_guarded, with_copy, with_itself}
 use Rattle.kernel_forest.proofs.Trees.Forests.{each-contained}
 use Rattle.kernel_forest.proofs.Slots.Edits.{each-rooted, each-derived}
 use Rattle.kernel_forest.proofs.Disjoint.Disjointness.{disjoint-none, disjoint-rooted, disjoint-derived}
@@ -37,7 +37,7 @@ typed_derived p source slot cap f h full empty same typed = record {
     outside u m t = absurd (let n : is_untyped u.cap ≡ false = each-contained (λ (e : Entry). is_untyped e.cap ≡ false) (preorder f) u h.typed m in cc)
 
 pub root_typed : (p : ProfileName) → IsTyped p (with_root p)
-root_typed p = typed_rooted p (in_root p 1) (root p) none (record { disjoint = disjoint-none p; typed = tt }) refl refl tt
+root_typed p = typed_rooted p (in_root p 1) (root_cnode p) none (record { disjoint = disjoint-none p; typed = tt }) refl refl tt
 
 pub endpoint_typed : (p : ProfileName) → IsTyped p (with_endpoint p)
 endpoint_typed Wide = typed_rooted Wide 128 endpoint (with_root Wide) (root_typed Wide) refl refl (refl, tt)

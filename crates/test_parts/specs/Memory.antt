@@ -14,8 +14,8 @@ abbrev pub memory_bits : ℕ
 memory_bits = 16
 
 -- the CNode of sixteen slots, with the guard that it has at boot
-abbrev pub root : ProfileName → Cap
-root p = CNode 0 4 (record { value = 0; size = word_bits p - 4 })
+abbrev pub root_cnode : ProfileName → Cap
+root_cnode p = CNode 0 4 (record { value = 0; size = word_bits p - 4 })
 
 abbrev pub endpoint : Cap
 endpoint = Endpoint 6144 (record { 0 = 0 }) all_rights
@@ -32,7 +32,7 @@ abbrev pub in_node : ProfileName → ℕ → ℕ
 in_node p i = 16384 + i * slot_size p
 
 abbrev pub with_root : ProfileName → Forest Entry
-with_root p = rooted (in_root p 1) (root p) none
+with_root p = rooted (in_root p 1) (root_cnode p) none
 
 abbrev pub with_endpoint : ProfileName → Forest Entry
 with_endpoint p = rooted (in_root p 4) endpoint (with_root p)

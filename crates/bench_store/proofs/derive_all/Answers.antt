@@ -1,7 +1,7 @@
 use Rattle.std.proofs.Common.{◌+◌, suc, inr, ap, arith}
 use Rattle.cap_core.specs.Objects.{badge_of}
 use Rattle.kernel_forest.specs.Derivation.{names_same}
-use Rattle.bench_store.specs.Cycle.{endpoint}
+use Rattle.bench_store.specs.Cycle.{bench_endpoint}
 use Rattle.bench_store.proofs.Family.{first_full, next_empty, first_holds, family_typed}
 use Rattle.bench_store.proofs.derive_all.Goals as goal
 
@@ -12,7 +12,7 @@ pub derive-requires-clause-empty : goal.derive-requires-clause-empty
 derive-requires-clause-empty g c = rw (c.slot.ensures, c.loop-i.invariant.forest) (next_empty c.loop-i.i (c.loop-i.i + 2) (omega arith))
 
 pub derive-requires-clause-same : goal.derive-requires-clause-same
-derive-requires-clause-same g c = rw (c.requires.source, c.loop-i.invariant.forest, c.requires.cap) (ap (λ held. names_same held (endpoint 5)) (first_holds c.loop-i.i))
+derive-requires-clause-same g c = rw (c.requires.source, c.loop-i.invariant.forest, c.requires.cap) (ap (λ held. names_same held (bench_endpoint 5)) (first_holds c.loop-i.i))
 
 pub derive-requires-clause-badge : goal.derive-requires-clause-badge
 derive-requires-clause-badge g c = rw (c.requires.source, c.loop-i.invariant.forest) (inr (ap badge_of (first_holds c.loop-i.i)))

@@ -1,10 +1,10 @@
 use Rattle.std.proofs.Common.{◌≡◌, ◌≤◌}
-use Rattle.bench_store.specs.Cycle.{memory_bits, family}
+use Rattle.bench_store.specs.Cycle.{bench_memory_bits, family}
 use Rattle.bench_store.proofs.remove_all.Given as goal
 
 abbrev pub invariant-loop-left : goal.invariant-loop-left
 invariant-loop-left g l = record {
-  memory : g.S.CapStore.memory_bits l.store ≡ memory_bits;
+  memory : g.S.CapStore.memory_bits l.store ≡ bench_memory_bits;
   forest : g.S.CapStore.forest l.store ≡ family l.left;
   few : l.left ≤ 64;
 }

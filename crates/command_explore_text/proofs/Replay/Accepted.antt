@@ -9,10 +9,10 @@ use Rattle.kernel_abstract.specs.Boot.{boot}
 use Rattle.setup_format.specs.Setups.{setup_of, names_of}
 use Rattle.setup_format.specs.Views.{CallView, SetupView}
 use Rattle.query_orders.specs.World.{start}
-use Rattle.query_orders.specs.Laws.{calls_made}
+use Rattle.query_orders.specs.Laws.{calls_of_orders}
 use Rattle.command_explore_text.specs.declared.witness.Witness.{Witness}
-use Rattle.command_explore_text.specs.Clients.{own_calls}
-use Rattle.command_explore_text.specs.Numbers.{numbers_of, order_numbers}
+use Rattle.command_explore_text.specs.Clients.{calls_of_each}
+use Rattle.command_explore_text.specs.Numbers.{client_numbers_of, order_numbers}
 use Rattle.command_explore_text.specs.Witnesses.{named_order, expecting, with_calls, witness_of}
 use Rattle.command_explore_text.specs.Replays.{view_numbered, view_as, view_where, chosen_views, called, explored, IsWitnessAccepted}
 use Rattle.command_explore_text.proofs.NoLonger.{no_more_calls}
@@ -39,13 +39,13 @@ views-picked kept calls (n ∷ numbers) =
     ∙ sym (flat_map-cons (λ number. view_where (number == kept) (view_numbered calls number)) n numbers)))
 
 -- the calls that an order makes are no more than those of the set-up
-no_more_views : (kept : ℕ) (setup : SetupView) (order : List ℕ) → length (chosen_views kept setup.calls (order_numbers (numbers_of setup) [] order)) ≤ length setup.calls
+no_more_views : (kept : ℕ) (setup : SetupView) (order : List ℕ) → length (chosen_views kept setup.calls (order_numbers (client_numbers_of setup) [] order)) ≤ length setup.calls
 no_more_views kept setup order =
-    let views = chosen_views kept setup.calls (order_numbers (numbers_of setup) [] order) in
+    let views = chosen_views kept setup.calls (order_numbers (client_numbers_of setup) [] order) in
     let A = boot setup.profile setup.plan in
     let a : length (called views) ≡ length views = length-map views (λ (c : CallView). (c.client, c.call)) in
-    let b : length (called views) ≡ length (calls_made setup.profile (own_calls setup) (start (own_calls setup) A) order) = ap length (numbers_make_calls kept setup.profile setup A order) in
-    let d = no_more_calls setup.profile (own_calls setup) A order in
+    let b : length (called views) ≡ length (calls_of_orders setup.profile (calls_of_each setup) (start (calls_of_each setup) A) order) = ap length (numbers_make_calls kept setup.profile setup A order) in
+    let d = no_more_calls setup.profile (calls_of_each setup) A order in
     let e = own-length setup in
     omega (arith, a, b, d, e)
 
@@ -57,9 +57,9 @@ some_of f (Some x) y e = (x, refl, same_Some (f x) y e)
 pub witness_accepted : (setup : SetupView) (first limit : ℕ) (witness : Witness) (document table : Members) → IsWitnessAccepted setup first limit witness document table
 unfolding witness_of
 witness_accepted setup first limit witness document table sorted read told =
-    let (order, named, is) = some_of (λ (order : List ℕ). with_calls (expecting witness) (order_numbers (numbers_of setup) [] order) document) (named_order (numbers_of setup) (explored setup first limit) witness) table told in
+    let (order, named, is) = some_of (λ (order : List ℕ). with_calls (expecting witness) (order_numbers (client_numbers_of setup) [] order) document) (named_order (client_numbers_of setup) (explored setup first limit) witness) table told in
     let kept = expecting witness in
-    let numbers = order_numbers (numbers_of setup) [] order in
+    let numbers = order_numbers (client_numbers_of setup) [] order in
     let same = views-picked kept setup.calls numbers in
     let bound = ap length same in
     let most = no_more_views kept setup order in

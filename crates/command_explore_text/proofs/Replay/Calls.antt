@@ -27,7 +27,7 @@ use Rattle.setup_format.proofs.Grammar.Parts.{no_answer, parts}
 use Rattle.setup_migrate.proofs.Law.Follows.{together}
 use Rattle.setup_migrate.proofs.Law.Operations.{AgreesPast}
 use Rattle.setup_migrate.proofs.Law.Setups.{all_known, all_known_is}
-use Rattle.command_explore_text.specs.Witnesses.{without, call_as, call_where, chosen_call, chosen_calls}
+use Rattle.command_explore_text.specs.Witnesses.{table_without, call_as, call_where, chosen_call, chosen_calls}
 use Rattle.command_explore_text.specs.Replays.{view_as}
 use Rattle.command_explore_text.proofs.Replay.Picks.{picked, pick, each_read, pick_read}
 use Rattle.command_explore_text.proofs.Replay.Without.{both, get_without, get_without_other, keys_without}
@@ -36,7 +36,7 @@ use Rattle.command_explore_text.proofs.Replay.Operations.{required_moved, option
 -- the table of a call with its expectation or without it
 abbrev pub table_as : Bool → Members → Members
 table_as true t = t
-table_as false t = without (codes "expect") t
+table_as false t = table_without (codes "expect") t
 
 agrees : (keeps : Bool) (t : Members) → AgreesPast (codes "expect") t (table_as keeps t)
 agrees true t = record { agrees = λ j apart. refl }
@@ -121,7 +121,7 @@ table_read : (keeps : Bool) (d : Data) (m l : ℕ) (t : Members) → Unit {0} �
 table_read true d m l t h e = e
 table_read false (table ms) m l t h e =
     let here : ms ≡ t = cc in
-    ap (λ u. Ok (without (codes "expect") u)) here
+    ap (λ u. Ok (table_without (codes "expect") u)) here
 table_read false d m l t h e = no_answer _ t e
 
 each-unit : {X : Type 0} (xs : List X) → Each (λ _. Unit {0}) xs

@@ -13,40 +13,40 @@ use Rattle.kernel_abstract.specs.declared.call.Reply.{Reply}
 use Rattle.kernel_abstract.specs.State.{State}
 use Rattle.kernel_abstract.specs.Step.{step}
 use Rattle.setup_format.specs.Views.{CallView, SetupView}
-use Rattle.query_orders.specs.World.{World, start, call_at, next_call}
-use Rattle.query_orders.specs.Orders.{below}
-use Rattle.query_orders.specs.Laws.{made_by, calls_made}
-use Rattle.command_explore_text.specs.Clients.{client_calls, own_calls}
-use Rattle.command_explore_text.specs.Numbers.{client_numbers, numbers_of, number_in, order_numbers}
+use Rattle.query_orders.specs.World.{World, start, call_of_client_at, next_client_call}
+use Rattle.query_orders.specs.Orders.{numbers_below}
+use Rattle.query_orders.specs.Laws.{made_by, calls_of_orders}
+use Rattle.command_explore_text.specs.Clients.{calls_of_client, calls_of_each}
+use Rattle.command_explore_text.specs.Numbers.{client_numbers, client_numbers_of, call_number_at, order_numbers}
 use Rattle.command_explore_text.specs.Replays.{view_numbered, view_where, chosen_views, called}
 use Rattle.command_explore_text.proofs.Replay.Runs.{of_client, get_front, get_last, one_reply, after_last, behind, answers, made_of, made_past}
 use Rattle.command_explore_text.proofs.Replay.Waits.{of_client-last}
 
 -- ---- the numbers below one
 
-length-below : (n : ℕ) → length (below n) ≡ n
+length-below : (n : ℕ) → length (numbers_below n) ≡ n
 length-below zero = refl
-length-below (suc n) = let a = length-append (below n) (n ∷ []) in let i = length-below n in omega (arith, a, i)
+length-below (suc n) = let a = length-append (numbers_below n) (n ∷ []) in let i = length-below n in omega (arith, a, i)
 
-get-below : (n i : ℕ) → i < n → slice_get (below n) i ≡ Some i
+get-below : (n i : ℕ) → i < n → slice_get (numbers_below n) i ≡ Some i
 get-below zero i lt = absurd (omega (arith, lt))
-get-below (suc n) i lt = elim (eqb_tells i n) as (λ _. slice_get (below n ++ n ∷ []) i ≡ Some i) [
-  | inl same ↦ (let e = same.1 in let long = length-below n in get_last (below n) n i (omega (arith, e, long)) ∙ ap (λ m. Some m) (sym e))
-  | inr other ↦ (let ne : i ≢ n = other.1 in get_front (below n) (n ∷ []) i i (get-below n i (omega (arith, lt, ne))))
+get-below (suc n) i lt = elim (eqb_tells i n) as (λ _. slice_get (numbers_below n ++ n ∷ []) i ≡ Some i) [
+  | inl same ↦ (let e = same.1 in let long = length-below n in get_last (numbers_below n) n i (omega (arith, e, long)) ∙ ap (λ m. Some m) (sym e))
+  | inr other ↦ (let ne : i ≢ n = other.1 in get_front (numbers_below n) (n ∷ []) i i (get-below n i (omega (arith, lt, ne))))
 ]
 
-get-below_past : (n i : ℕ) → n ≤ i → slice_get (below n) i ≡ None
-get-below_past n i le = let long = length-below n in slice_get_past (below n) i (omega (arith, le, long))
+get-below_past : (n i : ℕ) → n ≤ i → slice_get (numbers_below n) i ≡ None
+get-below_past n i le = let long = length-below n in slice_get_past (numbers_below n) i (omega (arith, le, long))
 
 -- what each client has
-pub get-mapped : {X : Type 0} (f : ℕ → X) (n i : ℕ) → i < n → slice_get (map f (below n)) i ≡ Some (f i)
-get-mapped f n i lt = slice_get-map f (below n) i ∙ ap (option_map f) (get-below n i lt)
+pub get-mapped : {X : Type 0} (f : ℕ → X) (n i : ℕ) → i < n → slice_get (map f (numbers_below n)) i ≡ Some (f i)
+get-mapped f n i lt = slice_get-map f (numbers_below n) i ∙ ap (option_map f) (get-below n i lt)
 
-pub get-mapped_past : {X : Type 0} (f : ℕ → X) (n i : ℕ) → n ≤ i → slice_get (map f (below n)) i ≡ None
-get-mapped_past f n i le = slice_get-map f (below n) i ∙ ap (option_map f) (get-below_past n i le)
+pub get-mapped_past : {X : Type 0} (f : ℕ → X) (n i : ℕ) → n ≤ i → slice_get (map f (numbers_below n)) i ≡ None
+get-mapped_past f n i le = slice_get-map f (numbers_below n) i ∙ ap (option_map f) (get-below_past n i le)
 
-pub length-mapped : {X : Type 0} (f : ℕ → X) (n : ℕ) → length (map f (below n)) ≡ n
-length-mapped f n = length-map (below n) f ∙ length-below n
+pub length-mapped : {X : Type 0} (f : ℕ → X) (n : ℕ) → length (map f (numbers_below n)) ≡ n
+length-mapped f n = length-map (numbers_below n) f ∙ length-below n
 
 -- ---- a client's number at a place, and its call there
 
@@ -59,7 +59,7 @@ later : (client first : ℕ) (v : CallView) (vs : List CallView) (o : Option ℕ
 later client first v vs None call h = h
 later client first v vs (Some m) call h = (suc h.0, h.1, (let e = h.2 in omega (arith, e)), h.3, h.4, h.5)
 
-module _ (client first : ℕ) (v : CallView) (vs : List CallView) (rest : (k : ℕ) → IsNumberOf client (first + 1) vs (slice_get (client_numbers client (first + 1) vs) k) (slice_get (client_calls vs client) k)) where
+module _ (client first : ℕ) (v : CallView) (vs : List CallView) (rest : (k : ℕ) → IsNumberOf client (first + 1) vs (slice_get (client_numbers client (first + 1) vs) k) (slice_get (calls_of_client vs client) k)) where
   abbrev Goal : Bool → ℕ → Type 0
   Goal b k =
       IsNumberOf client first (v ∷ vs) (slice_get (cond b (first ∷ client_numbers client (first + 1) vs) (client_numbers client (first + 1) vs)) k)
@@ -75,7 +75,7 @@ module _ (client first : ℕ) (v : CallView) (vs : List CallView) (rest : (k : �
     | inr other ↦ subst (λ b. Goal b k) (sym other.0) (later client first v vs _ _ (rest k))
   ]
 
-number_of : (client first : ℕ) (calls : List CallView) (k : ℕ) → IsNumberOf client first calls (slice_get (client_numbers client first calls) k) (slice_get (client_calls calls client) k)
+number_of : (client first : ℕ) (calls : List CallView) (k : ℕ) → IsNumberOf client first calls (slice_get (client_numbers client first calls) k) (slice_get (calls_of_client calls client) k)
 number_of client first [] k = refl
 number_of client first (v ∷ vs) k = one_number client first v vs (number_of client (first + 1) vs) k
 
@@ -99,15 +99,15 @@ module _ (kept : ℕ) (setup : SetupView) where
       ∙ (view_called (suc h.0 == kept) h.1
       ∙ (ap (λ c. (c, (h.1).call) ∷ []) h.4 ∙ ap (made_by client) (sym h.5))))
 
-  pub one_called : (client place : ℕ) → called (chosen (number_in (numbers_of setup) client place)) ≡ made_by client (call_at (own_calls setup) client place)
+  pub one_called : (client place : ℕ) → called (chosen (call_number_at (client_numbers_of setup) client place)) ≡ made_by client (call_of_client_at (calls_of_each setup) client place)
   one_called client place = elim (eqb_or client setup.clients) [
     | inl lt ↦
         ap (λ (o : Option (List ℕ)). called (chosen (unwrap_or (option_and_then (λ (own : List ℕ). slice_get own place) o) 0))) (get-mapped (λ c. client_numbers c 1 setup.calls) setup.clients client lt)
         ∙ (numbered_call client _ _ (number_of client 1 setup.calls place)
-        ∙ ap (λ (o : Option (List Call)). made_by client (option_and_then (λ (calls : List Call). slice_get calls place) o)) (sym (get-mapped (client_calls setup.calls) setup.clients client lt)))
+        ∙ ap (λ (o : Option (List Call)). made_by client (option_and_then (λ (calls : List Call). slice_get calls place) o)) (sym (get-mapped (calls_of_client setup.calls) setup.clients client lt)))
     | inr le ↦
         ap (λ (o : Option (List ℕ)). called (chosen (unwrap_or (option_and_then (λ (own : List ℕ). slice_get own place) o) 0))) (get-mapped_past (λ c. client_numbers c 1 setup.calls) setup.clients client le)
-        ∙ ap (λ (o : Option (List Call)). made_by client (option_and_then (λ (calls : List Call). slice_get calls place) o)) (sym (get-mapped_past (client_calls setup.calls) setup.clients client le))
+        ∙ ap (λ (o : Option (List Call)). made_by client (option_and_then (λ (calls : List Call). slice_get calls place) o)) (sym (get-mapped_past (calls_of_client setup.calls) setup.clients client le))
   ]
     where
       eqb_or : (i n : ℕ) → (i < n) ⊎ (n ≤ i)
@@ -119,7 +119,7 @@ module _ (kept : ℕ) (setup : SetupView) where
 
 -- it is as often in it as calls of it are made, or none of it is left
 abbrev IsCounted : List (List Call) → ℕ → ℕ → ℕ → Type 0
-IsCounted own client made count = (made ≡ count) ⊎ ((call_at own client made ≡ None) × (made ≤ count))
+IsCounted own client made count = (made ≡ count) ⊎ ((call_of_client_at own client made ≡ None) × (made ≤ count))
 
 count-last : (client c : ℕ) (order : List ℕ) → count_by (λ i. i == client) (order ++ c ∷ []) ≡ count_by (λ i. i == client) order + cond (c == client) 1 0
 count-last client c order =
@@ -130,7 +130,7 @@ count-last client c order =
     let e : length (cond (c == client) (c ∷ []) []) ≡ cond (c == client) 1 0 = elim (c == client) as (λ b. length (cond b (c ∷ []) []) ≡ cond b 1 0) [ true ↦ refl | false ↦ refl ] in
     omega (arith, a, b, d, e)
 
-past_all : (own : List (List Call)) (client made count : ℕ) → call_at own client made ≡ None → made ≤ count → call_at own client count ≡ None
+past_all : (own : List (List Call)) (client made count : ℕ) → call_of_client_at own client made ≡ None → made ≤ count → call_of_client_at own client count ≡ None
 past_all own client made count none le = by (slice_get own client) none
   where
     by : (o : Option (List Call)) → option_and_then (λ (calls : List Call). slice_get calls made) o ≡ None → option_and_then (λ (calls : List Call). slice_get calls count) o ≡ None
@@ -145,17 +145,17 @@ module _ (p : ProfileName) (own : List (List Call)) (A : State) where
   made_by_now order client = length (of_client client (answers p own A order))
 
   made-last : (order : List ℕ) (c client : ℕ) → made_by_now (order ++ c ∷ []) client
-      ≡ made_by_now order client + length (of_client client (one_reply p own (behind p own A order).kernel c (next_call own (behind p own A order).made c)))
+      ≡ made_by_now order client + length (of_client client (one_reply p own (behind p own A order).kernel c (next_client_call own (behind p own A order).made c)))
   made-last order c client = ap length (of_client-last p own A order c client) ∙ length-append (of_client client (answers p own A order)) _
 
-  next_is : (order : List ℕ) (client : ℕ) → client < length own → next_call own (behind p own A order).made client ≡ call_at own client (made_by_now order client)
-  next_is order client lt = ap (λ (o : Option ℕ). option_and_then (call_at own client) o) (made_of p own A order client lt)
+  next_is : (order : List ℕ) (client : ℕ) → client < length own → next_client_call own (behind p own A order).made client ≡ call_of_client_at own client (made_by_now order client)
+  next_is order client lt = ap (λ (o : Option ℕ). option_and_then (call_of_client_at own client) o) (made_of p own A order client lt)
 
   replied_length : (order : List ℕ) (c client : ℕ) (o : Option Call) → (c == client) ≡ false → length (of_client client (one_reply p own (behind p own A order).kernel c o)) ≡ 0
   replied_length order c client None apart = refl
   replied_length order c client (Some call) apart = ap (λ b. length (map (λ (x : ℕ × Reply). x.1) (cond b ((c, (step p (behind p own A order).kernel call).reply) ∷ []) []))) apart
 
-  one_counted : (order : List ℕ) (c client : ℕ) → client < length own → (o : Option Call) → next_call own (behind p own A order).made c ≡ o → IsCounted own client (made_by_now order client) (count_by (λ i. i == client) order)
+  one_counted : (order : List ℕ) (c client : ℕ) → client < length own → (o : Option Call) → next_client_call own (behind p own A order).made c ≡ o → IsCounted own client (made_by_now order client) (count_by (λ i. i == client) order)
       → IsCounted own client (made_by_now order client + length (of_client client (one_reply p own (behind p own A order).kernel c o))) (count_by (λ i. i == client) order + cond (c == client) 1 0)
   one_counted order c client lt o e h = elim (eqb_tells c client) [
     | inl same ↦ mine o e same.0 same.1
@@ -168,20 +168,20 @@ module _ (p : ProfileName) (own : List (List Call)) (A : State) where
       counted_as : (own : List (List Call)) (client made count made' count' : ℕ) → made ≡ made' → count ≡ count' → IsCounted own client made count → IsCounted own client made' count'
       counted_as own client made count made' count' e f h = subst (λ m. IsCounted own client m count') e (subst (λ n. IsCounted own client made n) f h)
 
-      mine : (o : Option Call) → next_call own (behind p own A order).made c ≡ o → (c == client) ≡ true → c ≡ client
+      mine : (o : Option Call) → next_client_call own (behind p own A order).made c ≡ o → (c == client) ≡ true → c ≡ client
           → IsCounted own client (made_by_now order client + length (of_client client (one_reply p own (behind p own A order).kernel c o))) (count_by (λ i. i == client) order + cond (c == client) 1 0)
       mine None e is same =
           let one : cond {A = ℕ} (c == client) 1 0 ≡ 1 = ap (λ b. cond b 1 0) is in
-          let none : call_at own client (made_by_now order client) ≡ None = sym (next_is order client lt) ∙ (ap (next_call own (behind p own A order).made) (sym same) ∙ e) in
+          let none : call_of_client_at own client (made_by_now order client) ≡ None = sym (next_is order client lt) ∙ (ap (next_client_call own (behind p own A order).made) (sym same) ∙ e) in
           let zero_more : made_by_now order client ≡ made_by_now order client + 0 = omega arith in
-          inr (ap (call_at own client) (sym zero_more) ∙ none, elim h [ inl eq ↦ omega (arith, eq) | inr past ↦ (let le = past.1 in omega (arith, le)) ])
+          inr (ap (call_of_client_at own client) (sym zero_more) ∙ none, elim h [ inl eq ↦ omega (arith, eq) | inr past ↦ (let le = past.1 in omega (arith, le)) ])
       mine (Some call) e is same =
           let one : cond {A = ℕ} (c == client) 1 0 ≡ 1 = ap (λ b. cond b 1 0) is in
           let more : length (of_client client (one_reply p own (behind p own A order).kernel c (Some call))) ≡ 1 =
           ap (λ b. length (map (λ (x : ℕ × Reply). x.1) (cond b ((c, (step p (behind p own A order).kernel call).reply) ∷ []) []))) is in
           elim h [
             | inl eq ↦ inl (omega (arith, eq, one, more))
-            | inr past ↦ absurd (none-some call (sym past.0 ∙ (sym (next_is order client lt) ∙ (ap (next_call own (behind p own A order).made) (sym same) ∙ e))))
+            | inr past ↦ absurd (none-some call (sym past.0 ∙ (sym (next_is order client lt) ∙ (ap (next_client_call own (behind p own A order).made) (sym same) ∙ e))))
           ]
 
   counted_from : (done rest : List ℕ) (client : ℕ) → client < length own → IsCounted own client (made_by_now done client) (count_by (λ i. i == client) done)
@@ -190,20 +190,20 @@ module _ (p : ProfileName) (own : List (List Call)) (A : State) where
   counted_from done (c ∷ rest) client lt h =
       let one : IsCounted own client (made_by_now (done ++ c ∷ []) client) (count_by (λ i. i == client) (done ++ c ∷ [])) =
       subst (λ m. IsCounted own client m (count_by (λ i. i == client) (done ++ c ∷ []))) (sym (made-last done c client))
-      (subst (λ n. IsCounted own client (made_by_now done client + length (of_client client (one_reply p own (behind p own A done).kernel c (next_call own (behind p own A done).made c)))) n) (sym (count-last client c done)) (one_counted done c client lt (next_call own (behind p own A done).made c) refl h)) in
+      (subst (λ n. IsCounted own client (made_by_now done client + length (of_client client (one_reply p own (behind p own A done).kernel c (next_client_call own (behind p own A done).made c)))) n) (sym (count-last client c done)) (one_counted done c client lt (next_client_call own (behind p own A done).made c) refl h)) in
       subst (λ l. IsCounted own client (made_by_now l client) (count_by (λ i. i == client) l)) (append_assoc done (c ∷ []) rest) (counted_from (done ++ c ∷ []) rest client lt one)
 
   -- the next call of a client is the one behind as many as the order has of it
-  pub next_counted : (order : List ℕ) (client : ℕ) → next_call own (behind p own A order).made client ≡ call_at own client (count_by (λ i. i == client) order)
-  next_counted order client = elim ((slice_get_cases own client).1) as (λ _. next_call own (behind p own A order).made client ≡ call_at own client (count_by (λ i. i == client) order)) [
+  pub next_counted : (order : List ℕ) (client : ℕ) → next_client_call own (behind p own A order).made client ≡ call_of_client_at own client (count_by (λ i. i == client) order)
+  next_counted order client = elim ((slice_get_cases own client).1) as (λ _. next_client_call own (behind p own A order).made client ≡ call_of_client_at own client (count_by (λ i. i == client) order)) [
     | inl found ↦
         (let lt = found.1 in
-        next_is order client lt ∙ elim (counted_from [] order client lt (inl refl)) as (λ _. call_at own client (made_by_now order client) ≡ call_at own client (count_by (λ i. i == client) order)) [
-          | inl eq ↦ ap (call_at own client) eq
+        next_is order client lt ∙ elim (counted_from [] order client lt (inl refl)) as (λ _. call_of_client_at own client (made_by_now order client) ≡ call_of_client_at own client (count_by (λ i. i == client) order)) [
+          | inl eq ↦ ap (call_of_client_at own client) eq
           | inr past ↦ past.0 ∙ sym (past_all own client _ _ past.0 past.1)
         ])
     | inr none ↦
-        ap (λ (o : Option ℕ). option_and_then (call_at own client) o) (made_past p own A order client none.0)
+        ap (λ (o : Option ℕ). option_and_then (call_of_client_at own client) o) (made_past p own A order client none.0)
         ∙ sym (ap (λ (o : Option (List Call)). option_and_then (λ (calls : List Call). slice_get calls (count_by (λ i. i == client) order)) o) none.1)
   ]
 
@@ -214,17 +214,17 @@ called-append us vs = map-append (λ (c : CallView). (c.client, c.call)) us vs
 
 module _ (kept : ℕ) (p : ProfileName) (setup : SetupView) (A : State) where
   abbrev own : List (List Call)
-  own = own_calls setup
+  own = calls_of_each setup
 
-  called_from : (done rest : List ℕ) → called (chosen_views kept setup.calls (order_numbers (numbers_of setup) done rest)) ≡ calls_made p own (behind p own A done) rest
+  called_from : (done rest : List ℕ) → called (chosen_views kept setup.calls (order_numbers (client_numbers_of setup) done rest)) ≡ calls_of_orders p own (behind p own A done) rest
   called_from done [] = refl
   called_from done (c ∷ rest) =
-      let number = number_in (numbers_of setup) c (count_by (λ i. i == c) done) in
-      let later = order_numbers (numbers_of setup) (done ++ c ∷ []) rest in
+      let number = call_number_at (client_numbers_of setup) c (count_by (λ i. i == c) done) in
+      let later = order_numbers (client_numbers_of setup) (done ++ c ∷ []) rest in
       ap called (flat_map-cons (λ n. view_where (n == kept) (view_numbered setup.calls n)) number later)
       ∙ (called-append (view_where (number == kept) (view_numbered setup.calls number)) (chosen_views kept setup.calls later)
       ∙ (ap (λ l. l ++ called (chosen_views kept setup.calls later)) (one_called kept setup c (count_by (λ i. i == c) done) ∙ ap (made_by c) (sym (next_counted p own A done c)))
-      ∙ ap (λ l. made_by c (next_call own (behind p own A done).made c) ++ l) (called_from (done ++ c ∷ []) rest ∙ ap (λ (w : World). calls_made p own w rest) (after_last p own _ done c))))
+      ∙ ap (λ l. made_by c (next_client_call own (behind p own A done).made c) ++ l) (called_from (done ++ c ∷ []) rest ∙ ap (λ (w : World). calls_of_orders p own w rest) (after_last p own _ done c))))
 
-  pub numbers_make_calls : (order : List ℕ) → called (chosen_views kept setup.calls (order_numbers (numbers_of setup) [] order)) ≡ calls_made p own (start own A) order
+  pub numbers_make_calls : (order : List ℕ) → called (chosen_views kept setup.calls (order_numbers (client_numbers_of setup) [] order)) ≡ calls_of_orders p own (start own A) order
   numbers_make_calls order = called_from [] order

@@ -16,22 +16,22 @@ use Rattle.query_orders.specs.declared.answer.Answer.{Answer}
 use Rattle.query_orders.specs.declared.answer.Answer.TheVariants.{Replied, Served, Cancelled, Waits, NotMade}
 use Rattle.query_orders.specs.declared.left.LeftCall.{LeftCall}
 use Rattle.query_orders.specs.contracts.answer.AnswerPartialEq.TheImpl as answer_eq
-use Rattle.query_orders.specs.World.{World, start, call_at}
+use Rattle.query_orders.specs.World.{World, start, call_of_client_at}
 use Rattle.query_orders.specs.Orders.{is_end, is_stuck}
 use Rattle.query_orders.specs.Answers.{Answered}
 use Rattle.query_orders.specs.Ends.{StuckEnd, left_calls}
-use Rattle.query_orders.specs.Laws.{calls_made}
+use Rattle.query_orders.specs.Laws.{calls_of_orders}
 use Rattle.query_orders.specs.Explorations.{depth}
 use Rattle.query_orders.specs.Found.{same_left}
 use Rattle.command_explore_text.specs.declared.witness.Witness.{Witness}
 use Rattle.command_explore_text.specs.declared.witness.Witness.TheVariants as witnesses
-use Rattle.command_explore_text.specs.Clients.{client_calls, own_calls, first_clients}
+use Rattle.command_explore_text.specs.Clients.{calls_of_client, calls_of_each, first_clients}
 use Rattle.command_explore_text.specs.Laws.{begins}
-use Rattle.command_explore_text.specs.Numbers.{numbers_of}
+use Rattle.command_explore_text.specs.Numbers.{client_numbers_of}
 use Rattle.command_explore_text.specs.Report.{exploration}
-use Rattle.command_explore_text.specs.Text.{is_of}
+use Rattle.command_explore_text.specs.Text.{is_answer_of}
 use Rattle.command_explore_text.specs.Witnesses.{answer_numbered, stuck_numbered}
-use Rattle.command_explore_text.specs.Replays.{called, calls_in, run_replies, run_end, run_world, client_replies, reply_at, EndsWith, waits_in, waits_at_end, ComesTo, EndsStuck, MakesOrder, explored, IsWitnessReplayed}
+use Rattle.command_explore_text.specs.Replays.{called, replayed_calls, run_replies, run_end, run_world, client_replies, reply_at, EndsWith, is_shown_waiting, waits_at_end, ComesToAnswer, EndsStuck, MakesOrder, explored, IsWitnessReplayed}
 use Rattle.command_explore_text.proofs.Replay.Runs.{of_client, replies_run, state_run, same_clients, behind, answers, made_of, made_past}
 use Rattle.command_explore_text.proofs.Replay.Accepted.{some_of}
 use Rattle.command_explore_text.proofs.Replay.Told.{LastAnswer, Tells, Told, ToldStuck, answers_told, stuck_told}
@@ -74,7 +74,7 @@ less_or (suc i) (suc n) = elim (less_or i n) as (λ _. (suc i < suc n) ⊎ (suc 
 
 -- ---- calls with their clients
 
-client_called : (client : ℕ) (calls : List CallView) → client_calls calls client ≡ of_client client (called calls)
+client_called : (client : ℕ) (calls : List CallView) → calls_of_client calls client ≡ of_client client (called calls)
 client_called client [] = refl
 client_called client (call ∷ calls) =
     let own = filter (λ (c : CallView). c.client == client) calls in
@@ -112,7 +112,7 @@ module _ (setup : SetupView) (order : List ℕ) (kept : ℕ) (made : SetupView) 
   p = setup.profile
 
   abbrev own : List (List Call)
-  own = own_calls setup
+  own = calls_of_each setup
 
   abbrev A : State
   A = boot p setup.plan
@@ -126,18 +126,18 @@ module _ (setup : SetupView) (order : List ℕ) (kept : ℕ) (made : SetupView) 
   boot_same : boot made.profile made.plan ≡ A
   boot_same = ap (λ q. boot q made.plan) m.profile ∙ ap (boot p) m.plan
 
-  calls_same : calls_in made ≡ map (λ (c : ℕ × Call). c.1) (calls_made p own (start own A) order)
+  calls_same : replayed_calls made ≡ map (λ (c : ℕ × Call). c.1) (calls_of_orders p own (start own A) order)
   calls_same = calls_called made.calls ∙ ap (map (λ (c : ℕ × Call). c.1)) m.calls
 
   replies_are : run_replies made ≡ map (λ (r : ℕ × Reply). r.1) rs
   replies_are =
-      ap (λ q. replies_of q (boot made.profile made.plan) (calls_in made)) m.profile
-      ∙ (ap (λ B. replies_of p B (calls_in made)) boot_same ∙ (ap (replies_of p A) calls_same ∙ replies_run p own (start own A) order))
+      ap (λ q. replies_of q (boot made.profile made.plan) (replayed_calls made)) m.profile
+      ∙ (ap (λ B. replies_of p B (replayed_calls made)) boot_same ∙ (ap (replies_of p A) calls_same ∙ replies_run p own (start own A) order))
 
   end_is : run_end made ≡ v.kernel
   end_is =
-      ap (λ q. state_after q (boot made.profile made.plan) (calls_in made)) m.profile
-      ∙ (ap (λ B. state_after p B (calls_in made)) boot_same ∙ (ap (state_after p A) calls_same ∙ state_run p own (start own A) order))
+      ap (λ q. state_after q (boot made.profile made.plan) (replayed_calls made)) m.profile
+      ∙ (ap (λ B. state_after p B (replayed_calls made)) boot_same ∙ (ap (state_after p A) calls_same ∙ state_run p own (start own A) order))
 
   clients_same : map (λ (c : ℕ × Call). c.0) (called made.calls) ≡ map (λ (r : ℕ × Reply). r.0) rs
   clients_same = ap (map (λ (c : ℕ × Call). c.0)) m.calls ∙ same_clients p own (start own A) order
@@ -152,29 +152,29 @@ module _ (setup : SetupView) (order : List ℕ) (kept : ℕ) (made : SetupView) 
     replies_are ∙ (ap (map (λ (r : ℕ × Reply). r.1)) h.2 ∙ map-append (λ (r : ℕ × Reply). r.1) h.0 ((h.1, reply) ∷ [])),
   )
 
-  waits_are : (client place : ℕ) → waits_at_end setup made client place ≡ waits_in (shown v.kernel) (call_at own client place)
-  waits_are client place = ap (λ B. waits_in (shown B) (call_at own client place)) end_is
+  waits_are : (client place : ℕ) → waits_at_end setup made client place ≡ is_shown_waiting (shown v.kernel) (call_of_client_at own client place)
+  waits_are client place = ap (λ B. is_shown_waiting (shown B) (call_of_client_at own client place)) end_is
 
   own_length : length own ≡ setup.clients
-  own_length = length-mapped (client_calls setup.calls) setup.clients
+  own_length = length-mapped (calls_of_client setup.calls) setup.clients
 
   -- how many calls a client has made
-  made_at : (i : ℕ) → slice_get (map length (own_calls made)) i ≡ slice_get v.made i
+  made_at : (i : ℕ) → slice_get (map length (calls_of_each made)) i ≡ slice_get v.made i
   made_at i =
       let long = own_length in
       let clients = m.clients in
-      slice_get-map length (own_calls made) i ∙ elim (less_or i setup.clients) as (λ _. option_map length (slice_get (own_calls made) i) ≡ slice_get v.made i) [
+      slice_get-map length (calls_of_each made) i ∙ elim (less_or i setup.clients) as (λ _. option_map length (slice_get (calls_of_each made) i) ≡ slice_get v.made i) [
         | inl lt ↦
-            ap (option_map length) (get-mapped (client_calls made.calls) made.clients i (omega (arith, lt, clients)))
+            ap (option_map length) (get-mapped (calls_of_client made.calls) made.clients i (omega (arith, lt, clients)))
             ∙ (ap (λ l. Some (length l)) (client_called i made.calls)
             ∙ (ap (λ n. Some n) (as_many i (called made.calls) rs clients_same) ∙ sym (made_of p own A order i (omega (arith, lt, long)))))
         | inr le ↦
-            ap (option_map length) (get-mapped_past (client_calls made.calls) made.clients i (omega (arith, le, clients)))
+            ap (option_map length) (get-mapped_past (calls_of_client made.calls) made.clients i (omega (arith, le, clients)))
             ∙ sym (made_past p own A order i (omega (arith, le, long)))
       ]
 
-  made_same : map length (own_calls made) ≡ v.made
-  made_same = same_places (map length (own_calls made)) v.made made_at
+  made_same : map length (calls_of_each made) ≡ v.made
+  made_same = same_places (map length (calls_of_each made)) v.made made_at
 
   ends_same : is_end own (run_world made) ≡ is_end own v
   ends_same = ap (λ l. is_end own (record { made = l; waits = []; kernel = run_end made })) made_same ∙ ap (λ B. is_end own (record { made = v.made; waits = []; kernel = B })) end_is
@@ -182,7 +182,7 @@ module _ (setup : SetupView) (order : List ℕ) (kept : ℕ) (made : SetupView) 
   stuck_same : is_stuck own (run_world made) ≡ is_stuck own v
   stuck_same = ap (λ l. is_stuck own (record { made = l; waits = []; kernel = run_end made })) made_same ∙ ap (λ B. is_stuck own (record { made = v.made; waits = []; kernel = B })) end_is
 
-  comes : (client place : ℕ) (answer : Answer) → Tells p own A order client place answer → ComesTo setup made client place answer
+  comes : (client place : ℕ) (answer : Answer) → Tells p own A order client place answer → ComesToAnswer setup made client place answer
   comes client place (Replied reply) h = (reply_is client place ∙ h.0, last_is reply h.1)
   comes client place (Served reply) h = (reply_is client place ∙ h.0, last_is reply h.1, waits_are client place ∙ h.2)
   comes client place Cancelled h = (reply_is client place ∙ h.0, waits_are client place ∙ h.1)
@@ -193,7 +193,7 @@ module _ (setup : SetupView) (order : List ℕ) (kept : ℕ) (made : SetupView) 
   ends_stuck left h e = (
     stuck_same ∙ h,
     e
-        ∙ (ap (λ l. left_calls own l (shown v.kernel)) (sym made_same) ∙ ap (λ B. left_calls own (map length (own_calls made)) (shown B)) (sym end_is)),
+        ∙ (ap (λ l. left_calls own l (shown v.kernel)) (sym made_same) ∙ ap (λ B. left_calls own (map length (calls_of_each made)) (shown B)) (sym end_is)),
   )
 
 -- ---- what is told
@@ -201,7 +201,7 @@ module _ (setup : SetupView) (order : List ℕ) (kept : ℕ) (made : SetupView) 
 each-answer : (P : Answered → Type 0) (numbers : List (List ℕ)) (number wanted place : ℕ) (answers : List Answered) (a : Answered) → Each P answers → answer_numbered numbers number wanted place answers ≡ Some a → P a
 each-answer P numbers number wanted place [] a h e = absurd (none-some a e)
 each-answer P numbers number wanted place (x ∷ xs) a h e =
-    elim (is_of numbers number x) as (λ b. cond b (cond (place == wanted) (Some x) (answer_numbered numbers number wanted (place + 1) xs)) (answer_numbered numbers number wanted place xs) ≡ Some a → P a) [
+    elim (is_answer_of numbers number x) as (λ b. cond b (cond (place == wanted) (Some x) (answer_numbered numbers number wanted (place + 1) xs)) (answer_numbered numbers number wanted place xs) ≡ Some a → P a) [
       | true ↦ elim (place == wanted) as (λ b. cond b (Some x) (answer_numbered numbers number wanted (place + 1) xs) ≡ Some a → P a) [
         | true ↦ λ e. subst P (same_Some x a e) h.0
         | false ↦ λ e. each-answer P numbers number wanted (place + 1) xs a h.1 e
@@ -218,40 +218,40 @@ each-stuck P wanted place (x ∷ xs) s h e =
     ] e
 
 -- the kernel behind each order is one that runs reach
-reached : (setup : SetupView) → IsPlan setup.profile setup.plan → (order : List ℕ) → IsReached setup.profile (behind setup.profile (own_calls setup) (boot setup.profile setup.plan) order).kernel
+reached : (setup : SetupView) → IsPlan setup.profile setup.plan → (order : List ℕ) → IsReached setup.profile (behind setup.profile (calls_of_each setup) (boot setup.profile setup.plan) order).kernel
 reached setup lawful order =
     let A = boot setup.profile setup.plan in
     record {
       plan = setup.plan;
       lawful = lawful;
-      calls = map (λ (c : ℕ × Call). c.1) (calls_made setup.profile (own_calls setup) (start (own_calls setup) A) order);
-      is = sym (state_run setup.profile (own_calls setup) (start (own_calls setup) A) order);
+      calls = map (λ (c : ℕ × Call). c.1) (calls_of_orders setup.profile (calls_of_each setup) (start (calls_of_each setup) A) order);
+      is = sym (state_run setup.profile (calls_of_each setup) (start (calls_of_each setup) A) order);
     }
 
-explored_told : (setup : SetupView) (first limit : ℕ) → IsPlan setup.profile setup.plan → Each (Told setup.profile (own_calls setup) (boot setup.profile setup.plan)) (explored setup first limit).answers
+explored_told : (setup : SetupView) (first limit : ℕ) → IsPlan setup.profile setup.plan → Each (Told setup.profile (calls_of_each setup) (boot setup.profile setup.plan)) (explored setup first limit).answers
 unfolding exploration
 explored_told setup first limit lawful =
-    answers_told setup.profile (own_calls setup) (boot setup.profile setup.plan) (reached setup lawful) answer_eq.ghosts.eq (first_clients setup first)
-    (depth setup.profile (own_calls setup) (begins setup.profile setup) (first_clients setup first) limit (length setup.calls + 1))
+    answers_told setup.profile (calls_of_each setup) (boot setup.profile setup.plan) (reached setup lawful) answer_eq.ghosts.eq (first_clients setup first)
+    (depth setup.profile (calls_of_each setup) (begins setup.profile setup) (first_clients setup first) limit (length setup.calls + 1))
 
-explored_stuck : (setup : SetupView) (first limit : ℕ) → Each (ToldStuck setup.profile (own_calls setup) (boot setup.profile setup.plan)) (explored setup first limit).stuck
+explored_stuck : (setup : SetupView) (first limit : ℕ) → Each (ToldStuck setup.profile (calls_of_each setup) (boot setup.profile setup.plan)) (explored setup first limit).stuck
 unfolding exploration
 explored_stuck setup first limit =
-    stuck_told setup.profile (own_calls setup) (boot setup.profile setup.plan) same_left (first_clients setup first)
-    (depth setup.profile (own_calls setup) (begins setup.profile setup) (first_clients setup first) limit (length setup.calls + 1))
+    stuck_told setup.profile (calls_of_each setup) (boot setup.profile setup.plan) same_left (first_clients setup first)
+    (depth setup.profile (calls_of_each setup) (begins setup.profile setup) (first_clients setup first) limit (length setup.calls + 1))
 
 pub witness_replayed : (setup : SetupView) (first limit : ℕ) (witness : Witness) (order : List ℕ) (made : SetupView) → IsWitnessReplayed setup first limit witness order made
 witness_replayed setup first limit (witnesses.Answer call place) order made lawful told makes =
     let p = setup.profile in
-    let own = own_calls setup in
+    let own = calls_of_each setup in
     let A = boot p setup.plan in
     let e = explored setup first limit in
-    let (a, named, is) = some_of (λ (a : Answered). a.order) (answer_numbered (numbers_of setup) call place 1 e.answers) order told in
-    let tells = each-answer (Told p own A) (numbers_of setup) call place 1 e.answers a (explored_told setup first limit lawful) named in
+    let (a, named, is) = some_of (λ (a : Answered). a.order) (answer_numbered (client_numbers_of setup) call place 1 e.answers) order told in
+    let tells = each-answer (Told p own A) (client_numbers_of setup) call place 1 e.answers a (explored_told setup first limit lawful) named in
     (a, named, comes setup order call made makes a.client a.place a.answer (subst (λ l. Tells p own A l a.client a.place a.answer) is tells))
 witness_replayed setup first limit (witnesses.Stuck place) order made lawful told makes =
     let p = setup.profile in
-    let own = own_calls setup in
+    let own = calls_of_each setup in
     let A = boot p setup.plan in
     let e = explored setup first limit in
     let (s, named, is) = some_of (λ (s : StuckEnd). s.order) (stuck_numbered place 1 e.stuck) order told in

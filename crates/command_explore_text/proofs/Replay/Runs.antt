@@ -9,8 +9,8 @@ use Rattle.kernel_abstract.specs.declared.call.Call.{Call}
 use Rattle.kernel_abstract.specs.declared.call.Reply.{Reply}
 use Rattle.kernel_abstract.specs.State.{State}
 use Rattle.kernel_abstract.specs.Step.{step, replies_of, state_after}
-use Rattle.query_orders.specs.World.{World, start, call_at, next_call, one_more, place_of, with_call, after_call, world_after}
-use Rattle.query_orders.specs.Laws.{made_by, calls_made}
+use Rattle.query_orders.specs.World.{World, start, call_of_client_at, next_client_call, one_more, next_place, with_call, after_call, world_after}
+use Rattle.query_orders.specs.Laws.{made_by, calls_of_orders}
 
 -- of things with their clients, those of one client
 abbrev pub of_client : {X : Type 0} → ℕ → List (ℕ × X) → List X
@@ -53,16 +53,16 @@ module _ (p : ProfileName) (own : List (List Call)) where
   -- what the calls of an order are answered, each with its client
   abbrev pub replies_made : World → List ℕ → List (ℕ × Reply)
   replies_made w [] = []
-  replies_made w (client ∷ order) = one_reply w.kernel client (next_call own w.made client) ++ replies_made (after_call p own w client) order
+  replies_made w (client ∷ order) = one_reply w.kernel client (next_client_call own w.made client) ++ replies_made (after_call p own w client) order
 
   abbrev made_calls : World → List ℕ → List Call
-  made_calls w order = map (λ (c : ℕ × Call). c.1) (calls_made p own w order)
+  made_calls w order = map (λ (c : ℕ × Call). c.1) (calls_of_orders p own w order)
 
   pub replies_run : (w : World) (order : List ℕ) → replies_of p w.kernel (made_calls w order) ≡ map (λ (r : ℕ × Reply). r.1) (replies_made w order)
   unfolding replies_of
   replies_run w [] = refl
   replies_run w (client ∷ order) =
-      elim (next_call own w.made client) as (λ c. replies_of p w.kernel (map (λ (c : ℕ × Call). c.1) (made_by client c ++ calls_made p own (with_call p w client c) order))
+      elim (next_client_call own w.made client) as (λ c. replies_of p w.kernel (map (λ (c : ℕ × Call). c.1) (made_by client c ++ calls_of_orders p own (with_call p w client c) order))
       ≡ map (λ (r : ℕ × Reply). r.1) (one_reply w.kernel client c ++ replies_made (with_call p w client c) order)) [
         | None ↦ replies_run w order
         | Some call ↦ ap (λ l. (step p w.kernel call).reply ∷ l) (replies_run (with_call p w client (Some call)) order)
@@ -72,16 +72,16 @@ module _ (p : ProfileName) (own : List (List Call)) where
   unfolding state_after
   state_run w [] = refl
   state_run w (client ∷ order) =
-      elim (next_call own w.made client) as (λ c. state_after p w.kernel (map (λ (c : ℕ × Call). c.1) (made_by client c ++ calls_made p own (with_call p w client c) order))
+      elim (next_client_call own w.made client) as (λ c. state_after p w.kernel (map (λ (c : ℕ × Call). c.1) (made_by client c ++ calls_of_orders p own (with_call p w client c) order))
       ≡ (world_after p own (with_call p w client c) order).kernel) [
         | None ↦ state_run w order
         | Some call ↦ state_run (with_call p w client (Some call)) order
       ]
 
-  pub same_clients : (w : World) (order : List ℕ) → map (λ (c : ℕ × Call). c.0) (calls_made p own w order) ≡ map (λ (r : ℕ × Reply). r.0) (replies_made w order)
+  pub same_clients : (w : World) (order : List ℕ) → map (λ (c : ℕ × Call). c.0) (calls_of_orders p own w order) ≡ map (λ (r : ℕ × Reply). r.0) (replies_made w order)
   same_clients w [] = refl
   same_clients w (client ∷ order) =
-      elim (next_call own w.made client) as (λ c. map (λ (c : ℕ × Call). c.0) (made_by client c ++ calls_made p own (with_call p w client c) order)
+      elim (next_client_call own w.made client) as (λ c. map (λ (c : ℕ × Call). c.0) (made_by client c ++ calls_of_orders p own (with_call p w client c) order)
       ≡ map (λ (r : ℕ × Reply). r.0) (one_reply w.kernel client c ++ replies_made (with_call p w client c) order)) [
         | None ↦ same_clients w order
         | Some call ↦ ap (λ l. client ∷ l) (same_clients (with_call p w client (Some call)) order)
@@ -92,11 +92,11 @@ module _ (p : ProfileName) (own : List (List Call)) where
   after_last w (c ∷ order) client = after_last (after_call p own w c) order client
 
   pub replies_last : (w : World) (order : List ℕ) (client : ℕ) → replies_made w (order ++ client ∷ [])
-      ≡ replies_made w order ++ one_reply (world_after p own w order).kernel client (next_call own (world_after p own w order).made client)
-  replies_last w [] client = append-nil (one_reply w.kernel client (next_call own w.made client))
+      ≡ replies_made w order ++ one_reply (world_after p own w order).kernel client (next_client_call own (world_after p own w order).made client)
+  replies_last w [] client = append-nil (one_reply w.kernel client (next_client_call own w.made client))
   replies_last w (c ∷ order) client =
-      ap (λ l. one_reply w.kernel c (next_call own w.made c) ++ l) (replies_last (after_call p own w c) order client)
-      ∙ sym (append_assoc (one_reply w.kernel c (next_call own w.made c)) (replies_made (after_call p own w c) order) _)
+      ap (λ l. one_reply w.kernel c (next_client_call own w.made c) ++ l) (replies_last (after_call p own w c) order client)
+      ∙ sym (append_assoc (one_reply w.kernel c (next_client_call own w.made c)) (replies_made (after_call p own w c) order) _)
 
   -- ---- how many calls each client has made
 
@@ -106,7 +106,7 @@ module _ (p : ProfileName) (own : List (List Call)) where
 
   pub made_length : (w : World) (order : List ℕ) → length (world_after p own w order).made ≡ length w.made
   made_length w [] = refl
-  made_length w (client ∷ order) = made_length (after_call p own w client) order ∙ one_length w client (next_call own w.made client)
+  made_length w (client ∷ order) = made_length (after_call p own w client) order ∙ one_length w client (next_client_call own w.made client)
 
   one_made : (w : World) (client i k : ℕ) (c : Option Call) → slice_get w.made i ≡ Some k
       → slice_get (with_call p w client c).made i ≡ Some (k + length (of_client i (one_reply w.kernel client c)))
@@ -130,7 +130,7 @@ module _ (p : ProfileName) (own : List (List Call)) where
       → slice_get (world_after p own w order).made i ≡ Some (k + length (of_client i (replies_made w order)))
   made_is w [] i k h = let e : k ≡ k + 0 = omega arith in h ∙ ap (λ n. Some n) e
   made_is w (client ∷ order) i k h =
-      let c = next_call own w.made client in
+      let c = next_client_call own w.made client in
       let one = one_reply w.kernel client c in
       let rest = replies_made (after_call p own w client) order in
       let both : length (of_client i (one ++ rest)) ≡ length (of_client i one) + length (of_client i rest) =
@@ -163,10 +163,10 @@ module _ (p : ProfileName) (own : List (List Call)) where
         slice_get_past (behind order).made i (omega (arith, le, long, first))
 
     -- a client that has a next call is one
-    pub caller : (made : List ℕ) (client : ℕ) (call : Call) → next_call own made client ≡ Some call → client < length own
+    pub caller : (made : List ℕ) (client : ℕ) (call : Call) → next_client_call own made client ≡ Some call → client < length own
     caller made client call e = by (slice_get made client) e
       where
-        by : (o : Option ℕ) → option_and_then (call_at own client) o ≡ Some call → client < length own
+        by : (o : Option ℕ) → option_and_then (call_of_client_at own client) o ≡ Some call → client < length own
         by None h = absurd (none-some call h)
         by (Some n) h = within (slice_get own client) refl h
           where
@@ -175,8 +175,8 @@ module _ (p : ProfileName) (own : List (List Call)) where
             within (Some calls) f h = slice_get_within own client calls f
 
     -- its place is how many of its calls are answered
-    pub place_is : (order : List ℕ) (client : ℕ) (call : Call) → next_call own (behind order).made client ≡ Some call
-        → (place_of (behind order).made client ≡ length (of_client client (answers order))) × (call_at own client (length (of_client client (answers order))) ≡ Some call)
+    pub place_is : (order : List ℕ) (client : ℕ) (call : Call) → next_client_call own (behind order).made client ≡ Some call
+        → (next_place (behind order).made client ≡ length (of_client client (answers order))) × (call_of_client_at own client (length (of_client client (answers order))) ≡ Some call)
     place_is order client call e =
         let made = made_of order client (caller (behind order).made client call e) in
-        (ap (λ (o : Option ℕ). unwrap_or o 0) made, sym (ap (λ (o : Option ℕ). option_and_then (call_at own client) o) made) ∙ e)
+        (ap (λ (o : Option ℕ). unwrap_or o 0) made, sym (ap (λ (o : Option ℕ). option_and_then (call_of_client_at own client) o) made) ∙ e)

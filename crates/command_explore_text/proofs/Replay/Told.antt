@@ -15,12 +15,12 @@ use Rattle.query_orders.specs.declared.answer.Answer.{Answer}
 use Rattle.query_orders.specs.declared.answer.Answer.TheVariants.{Replied, Served, Cancelled, Waits, NotMade}
 use Rattle.query_orders.specs.declared.answer.WaitingCall.{WaitingCall}
 use Rattle.query_orders.specs.declared.left.LeftCall.{LeftCall}
-use Rattle.query_orders.specs.World.{World, start, call_at, next_call, may_call, place_of, is_wait, is_waiting, still_waits}
-use Rattle.query_orders.specs.Orders.{below, clients, orders, is_end, is_stuck, found_before}
+use Rattle.query_orders.specs.World.{World, start, call_of_client_at, next_client_call, may_call, next_place, is_wait, is_waiting, still_waits}
+use Rattle.query_orders.specs.Orders.{numbers_below, clients, orders, is_end, is_stuck, found_before}
 use Rattle.query_orders.specs.Answers.{Answered, answered, replied, wait_ended, waits_ended, call_answers, outcome_answers, numbers_from, places_left, end_answers, answers_behind, first_answers, same_answer, answers_before}
 use Rattle.query_orders.specs.Ends.{StuckEnd, stuck_end, left_calls, stuck_behind, stuck_before}
 use Rattle.query_orders.proofs.Contained.{each_append, each-flat_map}
-use Rattle.command_explore_text.specs.Replays.{waits_in}
+use Rattle.command_explore_text.specs.Replays.{is_shown_waiting}
 use Rattle.command_explore_text.proofs.Replay.Runs.{of_client, one_reply, replies_last, after_last, behind, answers, made_of}
 use Rattle.command_explore_text.proofs.Replay.Waits.{each-and, each-weaker, IsWaitOf, kernel_last, same_place, own_answer, waits_known}
 
@@ -30,9 +30,9 @@ each-map : {X Y : Type 0} (P : X → Type 0) (Q : Y → Type 0) (f : X → Y) �
 each-map P Q f h [] e = tt
 each-map P Q f h (x ∷ xs) e = (h x e.0, each-map P Q f h xs e.1)
 
-each-below : (P : ℕ → Type 0) (n : ℕ) → ((i : ℕ) → i < n → P i) → Each P (below n)
+each-below : (P : ℕ → Type 0) (n : ℕ) → ((i : ℕ) → i < n → P i) → Each P (numbers_below n)
 each-below P zero h = tt
-each-below P (suc n) h = each_append P (below n) (n ∷ []) (each-below P n (λ i lt. h i (omega (arith, lt)))) (h n (omega arith), tt)
+each-below P (suc n) h = each_append P (numbers_below n) (n ∷ []) (each-below P n (λ i lt. h i (omega (arith, lt)))) (h n (omega arith), tt)
 
 each-numbers : (first n : ℕ) → Each (λ place. first ≤ place) (numbers_from first n)
 each-numbers first zero = tt
@@ -73,10 +73,10 @@ module _ (p : ProfileName) (own : List (List Call)) (A : State) where
   abbrev pub Tells : List ℕ → ℕ → ℕ → Answer → Type 0
   Tells order client place (Replied reply) = (answer_at order client place ≡ Some reply) × LastAnswer order reply
   Tells order client place (Served reply) =
-      (answer_at order client place ≡ Some Waiting) × LastAnswer order reply × (waits_in (shown (behind p own A order).kernel) (call_at own client place) ≡ false)
-  Tells order client place Cancelled = (answer_at order client place ≡ Some Waiting) × (waits_in (shown (behind p own A order).kernel) (call_at own client place) ≡ false)
+      (answer_at order client place ≡ Some Waiting) × LastAnswer order reply × (is_shown_waiting (shown (behind p own A order).kernel) (call_of_client_at own client place) ≡ false)
+  Tells order client place Cancelled = (answer_at order client place ≡ Some Waiting) × (is_shown_waiting (shown (behind p own A order).kernel) (call_of_client_at own client place) ≡ false)
   Tells order client place Waits =
-      (answer_at order client place ≡ Some Waiting) × (waits_in (shown (behind p own A order).kernel) (call_at own client place) ≡ true) × (is_end own (behind p own A order) ≡ true)
+      (answer_at order client place ≡ Some Waiting) × (is_shown_waiting (shown (behind p own A order).kernel) (call_of_client_at own client place) ≡ true) × (is_end own (behind p own A order) ≡ true)
   Tells order client place NotMade = (answer_at order client place ≡ None) × (is_end own (behind p own A order) ≡ true)
 
   abbrev pub Told : Answered → Type 0
@@ -85,7 +85,7 @@ module _ (p : ProfileName) (own : List (List Call)) (A : State) where
   module _ (reached : (order : List ℕ) → IsReached p (behind p own A order).kernel) where
     -- ---- one call more
 
-    module _ (order : List ℕ) (c : ℕ) (call : Call) (e : next_call own (behind p own A order).made c ≡ Some call) where
+    module _ (order : List ℕ) (c : ℕ) (call : Call) (e : next_client_call own (behind p own A order).made c ≡ Some call) where
       abbrev v : World
       v = behind p own A order
 
@@ -98,8 +98,8 @@ module _ (p : ProfileName) (own : List (List Call)) (A : State) where
       last : LastAnswer more reply
       last = (answers p own A order, c, replies_last p own _ order c ∙ ap (λ (o : Option Call). answers p own A order ++ one_reply p own v.kernel c o) e)
 
-      replied_told : Each Told (replied more c (place_of v.made c) reply)
-      replied_told = elim (is_wait reply) as (λ b. Each Told (cond b [] (answered more c (place_of v.made c) (Replied reply) ∷ []))) [ true ↦ tt | false ↦ ((own_answer p own A order c call e, last), tt) ]
+      replied_told : Each Told (replied more c (next_place v.made c) reply)
+      replied_told = elim (is_wait reply) as (λ b. Each Told (cond b [] (answered more c (next_place v.made c) (Replied reply) ∷ []))) [ true ↦ tt | false ↦ ((own_answer p own A order c call e, last), tt) ]
 
       -- what became of a wait that is not shown any more
       ended : (wait : WaitingCall) → IsWaitOf p own A order wait → not (still_waits (shown (step p v.kernel call).state) wait) ≡ true → (r : Reply) → reply ≡ r → Tells more wait.client wait.place (wait_ended r wait.thread)
@@ -108,9 +108,9 @@ module _ (p : ProfileName) (own : List (List Call)) (A : State) where
           answer : answer_at more wait.client wait.place ≡ Some Waiting
           answer = same_place p own A order c wait.client wait.place Waiting h.answer
 
-          over : waits_in (shown (behind p own A more).kernel) (call_at own wait.client wait.place) ≡ false
+          over : is_shown_waiting (shown (behind p own A more).kernel) (call_of_client_at own wait.client wait.place) ≡ false
           over =
-              ap (λ (o : Option Call). waits_in (shown (behind p own A more).kernel) o) h.call_is
+              ap (λ (o : Option Call). is_shown_waiting (shown (behind p own A more).kernel) o) h.call_is
               ∙ (ap (λ (B : State). is_waiting (state_at (shown B) h.call.thread)) (kernel_last p own A order c (Some call) e)
               ∙ (ap (λ t. is_waiting (state_at (shown (step p v.kernel call).state) t)) h.thread_is ∙ not_true _ out))
 
@@ -134,23 +134,23 @@ module _ (p : ProfileName) (own : List (List Call)) (A : State) where
           (each-and (IsWaitOf p own A order) (λ wait. not (still_waits (shown (step p v.kernel call).state) wait)) v.waits (waits_known p own A reached order))
 
       call_told : Each Told (outcome_answers v more c (step p v.kernel call))
-      call_told = each_append Told (replied more c (place_of v.made c) reply) _ replied_told ended_told
+      call_told = each_append Told (replied more c (next_place v.made c) reply) _ replied_told ended_told
 
-    next_told : (order : List ℕ) (c : ℕ) (o : Option Call) → next_call own (behind p own A order).made c ≡ o → Each Told (call_answers p (behind p own A order) order c o)
+    next_told : (order : List ℕ) (c : ℕ) (o : Option Call) → next_client_call own (behind p own A order).made c ≡ o → Each Told (call_answers p (behind p own A order) order c o)
     next_told order c None e = tt
     next_told order c (Some call) e = call_told order c call e
 
     -- ---- the end
 
-    not_made : (order : List ℕ) (client place : ℕ) → client < length own → place_of (behind p own A order).made client ≤ place → answer_at order client place ≡ None
+    not_made : (order : List ℕ) (client place : ℕ) → client < length own → next_place (behind p own A order).made client ≤ place → answer_at order client place ≡ None
     not_made order client place lt le =
         let made = ap (λ (o : Option ℕ). unwrap_or o 0) (made_of p own A order client lt) in
         slice_get_past (of_client client (answers p own A order)) place (omega (arith, made, le))
 
-    waits_still : (order : List ℕ) (wait : WaitingCall) → IsWaitOf p own A order wait → waits_in (shown (behind p own A order).kernel) (call_at own wait.client wait.place) ≡ true
+    waits_still : (order : List ℕ) (wait : WaitingCall) → IsWaitOf p own A order wait → is_shown_waiting (shown (behind p own A order).kernel) (call_of_client_at own wait.client wait.place) ≡ true
     waits_still order wait h =
         let v = shown (behind p own A order).kernel in
-        ap (waits_in v) h.call_is ∙ (ap (λ t. is_waiting (state_at v t)) h.thread_is ∙ h.waits)
+        ap (is_shown_waiting v) h.call_is ∙ (ap (λ t. is_waiting (state_at v t)) h.thread_is ∙ h.waits)
 
     end_told : (order : List ℕ) → is_end own (behind p own A order) ≡ true → Each Told (end_answers own (behind p own A order) order)
     end_told order ends =
@@ -158,15 +158,15 @@ module _ (p : ProfileName) (own : List (List Call)) (A : State) where
         each_append Told (map (λ (wait : WaitingCall). answered order wait.client wait.place Waits) v.waits) _
         (each-map (IsWaitOf p own A order) Told (λ (wait : WaitingCall). answered order wait.client wait.place Waits) (λ wait h. (h.answer, waits_still order wait h, ends)) v.waits (waits_known p own A reached order))
         (each-flat_map (λ client. client < length own) Told (λ client. map (λ place. answered order client place NotMade) (places_left own v.made client))
-        (λ client lt. each-map (λ place. place_of v.made client ≤ place) Told (λ place. answered order client place NotMade) (λ place le. (not_made order client place lt le, ends))
-        (places_left own v.made client) (each-numbers (place_of v.made client) _))
+        (λ client lt. each-map (λ place. next_place v.made client ≤ place) Told (λ place. answered order client place NotMade) (λ place le. (not_made order client place lt le, ends))
+        (places_left own v.made client) (each-numbers (next_place v.made client) _))
         (clients own) (each-below _ (length own) (λ i lt. lt)))
 
     behind_told : (order : List ℕ) → Each Told (answers_behind p own (start own A) order)
     behind_told order =
         let v = behind p own A order in
-        each_append Told (flat_map (λ client. call_answers p v order client (next_call own v.made client)) (filter (may_call own v) (clients own))) _
-        (each-flat_map (λ (_ : ℕ). Unit {0}) Told (λ client. call_answers p v order client (next_call own v.made client)) (λ client _. next_told order client (next_call own v.made client) refl) _ (every _))
+        each_append Told (flat_map (λ client. call_answers p v order client (next_client_call own v.made client)) (filter (may_call own v) (clients own))) _
+        (each-flat_map (λ (_ : ℕ). Unit {0}) Told (λ client. call_answers p v order client (next_client_call own v.made client)) (λ client _. next_told order client (next_client_call own v.made client) refl) _ (every _))
         (elim (is_end own v) as (λ b. is_end own v ≡ b → Each Told (cond b (end_answers own v order) [])) [ true ↦ (λ e. end_told order e) | false ↦ (λ e. tt) ] refl)
       where
         every : (l : List ℕ) → Each (λ _. Unit {0}) l
@@ -177,7 +177,7 @@ module _ (p : ProfileName) (own : List (List Call)) (A : State) where
     first_told done [] = tt
     first_told done (c ∷ rest) =
         let w = behind p own A done in
-        each_append Told (call_answers p w done c (next_call own w.made c)) _ (next_told done c (next_call own w.made c) refl)
+        each_append Told (call_answers p w done c (next_client_call own w.made c)) _ (next_told done c (next_client_call own w.made c) refl)
         (subst (λ (w : World). Each Told (first_answers p own w (done ++ c ∷ []) rest)) (after_last p own _ done c) (first_told (done ++ c ∷ []) rest))
 
     -- each answer that is told

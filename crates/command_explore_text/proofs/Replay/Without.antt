@@ -9,13 +9,13 @@ use Rattle.toml.specs.Data.{Members, no_members, member, get_member, same_key, i
 use Rattle.setup_values.specs.Keys.{keys_of}
 use Rattle.setup_migrate.proofs.Parts.{texts_tied, past}
 use Rattle.setup_migrate.proofs.Law.Setups.{cons_none}
-use Rattle.command_explore_text.specs.Witnesses.{without}
+use Rattle.command_explore_text.specs.Witnesses.{table_without}
 
 pub both : (a b : Bool) → (a && b) ≡ true → (a ≡ true) × (b ≡ true)
 both true b e = (refl, e)
 both false b e = cc
 
-pub get_without_other : (j k : List ℕ) (ms : Members) → same_key j k ≡ false → get_member j (without k ms) ≡ get_member j ms
+pub get_without_other : (j k : List ℕ) (ms : Members) → same_key j k ≡ false → get_member j (table_without k ms) ≡ get_member j ms
 get_without_other j k no_members apart = refl
 get_without_other j k (member l d ms) apart =
     elim (cases_Bool (same_key k l)) [
@@ -43,17 +43,17 @@ before_all k (member l d ms) sorted before =
     let lt : slice_cmp nat_cmp k l ≡ Less = less (slice_cmp nat_cmp k l) before in
     ap (λ o. match_ordering o (get_member k ms) (Some d) (get_member k ms)) lt ∙ before_all k ms more (before_more k l ms lt next)
 
-pub get_without : (k : List ℕ) (ms : Members) → members_are_sorted ms ≡ true → get_member k (without k ms) ≡ None
+pub get_without : (k : List ℕ) (ms : Members) → members_are_sorted ms ≡ true → get_member k (table_without k ms) ≡ None
 get_without k no_members sorted = refl
 get_without k (member l d ms) sorted =
     let (front, more) = both (is_before l ms && is_sorted d) (members_are_sorted ms) sorted in
     let (next, here) = both (is_before l ms) (is_sorted d) front in
     elim (cases_Bool (same_key k l)) [
       | inl same ↦ simp same (ap (λ j. get_member j ms) (texts_tied k l same) ∙ before_all l ms more next)
-      | inr other ↦ simp other (past (slice_cmp nat_cmp k l) (get_member k (without k ms)) (Some d) other ∙ get_without k ms more)
+      | inr other ↦ simp other (past (slice_cmp nat_cmp k l) (get_member k (table_without k ms)) (Some d) other ∙ get_without k ms more)
     ]
 
-pub keys_without : (test : List ℕ → Bool) (k : List ℕ) (ms : Members) → filter test (keys_of ms) ≡ [] → filter test (keys_of (without k ms)) ≡ []
+pub keys_without : (test : List ℕ → Bool) (k : List ℕ) (ms : Members) → filter test (keys_of ms) ≡ [] → filter test (keys_of (table_without k ms)) ≡ []
 keys_without test k no_members e = refl
 keys_without test k (member l d ms) e =
     elim (cases_Bool (test l)) [

@@ -9,7 +9,7 @@ use Rattle.kernel_abstract.specs.Shown.{Shown}
 use Rattle.kernel_abstract.specs.State.{State, shown}
 use Rattle.kernel_abstract.specs.Step.{replies_of, state_after}
 use Rattle.kernel_shared.specs.declared.entry.Entry.{Entry}
-use Rattle.kernel_shared.specs.Laws.{calls_of, replies_in, is_numbered}
+use Rattle.kernel_shared.specs.Laws.{entry_calls, replies_in, are_entries_numbered}
 use Rattle.setup_format.specs.Views.{SetupView, CallView}
 use Rattle.command_threads.specs.SharedRuns.{IsBeginning, call_asked, call_made, calls_by, client_calls, first_calls}
 
@@ -21,14 +21,14 @@ abbrev pub state_begun : ProfileName → SetupView → ℕ → State
 state_begun p setup first = state_after p (boot p setup.plan) (calls_in (first_calls first setup))
 
 -- the replies to the first calls, and a kernel after them
-pub record IsBegun (p : ProfileName) (setup : SetupView) (first : ℕ) (replies : List Reply) (kernel : Shown) : Type 0 where
+pub record IsBegunKernel (p : ProfileName) (setup : SetupView) (first : ℕ) (replies : List Reply) (kernel : Shown) : Type 0 where
   pub answered : replies ≡ replies_of p (boot p setup.plan) (calls_in (first_calls first setup))
   pub stands : kernel ≡ shown (state_begun p setup first)
 
 -- A history that clients can make of a kernel that they share, from a state on: of these calls, each its own, in a history of so
 -- many entries at the most.
-pub record IsRunFrom (ends : ℕ → ℕ → Type 0) (p : ProfileName) (start : State) (calls : List CallView) (limit : ℕ) (history : List Entry) : Type 0 where
-  pub replies : replies_in history ≡ replies_of p start (calls_of history)
+pub record IsSharedFrom (ends : ℕ → ℕ → Type 0) (p : ProfileName) (start : State) (calls : List CallView) (limit : ℕ) (history : List Entry) : Type 0 where
+  pub replies : replies_in history ≡ replies_of p start (entry_calls history)
   pub within : length history ≤ limit
   pub beginnings : (client : ℕ) → IsBeginning (calls_by client history) (client_calls client calls)
   pub unless_full : length history < limit → (client : ℕ)
@@ -56,4 +56,4 @@ pub record IsWhole (calls : List CallView) (replies : List Reply) (later history
   pub before : List Entry
   pub first : AreEntriesOf calls replies before
   pub then : AreBehind before later history
-  pub numbered : is_numbered [] history ≡ true
+  pub numbered : are_entries_numbered [] history ≡ true

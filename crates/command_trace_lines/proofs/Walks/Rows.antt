@@ -3,11 +3,11 @@ use Rattle.std.proofs.Common.{◌≡◌, ℕ, ◌+◌, ◌<◌, List, [], ◌∷
 use Rattle.std.proofs.lemmas.List.{at_drop_more, map-append}
 use Rattle.setup_report.specs.State.{Derived}
 use Rattle.command_trace_lines.specs.Siblings.{Sibling}
-use Rattle.command_trace_lines.specs.Private.Path.{sibling_behind, path_to, walked}
+use Rattle.command_trace_lines.specs.Private.Path.{sibling_behind, path_to, siblings_walked}
 
 -- what is walked of the rest of a list, after a path
 abbrev pub left : {X : Type 0} → (X → Derived) → List ℕ → List X → List Sibling
-left view path xs = walked path (map view xs)
+left view path xs = siblings_walked path (map view xs)
 
 -- one more row
 pub next : {X R : Type 0} (view : X → Derived) (seen : R → Sibling) (xs : List X) (i : ℕ) (x : X) (r : R) (path path_after : List ℕ) (before after : List R) (all : List Sibling) → i < length xs → x ≡ get_or xs i x →

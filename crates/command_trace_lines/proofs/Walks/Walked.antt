@@ -12,7 +12,7 @@ use Rattle.kernel_forest.proofs.Trees.Lines.{once-left_part}
 use Rattle.kernel_forest.proofs.Slots.Distinct.{once_at}
 use Rattle.setup_report.specs.State.{Derived}
 use Rattle.command_trace_lines.specs.Siblings.{Sibling, siblings}
-use Rattle.command_trace_lines.specs.Private.Path.{up_to, cut, walked}
+use Rattle.command_trace_lines.specs.Private.Path.{up_to, cut, siblings_walked}
 
 -- ---- the place behind a slot that stands in a path once
 
@@ -80,26 +80,26 @@ apart_below path slot (e ∷ list) apart absent =
 -- what is walked of a forest and of a list behind it
 abbrev IsWalked : List ℕ → Option Entry → Forest Entry → List ℕ → List Derived → Type 0
 IsWalked path above f more rest =
-    (left : List ℕ) × (walked (path ++ more) (map viewed (parented above f) ++ rest) ≡ siblings (slice_get more zero) f ++ walked (path ++ left) rest)
+    (left : List ℕ) × (siblings_walked (path ++ more) (map viewed (parented above f) ++ rest) ≡ siblings (slice_get more zero) f ++ siblings_walked (path ++ left) rest)
 
 walked_tree : (path : List ℕ) (above : Option Entry) (e : Entry) (under others : Forest Entry) (more below left : List ℕ) (rest : List Derived) → Leads above path →
-    walked ((path ++ e.slot ∷ []) ++ []) (map viewed (parented (Some e) under) ++ (map viewed (parented above others) ++ rest))
-    ≡ siblings None under ++ walked ((path ++ e.slot ∷ []) ++ below) (map viewed (parented above others) ++ rest) →
-    walked (path ++ e.slot ∷ below) (map viewed (parented above others) ++ rest) ≡ siblings (Some e.slot) others ++ walked (path ++ left) rest →
-    walked (path ++ more) (map viewed (parented above (tree e under others)) ++ rest) ≡ siblings (slice_get more zero) (tree e under others) ++ walked (path ++ left) rest
+    siblings_walked ((path ++ e.slot ∷ []) ++ []) (map viewed (parented (Some e) under) ++ (map viewed (parented above others) ++ rest))
+    ≡ siblings None under ++ siblings_walked ((path ++ e.slot ∷ []) ++ below) (map viewed (parented above others) ++ rest) →
+    siblings_walked (path ++ e.slot ∷ below) (map viewed (parented above others) ++ rest) ≡ siblings (Some e.slot) others ++ siblings_walked (path ++ left) rest →
+    siblings_walked (path ++ more) (map viewed (parented above (tree e under others)) ++ rest) ≡ siblings (slice_get more zero) (tree e under others) ++ siblings_walked (path ++ left) rest
 walked_tree path above e under others more below left rest leads first second =
     let own = path ++ e.slot ∷ [] in
     let mine = map viewed (parented (Some e) under) in
     let theirs = map viewed (parented above others) in
-    ap (λ l. walked (path ++ more) ((viewed (e, above) ∷ l) ++ rest)) (map-append viewed (parented (Some e) under) (parented above others))
-    ∙ (ap (λ n. (e.slot, slice_get (path ++ more) n) ∷ walked (take n (path ++ more) ++ e.slot ∷ []) ((mine ++ theirs) ++ rest)) (leads more)
-    ∙ ((λ i. (e.slot, behind path more i) ∷ walked (front path more i ++ e.slot ∷ []) ((mine ++ theirs) ++ rest))
+    ap (λ l. siblings_walked (path ++ more) ((viewed (e, above) ∷ l) ++ rest)) (map-append viewed (parented (Some e) under) (parented above others))
+    ∙ (ap (λ n. (e.slot, slice_get (path ++ more) n) ∷ siblings_walked (take n (path ++ more) ++ e.slot ∷ []) ((mine ++ theirs) ++ rest)) (leads more)
+    ∙ ((λ i. (e.slot, behind path more i) ∷ siblings_walked (front path more i ++ e.slot ∷ []) ((mine ++ theirs) ++ rest))
     ∙ ap (λ l. (e.slot, slice_get more zero) ∷ l)
-    ((λ i. walked (sym (append-nil own) i) (append_assoc mine theirs rest i))
+    ((λ i. siblings_walked (sym (append-nil own) i) (append_assoc mine theirs rest i))
     ∙ (first
-    ∙ (ap (λ l. siblings None under ++ walked l (theirs ++ rest)) (append_assoc path (e.slot ∷ []) below)
+    ∙ (ap (λ l. siblings None under ++ siblings_walked l (theirs ++ rest)) (append_assoc path (e.slot ∷ []) below)
     ∙ (ap (λ l. siblings None under ++ l) second
-    ∙ sym (append_assoc (siblings None under) (siblings (Some e.slot) others) (walked (path ++ left) rest))))))))
+    ∙ sym (append_assoc (siblings None under) (siblings (Some e.slot) others) (siblings_walked (path ++ left) rest))))))))
 
 walked_forest : (path : List ℕ) (above : Option Entry) (f : Forest Entry) (more : List ℕ) (rest : List Derived) → Leads above path → AreDistinct f → IsApart path (preorder f) →
     IsWalked path above f more rest
@@ -124,10 +124,10 @@ all_off [] = tt
 all_off (e ∷ list) = (tt, all_off list)
 
 -- each full slot, with the sibling right in front of it
-pub walked_is : (f : Forest Entry) → IsDistinct (λ (a b : ℕ). a == b) (slots f) → walked [] (derivations_of f) ≡ siblings None f
+pub walked_is : (f : Forest Entry) → IsDistinct (λ (a b : ℕ). a == b) (slots f) → siblings_walked [] (derivations_of f) ≡ siblings None f
 walked_is f distinct =
     let walk : IsWalked [] None f [] [] = walked_forest [] None f [] [] (λ more. refl) (λ slot. once_at slot (preorder f) distinct) (all_off (preorder f)) in
-    ap (walked []) (sym (append-nil (derivations_of f))) ∙ (walk.1 ∙ append-nil (siblings None f))
+    ap (siblings_walked []) (sym (append-nil (derivations_of f))) ∙ (walk.1 ∙ append-nil (siblings None f))
 
 -- their slots are the full slots
 slots_behind : (before : Option ℕ) (f : Forest Entry) → map (λ (x : Sibling). x.0) (siblings before f) ≡ slots f

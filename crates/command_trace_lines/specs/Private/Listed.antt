@@ -8,17 +8,17 @@ use Rattle.slot_core.specs.declared.derivations.Derivation.{Derivation}
 use Rattle.slot_core.specs.Places.{address_of}
 use Rattle.slot_core.specs.Calls.{derivation_view}
 use Rattle.setup_values.specs.declared.names.Name.{Name}
-use Rattle.command_trace_lines.specs.Lines.{slot_text}
+use Rattle.command_trace_lines.specs.Lines.{traced_slot_text}
 
 abbrev pub name_view : Name → List ℕ × ℕ
 name_view name = (string_bytes name.text, name.word)
 
 -- which of two lines has the lesser address, where each may be missing
-abbrev pub order_of : Option (ℕ × List ℕ) → Option (ℕ × List ℕ) → Ordering
-order_of None new = Greater
-order_of (Some old) None = Less
-order_of (Some old) (Some new) = nat_cmp old.0 new.0
+abbrev pub line_order : Option (ℕ × List ℕ) → Option (ℕ × List ℕ) → Ordering
+line_order None new = Greater
+line_order (Some old) None = Less
+line_order (Some old) (Some new) = nat_cmp old.0 new.0
 
 -- the line of a full slot
 abbrev pub derivation_line : ProfileName → Derivation → ℕ × List ℕ
-derivation_line p d = (address_of p d.slot, slot_text (derivation_view p d))
+derivation_line p d = (address_of p d.slot, traced_slot_text (derivation_view p d))

@@ -2,7 +2,7 @@
 use Rattle.std.specs.Prelude.{ℕ, ◌+◌, ◌==◌, List, [], ◌∷◌, ◌++◌, take, slice_get, Option, Some, None, option_map}
 use Rattle.std.specs.List.{position}
 use Rattle.setup_report.specs.State.{Derived, slot_of}
-use Rattle.command_trace_lines.specs.Lines.{Lines, line_of}
+use Rattle.command_trace_lines.specs.Lines.{Lines, address_line}
 use Rattle.command_trace_lines.specs.Siblings.{Sibling, sibling_text}
 
 -- how many of the first slots of a path lead down to a slot; none where no slot is given
@@ -22,10 +22,10 @@ sibling_behind d path = (slot_of d, slice_get path (cut d.1 path))
 abbrev pub path_to : Derived → List ℕ → List ℕ
 path_to d path = take (cut d.1 path) path ++ slot_of d ∷ []
 
-abbrev pub walked : List ℕ → List Derived → List Sibling
-walked path [] = []
-walked path (d ∷ list) = sibling_behind d path ∷ walked (path_to d path) list
+abbrev pub siblings_walked : List ℕ → List Derived → List Sibling
+siblings_walked path [] = []
+siblings_walked path (d ∷ list) = sibling_behind d path ∷ siblings_walked (path_to d path) list
 
 -- the line of a slot, where there is a sibling in front of it
 abbrev pub sibling_line : Sibling → Lines
-sibling_line x = line_of x.0 (option_map (sibling_text x.0) x.1)
+sibling_line x = address_line x.0 (option_map (sibling_text x.0) x.1)

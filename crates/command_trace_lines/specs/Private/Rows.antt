@@ -2,7 +2,7 @@
 use Rattle.std.specs.Prelude.{ℕ, ◌==◌}
 use Rattle.std.specs.List.{IsDistinct}
 use Rattle.command_trace_lines.specs.Lines.{Lines}
-use Rattle.command_trace_lines.specs.Changes.{addresses}
+use Rattle.command_trace_lines.specs.Changes.{line_addresses}
 
-abbrev pub Apart : Lines → Type 0
-Apart lines = IsDistinct (λ (a b : ℕ). a == b) (addresses lines)
+abbrev pub AreLinesApart : Lines → Type 0
+AreLinesApart lines = IsDistinct (λ (a b : ℕ). a == b) (line_addresses lines)

@@ -5,20 +5,20 @@ use Rattle.kernel_forest.specs.Entries.{Entry}
 use Rattle.setup_report.specs.State.{Derived}
 
 -- the first ones, up to a place
-abbrev pub up_to : Option ℕ → List ℕ → List ℕ
-up_to None path = []
-up_to (Some place) path = take (place + 1) path
+abbrev pub path_up_to : Option ℕ → List ℕ → List ℕ
+path_up_to None path = []
+path_up_to (Some place) path = take (place + 1) path
 
 -- the first ones, up to a slot; none where no slot is given
 abbrev pub kept : Option ℕ → List ℕ → List ℕ
 kept None path = []
-kept (Some slot) path = up_to (position (λ s. s == slot) path) path
+kept (Some slot) path = path_up_to (position (λ s. s == slot) path) path
 
 -- the path to what stands right below a full slot, where `path` is that to what was told before it
 abbrev pub path_below : Derived → List ℕ → List ℕ
 path_below d path = kept d.1 path ++ d.0.slot ∷ []
 
 -- each full slot with its path
-abbrev pub walked : List ℕ → List Derived → List (Entry × List ℕ)
-walked path [] = []
-walked path (d ∷ list) = (d.0, kept d.1 path) ∷ walked (path_below d path) list
+abbrev pub slots_with_paths : List ℕ → List Derived → List (Entry × List ℕ)
+slots_with_paths path [] = []
+slots_with_paths path (d ∷ list) = (d.0, kept d.1 path) ∷ slots_with_paths (path_below d path) list

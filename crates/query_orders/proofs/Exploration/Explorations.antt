@@ -21,17 +21,17 @@ use Rattle.query_orders.specs.contracts.answer.AnswerPartialEq.TheImpl as answer
 use Rattle.query_orders.specs.contracts.answer.AnswerEq.TheImpl.Laws as answer_laws
 use Rattle.query_orders.specs.contracts.left.LeftCallPartialEq.TheImpl as left_eq
 use Rattle.query_orders.specs.contracts.left.LeftCallEq.TheImpl.Laws as left_laws
-use Rattle.query_orders.specs.World.{World, start, next_call, after_call, with_call, may_call, world_after}
+use Rattle.query_orders.specs.World.{World, start, next_client_call, after_call, with_call, may_call, world_after}
 use Rattle.query_orders.specs.Orders.{clients, longer, orders, is_end, is_stuck}
 use Rattle.query_orders.specs.Answers.{Answered, same_answer, call_answers, first_answers, answers_behind, answers_before}
 use Rattle.query_orders.specs.Ends.{StuckEnd, same_stuck, stuck_behind, stuck_before, orders_before}
 use Rattle.query_orders.specs.declared.exploring.node.Node.{Node}
 use Rattle.query_orders.specs.declared.exploring.found.FoundAnswer.{FoundAnswer}
 use Rattle.query_orders.specs.declared.exploring.exploration.Explored.{Explored}
-use Rattle.query_orders.specs.Nodes.{state_words, lead_alike, layer, IsNode, AreNodes, entries_of}
+use Rattle.query_orders.specs.Nodes.{state_words, lead_alike, layer, IsNode, AreNodes, node_orders}
 use Rattle.query_orders.specs.Counts.{saturated, saturated_sum, counted, states_before, ends_before}
 use Rattle.query_orders.specs.Found.{answers_of, stuck_of, same_left, counts_of, IsMade, IsExpanded}
-use Rattle.query_orders.specs.Explorations.{is_last, is_last_layer, depth_from, depth, IsBegun, IsExploredTo, IsExplored}
+use Rattle.query_orders.specs.Explorations.{ends_exploration, is_last_layer, layers_from, depth, IsBegun, IsExploredTo, IsExplored}
 use Rattle.query_orders.specs.Private.Kernels.{IsKernelOf}
 use Rattle.query_orders.specs.Private.Tables.{with_node}
 use Rattle.query_orders.specs.Private.Progress.{IsProgress}
@@ -125,12 +125,12 @@ module _ (p : ProfileName) (own : List (List Call)) where
       }
 
   -- a client without a call left makes none
-  pub none_made : (w : World) (same : Answer → Answer → Bool) (n m : Node) (client : ℕ) (c : Option Call) (found : List FoundAnswer) (v : Shown) → IsNode p own w n → c ≡ next_call own n.made.items client → c ≡ None →
+  pub none_made : (w : World) (same : Answer → Answer → Bool) (n m : Node) (client : ℕ) (c : Option Call) (found : List FoundAnswer) (v : Shown) → IsNode p own w n → c ≡ next_client_call own n.made.items client → c ≡ None →
       m.order ≡ n.order ++ client ∷ [] → m.made.items ≡ n.made.items → m.waits.items ≡ n.waits.items → m.words.items ≡ n.words.items → IsKernelOf p own w n v →
       IsMade p own w n m client same found found × IsKernelOf p own w m v
   none_made w same n m client c found v node is none order made waits words at =
       let x = world_after p own w n.order in
-      let no_call : next_call own x.made client ≡ None = ap (λ (l : List ℕ). next_call own l client) (sym node.made_is) ∙ sym is ∙ none in
+      let no_call : next_client_call own x.made client ≡ None = ap (λ (l : List ℕ). next_client_call own l client) (sym node.made_is) ∙ sym is ∙ none in
       let after : world_after p own w m.order ≡ x = ap (world_after p own w) order ∙ world_after-append p own w n.order (client ∷ []) ∙ ap (with_call p x client) no_call in (
         record {
           is = record {
@@ -145,16 +145,16 @@ module _ (p : ProfileName) (own : List (List Call)) where
       )
 
   first_more : (w : World) (made order : List ℕ) (client : ℕ) →
-      first_answers p own w made (order ++ client ∷ []) ≡ first_answers p own w made order ++ call_answers p (world_after p own w order) (made ++ order) client (next_call own (world_after p own w order).made client)
+      first_answers p own w made (order ++ client ∷ []) ≡ first_answers p own w made order ++ call_answers p (world_after p own w order) (made ++ order) client (next_client_call own (world_after p own w order).made client)
   first_more w made [] client =
-      append-nil (call_answers p w made client (next_call own w.made client)) ∙ ap (λ (l : List ℕ). call_answers p w l client (next_call own w.made client)) (sym (append-nil made))
+      append-nil (call_answers p w made client (next_client_call own w.made client)) ∙ ap (λ (l : List ℕ). call_answers p w l client (next_client_call own w.made client)) (sym (append-nil made))
   first_more w made (c ∷ order) client =
       let v = after_call p own w c in
       let u = world_after p own v order in
-      let now = call_answers p w made c (next_call own w.made c) in
+      let now = call_answers p w made c (next_client_call own w.made c) in
       ap (λ l. now ++ l) (first_more v (made ++ c ∷ []) order client)
-      ∙ ap (λ (l : List ℕ). now ++ (first_answers p own v (made ++ c ∷ []) order ++ call_answers p u l client (next_call own u.made client))) (append_assoc made (c ∷ []) order)
-      ∙ sym (append_assoc now (first_answers p own v (made ++ c ∷ []) order) (call_answers p u (made ++ c ∷ order) client (next_call own u.made client)))
+      ∙ ap (λ (l : List ℕ). now ++ (first_answers p own v (made ++ c ∷ []) order ++ call_answers p u l client (next_client_call own u.made client))) (append_assoc made (c ∷ []) order)
+      ∙ sym (append_assoc now (first_answers p own v (made ++ c ∷ []) order) (call_answers p u (made ++ c ∷ order) client (next_client_call own u.made client)))
 
   module _ (A : State) (first : List ℕ) (same : Answer → Answer → Bool) where
     pub begun_none : (n : Node) (found : List FoundAnswer) → IsNode p own (start own A) n → n.order ≡ [] → n.weight ≡ 1 → IsBegun p own A [] n same found found
@@ -165,7 +165,7 @@ module _ (p : ProfileName) (own : List (List Call)) where
     begun_more i client n m found found' found'' lt is so_far made weighs =
         let w = start own A in
         let took : take (i + 1) first ≡ take i first ++ client ∷ [] = take_more first i 0 lt ∙ ap (λ y. take i first ++ y ∷ []) (sym is) in
-        let told = λ (o : List ℕ). call_answers p (world_after p own w o) o client (next_call own (world_after p own w o).made client) in
+        let told = λ (o : List ℕ). call_answers p (world_after p own w o) o client (next_client_call own (world_after p own w o).made client) in
         record {
           is = made.is;
           order_is = made.order_is ∙ ap (λ (o : List ℕ). o ++ client ∷ []) so_far.order_is ∙ sym took;
@@ -185,9 +185,9 @@ split true true h = cc
 split true false h = (refl, refl)
 split false t h = cc
 
-pub goes_less : (limit count : ℕ) (e : Explored) (went : Bool) (n : ℕ) → went ≡ (nat_lt e.calls count && not (is_last limit e.states (length e.layer))) → went ≡ true → n ≡ e.calls + 1 → count - n < count - e.calls
+pub goes_less : (limit count : ℕ) (e : Explored) (went : Bool) (n : ℕ) → went ≡ (nat_lt e.calls count && not (ends_exploration limit e.states (length e.layer))) → went ≡ true → n ≡ e.calls + 1 → count - n < count - e.calls
 goes_less limit count e went n is goes more =
-    let r = split (nat_lt e.calls count) (is_last limit e.states (length e.layer)) (sym is ∙ goes) in
+    let r = split (nat_lt e.calls count) (ends_exploration limit e.states (length e.layer)) (sym is ∙ goes) in
     let lt : e.calls < count = (let t = r.0 in grind (arith, nat_tests)) in
     omega arith
 
@@ -205,7 +205,7 @@ module _ (p : ProfileName) (own : List (List Call)) (A : State) (first : List �
       record {
         are = subst (AreNodes p own w) (sym nodes) (b.is, tt);
         entries_are =
-            ap entries_of nodes ∙ ap (λ (o : List ℕ). (o, n.weight) ∷ []) b.order_is ∙ ap (λ k. (first, k) ∷ []) b.weight_is
+            ap node_orders nodes ∙ ap (λ (o : List ℕ). (o, n.weight) ∷ []) b.order_is ∙ ap (λ k. (first, k) ∷ []) b.weight_is
             ∙ ap (λ k. map (up_to most) (counted p own w first k)) (sym calls);
         to = record {
           layer_is = ap (map (λ (m : Node). m.order)) nodes ∙ ap (λ (o : List ℕ). o ∷ []) b.order_is ∙ ap (layer p own w first) (sym calls);
@@ -252,19 +252,19 @@ module _ (p : ProfileName) (own : List (List Call)) (A : State) (first : List �
         passing_sum t (counted p own w first n) was before is
         ∙ ap (λ k. min (before + k) most) (layer_weighs p own w reached first n (λ o. cond (t o) 1 0) (λ x y h. ap (λ b. cond b 1 0) (respects x y h)))
 
-    pub progress_more : (e e' : Explored) → IsProgress p own A first answer_eq.ghosts.eq e → IsExpanded p own w [] e'.layer answer_eq.ghosts.eq e.found e'.found (entries_of e.layer) →
+    pub progress_more : (e e' : Explored) → IsProgress p own A first answer_eq.ghosts.eq e → IsExpanded p own w [] e'.layer answer_eq.ghosts.eq e.found e'.found (node_orders e.layer) →
         e'.states ≡ min (e.states + length e.layer) most → e'.calls ≡ e.calls + 1 → IsProgress p own A first answer_eq.ghosts.eq e'
     progress_more e e' so_far now states calls =
         let n = e.calls in
         let C = counted p own w first n in
         let next : suc n ≡ e'.calls = sym (calls ∙ add-one n) in
-        let keys : map key_of (entries_of e.layer) ≡ layer p own w first n = ap (map key_of) so_far.entries_are ∙ keys_up_to most C ∙ layer_keys p own w reached first n in
+        let keys : map key_of (node_orders e.layer) ≡ layer p own w first n = ap (map key_of) so_far.entries_are ∙ keys_up_to most C ∙ layer_keys p own w reached first n in
         let followers = λ (c : List ℕ × ℕ). each_times c.1 (longer p own w c.0) in
-        let entries : entries_of e'.layer ≡ map (up_to most) (counted p own w first (suc n)) =
+        let entries : node_orders e'.layer ≡ map (up_to most) (counted p own w first (suc n)) =
         now.entries_are ∙ ap (λ l. with_counts_up_to most (lead_alike p own w) [] (flat_map followers l)) so_far.entries_are
         ∙ ap (with_counts_up_to most (lead_alike p own w) []) (sym (followers_up_to (longer p own w) most C))
         ∙ sym (all_up_to most (lead_alike p own w) (flat_map followers C) []) in
-        let same_order : (l : List Node) → map (λ (m : Node). m.order) l ≡ map key_of (entries_of l) = orders_keys in
+        let same_order : (l : List Node) → map (λ (m : Node). m.order) l ≡ map key_of (node_orders l) = orders_keys in
         let f = now.found_are in
         let before = so_far.to in
         record {
@@ -276,13 +276,13 @@ module _ (p : ProfileName) (own : List (List Call)) (A : State) (first : List �
                 ∙ ap (layer p own w first) next;
             answers_are =
                 f.answers_are
-                ∙ ap (with_firsts (same_answer answer_eq.ghosts.eq) (answers_of e.found.answers)) (flat_map_keys (answers_behind p own w) (entries_of e.layer) ∙ ap (flat_map (answers_behind p own w)) keys)
+                ∙ ap (with_firsts (same_answer answer_eq.ghosts.eq) (answers_of e.found.answers)) (flat_map_keys (answers_behind p own w) (node_orders e.layer) ∙ ap (flat_map (answers_behind p own w)) keys)
                 ∙ ap (λ (l : List Answered). with_firsts (same_answer answer_eq.ghosts.eq) l (flat_map (answers_behind p own w) (layer p own w first n))) before.answers_are
                 ∙ layer_answers answer_eq.ghosts.eq same_answers p own w reached (answers_before answer_eq.ghosts.eq (firsts (same_answer answer_eq.ghosts.eq) (first_answers p own w [] first)) p own w first n) first n
                 ∙ ap (answers_before answer_eq.ghosts.eq (firsts (same_answer answer_eq.ghosts.eq) (first_answers p own w [] first)) p own w first) next;
             stuck_are =
                 f.stuck_are
-                ∙ ap (with_firsts (same_stuck same_left) (stuck_of e.found.stuck.items)) (flat_map_keys (stuck_behind p own w) (entries_of e.layer) ∙ ap (flat_map (stuck_behind p own w)) keys)
+                ∙ ap (with_firsts (same_stuck same_left) (stuck_of e.found.stuck.items)) (flat_map_keys (stuck_behind p own w) (node_orders e.layer) ∙ ap (flat_map (stuck_behind p own w)) keys)
                 ∙ ap (λ (l : List StuckEnd). with_firsts (same_stuck same_left) l (flat_map (stuck_behind p own w) (layer p own w first n))) before.stuck_are
                 ∙ layer_stuck same_left same_lefts p own w reached (stuck_before same_left p own w first n) first n
                 ∙ ap (stuck_before same_left p own w first) next;
@@ -291,7 +291,7 @@ module _ (p : ProfileName) (own : List (List Call)) (A : State) (first : List �
                 ∙ ap (λ k. min (states_before p own w first n + k) most) (sym (length-map e.layer (λ (m : Node). m.order)) ∙ ap (λ (l : List (List ℕ)). length l) before.layer_is)
                 ∙ ap (λ k. saturated (states_before p own w first k)) next;
             ends_are =
-                f.ends_are ∙ ends_sum (λ (o : List ℕ). is_end own (world_after p own w o)) (entries_of e.layer) e.found.ends (ends_before p own w first n) before.ends_are
+                f.ends_are ∙ ends_sum (λ (o : List ℕ). is_end own (world_after p own w o)) (node_orders e.layer) e.found.ends (ends_before p own w first n) before.ends_are
                 ∙ ap (λ (l : List (List ℕ)). saturated (ends_before p own w first n + count_by (λ (o : List ℕ). is_end own (world_after p own w o)) l)) keys
                 ∙ ap (λ k. saturated (ends_before p own w first k)) next;
             orders_are =
@@ -305,40 +305,40 @@ module _ (p : ProfileName) (own : List (List Call)) (A : State) (first : List �
           };
         }
       where
-        orders_keys : (l : List Node) → map (λ (m : Node). m.order) l ≡ map key_of (entries_of l)
+        orders_keys : (l : List Node) → map (λ (m : Node). m.order) l ≡ map key_of (node_orders l)
         orders_keys [] = refl
         orders_keys (m ∷ l) = ap (λ k. m.order ∷ k) (orders_keys l)
 
   -- ---- how far it goes
 
-  last_is : (limit : ℕ) (e : Explored) → IsExploredTo p own w first answer_eq.ghosts.eq e → is_last limit e.states (length e.layer) ≡ is_last_layer p own w first limit e.calls
+  last_is : (limit : ℕ) (e : Explored) → IsExploredTo p own w first answer_eq.ghosts.eq e → ends_exploration limit e.states (length e.layer) ≡ is_last_layer p own w first limit e.calls
   last_is limit e to =
-      ap (λ k. is_last limit k (length e.layer)) to.states_are
-      ∙ ap (λ k. is_last limit (saturated (states_before p own w first e.calls)) k) (sym (length-map e.layer (λ (m : Node). m.order)) ∙ ap (λ (l : List (List ℕ)). length l) to.layer_is)
+      ap (λ k. ends_exploration limit k (length e.layer)) to.states_are
+      ∙ ap (λ k. ends_exploration limit (saturated (states_before p own w first e.calls)) k) (sym (length-map e.layer (λ (m : Node). m.order)) ∙ ap (λ (l : List (List ℕ)). length l) to.layer_is)
 
-  depth_last : (limit further n : ℕ) → is_last_layer p own w first limit n ≡ true → depth_from p own w first limit further n ≡ n
+  depth_last : (limit further n : ℕ) → is_last_layer p own w first limit n ≡ true → layers_from p own w first limit further n ≡ n
   depth_last limit zero n h = refl
-  depth_last limit (suc further) n h = ap (λ b. cond b n (depth_from p own w first limit further (suc n))) h
+  depth_last limit (suc further) n h = ap (λ b. cond b n (layers_from p own w first limit further (suc n))) h
 
-  pub depth_goes_on : (limit count : ℕ) (e : Explored) (went : Bool) → IsExploredTo p own w first answer_eq.ghosts.eq e → went ≡ (nat_lt e.calls count && not (is_last limit e.states (length e.layer))) → went ≡ true →
-      depth_from p own w first limit (count - e.calls) e.calls ≡ depth_from p own w first limit (count - (e.calls + 1)) (e.calls + 1)
+  pub depth_goes_on : (limit count : ℕ) (e : Explored) (went : Bool) → IsExploredTo p own w first answer_eq.ghosts.eq e → went ≡ (nat_lt e.calls count && not (ends_exploration limit e.states (length e.layer))) → went ≡ true →
+      layers_from p own w first limit (count - e.calls) e.calls ≡ layers_from p own w first limit (count - (e.calls + 1)) (e.calls + 1)
   depth_goes_on limit count e went to is goes =
-      let r = split (nat_lt e.calls count) (is_last limit e.states (length e.layer)) (sym is ∙ goes) in
+      let r = split (nat_lt e.calls count) (ends_exploration limit e.states (length e.layer)) (sym is ∙ goes) in
       let lt : e.calls < count = (let t = r.0 in grind (arith, nat_tests)) in
       let one_less : count - e.calls ≡ suc (count - (e.calls + 1)) = omega arith in
-      ap (λ k. depth_from p own w first limit k e.calls) one_less
-      ∙ ap (λ b. cond b e.calls (depth_from p own w first limit (count - (e.calls + 1)) (suc e.calls))) (sym (last_is limit e to) ∙ r.1)
-      ∙ ap (depth_from p own w first limit (count - (e.calls + 1))) (sym (add-one e.calls))
+      ap (λ k. layers_from p own w first limit k e.calls) one_less
+      ∙ ap (λ b. cond b e.calls (layers_from p own w first limit (count - (e.calls + 1)) (suc e.calls))) (sym (last_is limit e to) ∙ r.1)
+      ∙ ap (layers_from p own w first limit (count - (e.calls + 1))) (sym (add-one e.calls))
 
-  pub depth_ends : (limit count : ℕ) (e : Explored) (went : Bool) → IsExploredTo p own w first answer_eq.ghosts.eq e → went ≡ (nat_lt e.calls count && not (is_last limit e.states (length e.layer))) → went ≡ false →
-      depth_from p own w first limit (count - e.calls) e.calls ≡ depth p own w first limit count → IsExplored p own A first answer_eq.ghosts.eq limit count e
+  pub depth_ends : (limit count : ℕ) (e : Explored) (went : Bool) → IsExploredTo p own w first answer_eq.ghosts.eq e → went ≡ (nat_lt e.calls count && not (ends_exploration limit e.states (length e.layer))) → went ≡ false →
+      layers_from p own w first limit (count - e.calls) e.calls ≡ depth p own w first limit count → IsExplored p own A first answer_eq.ghosts.eq limit count e
   depth_ends limit count e went to is ends so_far =
-      record { to = to; calls_are = sym (at (nat_lt e.calls count) (is_last limit e.states (length e.layer)) refl refl (sym is ∙ ends)) ∙ so_far }
+      record { to = to; calls_are = sym (at (nat_lt e.calls count) (ends_exploration limit e.states (length e.layer)) refl refl (sym is ∙ ends)) ∙ so_far }
     where
-      at : (s t : Bool) → nat_lt e.calls count ≡ s → is_last limit e.states (length e.layer) ≡ t → (s && not t) ≡ false → depth_from p own w first limit (count - e.calls) e.calls ≡ e.calls
+      at : (s t : Bool) → nat_lt e.calls count ≡ s → ends_exploration limit e.states (length e.layer) ≡ t → (s && not t) ≡ false → layers_from p own w first limit (count - e.calls) e.calls ≡ e.calls
       at true true h k f = depth_last limit (count - e.calls) e.calls (sym (last_is limit e to) ∙ k)
       at true false h k f = cc
-      at false t h k f = (let none : count - e.calls ≡ 0 = (let le : count ≤ e.calls = grind (arith, nat_tests) in omega arith) in ap (λ k. depth_from p own w first limit k e.calls) none)
+      at false t h k f = (let none : count - e.calls ≡ 0 = (let le : count ≤ e.calls = grind (arith, nat_tests) in omega arith) in ap (λ k. layers_from p own w first limit k e.calls) none)
 
 -- ---- an empty layer
 

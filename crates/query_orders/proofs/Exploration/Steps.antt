@@ -15,7 +15,7 @@ use Rattle.kernel_abstract.proofs.Reached.Runs.{reached_after, state_after-nil, 
 use Rattle.kernel_lists.specs.Firsts.{HasKinds, IsKindTest, firsts, with_firsts}
 use Rattle.kernel_lists.proofs.Merging.{has_kinds-map, firsts_follow}
 use Rattle.query_orders.specs.declared.answer.WaitingCall.{WaitingCall}
-use Rattle.query_orders.specs.World.{World, next_call, one_more, place_of, can_be_made, may_call, waiting_call, waits_after, with_call, after_call, world_after}
+use Rattle.query_orders.specs.World.{World, next_client_call, one_more, next_place, can_be_made, may_call, waiting_call, waits_after, with_call, after_call, world_after}
 use Rattle.query_orders.specs.Orders.{clients, longer, orders, is_end, has_calls_left, is_stuck}
 use Rattle.query_orders.specs.Nodes.{lead_alike, layer}
 use Rattle.query_orders.proofs.Exploration.WorldWords.{Alike, words_same, same_words}
@@ -34,7 +34,7 @@ reached_with p w client (Some call) r = reached_step p w.kernel call r
 
 pub world_reached : (p : ProfileName) (own : List (List Call)) (w : World) (order : List ℕ) → IsReached p w.kernel → IsReached p (world_after p own w order).kernel
 world_reached p own w [] r = r
-world_reached p own w (client ∷ order) r = world_reached p own (after_call p own w client) order (reached_with p w client (next_call own w.made client) r)
+world_reached p own w (client ∷ order) r = world_reached p own (after_call p own w client) order (reached_with p w client (next_client_call own w.made client) r)
 
 -- ---- a step is determined by what is shown before it
 
@@ -57,21 +57,21 @@ with_alike p v w client (Some c) r s a =
     record {
       made = ap (λ (l : List ℕ). one_more client (slice_get l client) l) a.made;
       waits =
-          ap (λ (x : Shown). waits_after x v.waits (waiting_call c.thread client (place_of v.made client)) (step p v.kernel c).reply) shows
-          ∙ ap (λ (r : Reply). waits_after (shown (step p w.kernel c).state) v.waits (waiting_call c.thread client (place_of v.made client)) r) (reply_alike p v.kernel w.kernel c r s a.shows)
-          ∙ ap (λ (l : List WaitingCall). waits_after (shown (step p w.kernel c).state) l (waiting_call c.thread client (place_of v.made client)) (step p w.kernel c).reply) a.waits
-          ∙ ap (λ (l : List ℕ). waits_after (shown (step p w.kernel c).state) w.waits (waiting_call c.thread client (place_of l client)) (step p w.kernel c).reply) a.made;
+          ap (λ (x : Shown). waits_after x v.waits (waiting_call c.thread client (next_place v.made client)) (step p v.kernel c).reply) shows
+          ∙ ap (λ (r : Reply). waits_after (shown (step p w.kernel c).state) v.waits (waiting_call c.thread client (next_place v.made client)) r) (reply_alike p v.kernel w.kernel c r s a.shows)
+          ∙ ap (λ (l : List WaitingCall). waits_after (shown (step p w.kernel c).state) l (waiting_call c.thread client (next_place v.made client)) (step p w.kernel c).reply) a.waits
+          ∙ ap (λ (l : List ℕ). waits_after (shown (step p w.kernel c).state) w.waits (waiting_call c.thread client (next_place l client)) (step p w.kernel c).reply) a.made;
       shows = shows;
     }
 
-pub next_alike : (own : List (List Call)) (v w : World) (client : ℕ) → Alike v w → next_call own v.made client ≡ next_call own w.made client
-next_alike own v w client a = ap (λ (l : List ℕ). next_call own l client) a.made
+pub next_alike : (own : List (List Call)) (v w : World) (client : ℕ) → Alike v w → next_client_call own v.made client ≡ next_client_call own w.made client
+next_alike own v w client a = ap (λ (l : List ℕ). next_client_call own l client) a.made
 
 pub after_alike : (p : ProfileName) (own : List (List Call)) (v w : World) (client : ℕ) → IsReached p v.kernel → IsReached p w.kernel → Alike v w → Alike (after_call p own v client) (after_call p own w client)
-after_alike p own v w client r s a = subst (λ (c : Option Call). Alike (after_call p own v client) (with_call p w client c)) (next_alike own v w client a) (with_alike p v w client (next_call own v.made client) r s a)
+after_alike p own v w client r s a = subst (λ (c : Option Call). Alike (after_call p own v client) (with_call p w client c)) (next_alike own v w client a) (with_alike p v w client (next_client_call own v.made client) r s a)
 
 pub may_alike : (own : List (List Call)) (v w : World) (client : ℕ) → Alike v w → may_call own v client ≡ may_call own w client
-may_alike own v w client a = ap (λ (x : Shown). can_be_made x (next_call own v.made client)) a.shows ∙ ap (λ (c : Option Call). can_be_made (shown w.kernel) c) (next_alike own v w client a)
+may_alike own v w client a = ap (λ (x : Shown). can_be_made x (next_client_call own v.made client)) a.shows ∙ ap (λ (c : Option Call). can_be_made (shown w.kernel) c) (next_alike own v w client a)
 
 pub any_agree : (f g : ℕ → Bool) (xs : List ℕ) → ((x : ℕ) → f x ≡ g x) → list_any f xs ≡ list_any g xs
 any_agree f g [] h = refl
@@ -83,7 +83,7 @@ end_alike own v w a = ap not (any_agree (may_call own v) (may_call own w) (clien
 pub stuck_alike : (own : List (List Call)) (v w : World) → Alike v w → is_stuck own v ≡ is_stuck own w
 stuck_alike own v w a =
     ap (λ b. b && has_calls_left own v) (end_alike own v w a)
-    ∙ ap (λ b. is_end own w && b) (any_agree (λ client. is_some (next_call own v.made client)) (λ client. is_some (next_call own w.made client)) (clients own) (λ client. ap (λ (c : Option Call). is_some c) (next_alike own v w client a)))
+    ∙ ap (λ b. is_end own w && b) (any_agree (λ client. is_some (next_client_call own v.made client)) (λ client. is_some (next_client_call own w.made client)) (clients own) (λ client. ap (λ (c : Option Call). is_some c) (next_alike own v w client a)))
 
 -- ---- orders
 

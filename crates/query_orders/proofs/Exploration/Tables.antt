@@ -21,8 +21,8 @@ use Rattle.query_orders.specs.declared.answer.Answer.{Answer}
 use Rattle.query_orders.specs.declared.answer.Answer.TheVariants.{Waits}
 use Rattle.query_orders.specs.declared.answer.WaitingCall.{WaitingCall}
 use Rattle.query_orders.specs.declared.left.LeftCall.{LeftCall}
-use Rattle.query_orders.specs.World.{World, next_call, one_more, place_of, can_be_made, may_call, waiting_call, waits_after, with_call, world_after}
-use Rattle.query_orders.specs.Orders.{below, clients, longer, is_end, is_stuck}
+use Rattle.query_orders.specs.World.{World, next_client_call, one_more, next_place, can_be_made, may_call, waiting_call, waits_after, with_call, world_after}
+use Rattle.query_orders.specs.Orders.{numbers_below, clients, longer, is_end, is_stuck}
 use Rattle.query_orders.specs.Answers.{Answered, answered, replied, waits_ended, call_answers, end_answers, answers_behind, same_answer}
 use Rattle.query_orders.specs.contracts.left.LeftCallPartialEq.TheImpl as left_eq
 use Rattle.query_orders.specs.Ends.{StuckEnd, stuck_end, stuck_behind, same_stuck, left_call, left_calls}
@@ -30,7 +30,7 @@ use Rattle.query_orders.specs.declared.exploring.node.Node.{Node}
 use Rattle.query_orders.specs.declared.exploring.found.FoundAnswer.{FoundAnswer}
 use Rattle.query_orders.specs.declared.exploring.stuck.Findings.{Findings}
 use Rattle.query_orders.specs.declared.exploring.stuck.FoundStuck.{FoundStuck}
-use Rattle.query_orders.specs.Nodes.{state_words, world_words, lead_alike, one_longer, IsNode, AreNodes, entry_of, entries_of}
+use Rattle.query_orders.specs.Nodes.{state_words, world_words, lead_alike, one_longer, IsNode, AreNodes, node_order, node_orders}
 use Rattle.query_orders.specs.Counts.{saturated, saturated_sum}
 use Rattle.query_orders.specs.Found.{answer_of, answers_of, one_told, calls_told, not_made_told, end_told, stuck_of, stuck_told, same_left, IsMade, IsVisited, IsFound, IsExpanded}
 use Rattle.query_orders.specs.Private.Kernels.{IsKernelOf}
@@ -64,14 +64,14 @@ module _ (same : Answer → Answer → Bool) where
   -- what the calls come to that wait, or are left, at an end
   pub ended_told : (own : List (List Call)) (count : ℕ) (made order order' : List ℕ) (waits list : List WaitingCall) (ends : Bool) (found found' found'' : List FoundAnswer) → ends ≡ true → list ≡ waits → order' ≡ order →
       answers_of found' ≡ with_firsts (same_answer same) (answers_of found) (map (λ (call : WaitingCall). answered order' call.client call.place Waits) list) →
-      answers_of found'' ≡ with_firsts (same_answer same) (answers_of found') (flat_map (not_made_told own made order) (below count)) →
+      answers_of found'' ≡ with_firsts (same_answer same) (answers_of found') (flat_map (not_made_told own made order) (numbers_below count)) →
       answers_of found'' ≡ with_firsts (same_answer same) (answers_of found) (cond ends (end_told own count made waits order) [])
   ended_told own count made order order' waits list ends found found' found'' is_end is_list is_order first second =
       let waiting = λ (o : List ℕ) (l : List WaitingCall). map (λ (call : WaitingCall). answered o call.client call.place Waits) l in
       second
-      ∙ ap (λ (l : List Answered). with_firsts (same_answer same) l (flat_map (not_made_told own made order) (below count)))
+      ∙ ap (λ (l : List Answered). with_firsts (same_answer same) l (flat_map (not_made_told own made order) (numbers_below count)))
       (first ∙ ap (λ (l : List WaitingCall). with_firsts (same_answer same) (answers_of found) (waiting order' l)) is_list ∙ ap (λ (o : List ℕ). with_firsts (same_answer same) (answers_of found) (waiting o waits)) is_order)
-      ∙ sym (with_firsts-append (same_answer same) (waiting order waits) (flat_map (not_made_told own made order) (below count)) (answers_of found))
+      ∙ sym (with_firsts-append (same_answer same) (waiting order waits) (flat_map (not_made_told own made order) (numbers_below count)) (answers_of found))
       ∙ ap (λ b. with_firsts (same_answer same) (answers_of found) (cond b (end_told own count made waits order) [])) (sym is_end)
 
 -- ---- a table of ways to end stuck
@@ -153,63 +153,63 @@ module _ (p : ProfileName) (own : List (List Call)) (w : World) where
   heavier_is more n is = record { made_is = is.made_is; waits_are = is.waits_are; words_are = is.words_are }
 
   pub noted_is : (nodes : List Node) (n : Node) → AreNodes p own w nodes → IsNode p own w n →
-      AreNodes p own w (with_node nodes n) × (entries_of (with_node nodes n) ≡ with_count_up_to (2 ^ 64 - 1) (lead_alike p own w) (entries_of nodes) (entry_of n))
+      AreNodes p own w (with_node nodes n) × (node_orders (with_node nodes n) ≡ with_count_up_to (2 ^ 64 - 1) (lead_alike p own w) (node_orders nodes) (node_order n))
   noted_is [] n all one = ((one, tt), refl)
   noted_is (m ∷ ms) n all one =
-      elim (by_words m n) as (λ b. by_words m n ≡ b → AreNodes p own w (cond b (heavier n.weight m ∷ ms) (m ∷ with_node ms n)) × (entries_of (cond b (heavier n.weight m ∷ ms) (m ∷ with_node ms n)) ≡ with_count_up_to (2 ^ 64 - 1) (lead_alike p own w) (entries_of (m ∷ ms)) (entry_of n))) [
+      elim (by_words m n) as (λ b. by_words m n ≡ b → AreNodes p own w (cond b (heavier n.weight m ∷ ms) (m ∷ with_node ms n)) × (node_orders (cond b (heavier n.weight m ∷ ms) (m ∷ with_node ms n)) ≡ with_count_up_to (2 ^ 64 - 1) (lead_alike p own w) (node_orders (m ∷ ms)) (node_order n))) [
         | true ↦ λ h. (
           (heavier_is n.weight m all.0, all.1),
-          ap (λ b. cond b ((m.order, min (m.weight + n.weight) (2 ^ 64 - 1)) ∷ entries_of ms) (entry_of m ∷ with_count_up_to (2 ^ 64 - 1) (lead_alike p own w) (entries_of ms) (entry_of n))) (sym h ∙ words_alike m n all.0 one),
+          ap (λ b. cond b ((m.order, min (m.weight + n.weight) (2 ^ 64 - 1)) ∷ node_orders ms) (node_order m ∷ with_count_up_to (2 ^ 64 - 1) (lead_alike p own w) (node_orders ms) (node_order n))) (sym h ∙ words_alike m n all.0 one),
         )
         | false ↦ λ h.
             (let r = noted_is ms n all.1 one in (
               (all.0, r.0),
-              ap (λ l. entry_of m ∷ l) r.1
-                  ∙ ap (λ b. cond b ((m.order, min (m.weight + n.weight) (2 ^ 64 - 1)) ∷ entries_of ms) (entry_of m ∷ with_count_up_to (2 ^ 64 - 1) (lead_alike p own w) (entries_of ms) (entry_of n))) (sym h ∙ words_alike m n all.0 one),
+              ap (λ l. node_order m ∷ l) r.1
+                  ∙ ap (λ b. cond b ((m.order, min (m.weight + n.weight) (2 ^ 64 - 1)) ∷ node_orders ms) (node_order m ∷ with_count_up_to (2 ^ 64 - 1) (lead_alike p own w) (node_orders ms) (node_order n))) (sym h ∙ words_alike m n all.0 one),
             ))
       ] refl
 
   -- ---- one call more
 
-  pub may_is : (n : Node) (v : Shown) (client : ℕ) → IsNode p own w n → v ≡ shown (world_after p own w n.order).kernel → can_be_made v (next_call own n.made.items client) ≡ may_call own (world_after p own w n.order) client
+  pub may_is : (n : Node) (v : Shown) (client : ℕ) → IsNode p own w n → v ≡ shown (world_after p own w n.order).kernel → can_be_made v (next_client_call own n.made.items client) ≡ may_call own (world_after p own w n.order) client
   may_is n v client node at =
-      ap (λ (x : Shown). can_be_made x (next_call own n.made.items client)) at
-      ∙ ap (λ (l : List ℕ). can_be_made (shown (world_after p own w n.order).kernel) (next_call own l client)) node.made_is
+      ap (λ (x : Shown). can_be_made x (next_client_call own n.made.items client)) at
+      ∙ ap (λ (l : List ℕ). can_be_made (shown (world_after p own w n.order).kernel) (next_client_call own l client)) node.made_is
 
   -- where it cannot be made, nothing stands behind
   pub none_longer : (n : Node) (client : ℕ) → may_call own (world_after p own w n.order) client ≡ false → one_longer p own w n.order client ≡ []
   none_longer n client h = ap (λ b. map (λ c. n.order ++ c ∷ []) (cond b (client ∷ []) [])) h
 
   pub none_told : (n : Node) (client : ℕ) → may_call own (world_after p own w n.order) client ≡ false → one_told p own w n.order client ≡ []
-  none_told n client h = ap (λ b. flat_map (λ c. call_answers p (world_after p own w n.order) n.order c (next_call own (world_after p own w n.order).made c)) (cond b (client ∷ []) [])) h
+  none_told n client h = ap (λ b. flat_map (λ c. call_answers p (world_after p own w n.order) n.order c (next_client_call own (world_after p own w n.order).made c)) (cond b (client ∷ []) [])) h
 
   one_told_is : (n : Node) (client : ℕ) → may_call own (world_after p own w n.order) client ≡ true →
-      one_told p own w n.order client ≡ call_answers p (world_after p own w n.order) n.order client (next_call own (world_after p own w n.order).made client)
+      one_told p own w n.order client ≡ call_answers p (world_after p own w n.order) n.order client (next_client_call own (world_after p own w n.order).made client)
   one_told_is n client h =
-      let f = λ (c : ℕ). call_answers p (world_after p own w n.order) n.order c (next_call own (world_after p own w n.order).made c) in
+      let f = λ (c : ℕ). call_answers p (world_after p own w n.order) n.order c (next_client_call own (world_after p own w n.order).made c) in
       ap (λ b. flat_map f (cond b (client ∷ []) [])) h ∙ flat_map-cons f client [] ∙ append-nil (f client)
 
   pub one_is : (n : Node) (client : ℕ) → may_call own (world_after p own w n.order) client ≡ true → one_longer p own w n.order client ≡ (n.order ++ client ∷ []) ∷ []
   one_is n client h = ap (λ b. map (λ c. n.order ++ c ∷ []) (cond b (client ∷ []) [])) h
 
-  module _ (n : Node) (node : IsNode p own w n) (client : ℕ) (call : Call) (next : next_call own n.made.items client ≡ Some call) (reply : Reply) (v : Shown)
+  module _ (n : Node) (node : IsNode p own w n) (client : ℕ) (call : Call) (next : next_client_call own n.made.items client ≡ Some call) (reply : Reply) (v : Shown)
       (steps : StepsTo p (world_after p own w n.order).kernel call reply v) where
     abbrev before : World
     before = world_after p own w n.order
 
-    next_is : next_call own before.made client ≡ Some call
-    next_is = ap (λ (l : List ℕ). next_call own l client) (sym node.made_is) ∙ next
+    next_is : next_client_call own before.made client ≡ Some call
+    next_is = ap (λ (l : List ℕ). next_client_call own l client) (sym node.made_is) ∙ next
 
     -- what is told is that of the call
     pub told_is :
-        replied (n.order ++ client ∷ []) client (place_of n.made.items client) reply ++ waits_ended (n.order ++ client ∷ []) v n.waits.items reply ≡ call_answers p before n.order client (next_call own before.made client)
+        replied (n.order ++ client ∷ []) client (next_place n.made.items client) reply ++ waits_ended (n.order ++ client ∷ []) v n.waits.items reply ≡ call_answers p before n.order client (next_client_call own before.made client)
     told_is =
         let longer = n.order ++ client ∷ [] in
         let whole = λ (place : ℕ) (r : Reply) (x : Shown) (l : List WaitingCall). replied longer client place r ++ waits_ended longer x l r in
-        ap (λ (l : List ℕ). whole (place_of l client) reply v n.waits.items) node.made_is
-        ∙ ap (λ (r : Reply). whole (place_of before.made client) r v n.waits.items) steps.reply_is
-        ∙ ap (λ (x : Shown). whole (place_of before.made client) (step p before.kernel call).reply x n.waits.items) steps.shows
-        ∙ ap (λ (l : List WaitingCall). whole (place_of before.made client) (step p before.kernel call).reply (shown (step p before.kernel call).state) l) node.waits_are
+        ap (λ (l : List ℕ). whole (next_place l client) reply v n.waits.items) node.made_is
+        ∙ ap (λ (r : Reply). whole (next_place before.made client) r v n.waits.items) steps.reply_is
+        ∙ ap (λ (x : Shown). whole (next_place before.made client) (step p before.kernel call).reply x n.waits.items) steps.shows
+        ∙ ap (λ (l : List WaitingCall). whole (next_place before.made client) (step p before.kernel call).reply (shown (step p before.kernel call).state) l) node.waits_are
         ∙ ap (λ (c : Option Call). call_answers p before n.order client c) (sym next_is)
 
     after_is : (m : Node) → m.order ≡ n.order ++ client ∷ [] → world_after p own w m.order ≡ with_call p before client (Some call)
@@ -219,12 +219,12 @@ module _ (p : ProfileName) (own : List (List Call)) (w : World) where
     kernel_is m order = steps.shows ∙ sym (ap (λ (y : World). shown y.kernel) (after_is m order))
 
     pub followed_is : (m : Node) → m.order ≡ n.order ++ client ∷ [] → m.made.items ≡ one_more client (slice_get n.made.items client) n.made.items →
-        m.waits.items ≡ waits_after v n.waits.items (waiting_call call.thread client (place_of n.made.items client)) reply → m.words.items ≡ state_words m.made.items m.waits.items v → IsNode p own w m
+        m.waits.items ≡ waits_after v n.waits.items (waiting_call call.thread client (next_place n.made.items client)) reply → m.words.items ≡ state_words m.made.items m.waits.items v → IsNode p own w m
     followed_is m order made waits words =
         let after = after_is m order in
         let made_is : m.made.items ≡ (world_after p own w m.order).made =
         made ∙ ap (λ (l : List ℕ). one_more client (slice_get l client) l) node.made_is ∙ sym (ap (λ (y : World). y.made) after) in
-        let by = λ (x : Shown) (l : List WaitingCall) (made : List ℕ) (r : Reply). waits_after x l (waiting_call call.thread client (place_of made client)) r in
+        let by = λ (x : Shown) (l : List WaitingCall) (made : List ℕ) (r : Reply). waits_after x l (waiting_call call.thread client (next_place made client)) r in
         let waits_are : m.waits.items ≡ (world_after p own w m.order).waits =
         waits
         ∙ ap (λ (x : Shown). by x n.waits.items n.made.items reply) steps.shows
@@ -242,28 +242,28 @@ module _ (p : ProfileName) (own : List (List Call)) (w : World) where
   -- ---- what the loops have done so far
 
   abbrev calls_of_node : List ℕ → ℕ → List Answered
-  calls_of_node order client = call_answers p (world_after p own w order) order client (next_call own (world_after p own w order).made client)
+  calls_of_node order client = call_answers p (world_after p own w order) order client (next_client_call own (world_after p own w order).made client)
 
   pub visited_none : (same : Answer → Answer → Bool) (nodes : List Node) (found : List FoundAnswer) → AreNodes p own w nodes → IsVisited p own w nodes nodes [] same found found []
   visited_none same nodes found all = record { are = all; entries_are = refl; told_are = refl }
 
   pub visited_more : (same : Answer → Answer → Bool) (weight : ℕ) (order : List ℕ) (k : ℕ) (nodes nodes' nodes'' : List Node) (found found' found'' : List FoundAnswer) →
-      IsVisited p own w nodes nodes' (each_times weight (map (λ c. order ++ c ∷ []) (filter (may_call own (world_after p own w order)) (below k)))) same found found' (flat_map (calls_of_node order) (filter (may_call own (world_after p own w order)) (below k))) →
+      IsVisited p own w nodes nodes' (each_times weight (map (λ c. order ++ c ∷ []) (filter (may_call own (world_after p own w order)) (numbers_below k)))) same found found' (flat_map (calls_of_node order) (filter (may_call own (world_after p own w order)) (numbers_below k))) →
       IsVisited p own w nodes' nodes'' (each_times weight (one_longer p own w order k)) same found' found'' (one_told p own w order k) →
-      IsVisited p own w nodes nodes'' (each_times weight (map (λ c. order ++ c ∷ []) (filter (may_call own (world_after p own w order)) (below (k + 1))))) same found found'' (flat_map (calls_of_node order) (filter (may_call own (world_after p own w order)) (below (k + 1))))
+      IsVisited p own w nodes nodes'' (each_times weight (map (λ c. order ++ c ∷ []) (filter (may_call own (world_after p own w order)) (numbers_below (k + 1))))) same found found'' (flat_map (calls_of_node order) (filter (may_call own (world_after p own w order)) (numbers_below (k + 1))))
   visited_more same weight order k nodes nodes' nodes'' found found' found'' so_far now = record {
     are = now.are;
-    entries_are = client_counted (lead_alike p own w) (2 ^ 64 - 1) weight (λ c. order ++ c ∷ []) (may_call own (world_after p own w order)) (entries_of nodes) (entries_of nodes') (entries_of nodes'') k so_far.entries_are now.entries_are;
+    entries_are = client_counted (lead_alike p own w) (2 ^ 64 - 1) weight (λ c. order ++ c ∷ []) (may_call own (world_after p own w order)) (node_orders nodes) (node_orders nodes') (node_orders nodes'') k so_far.entries_are now.entries_are;
     told_are = number_more (same_answer same) (calls_of_node order) (may_call own (world_after p own w order)) (answers_of found) (answers_of found') (answers_of found'') k so_far.told_are now.told_are;
   }
 
   -- ---- where an order ends
 
   ended_is : (n : Node) (v : Shown) (count : ℕ) (ends : Bool) → IsNode p own w n → v ≡ shown (world_after p own w n.order).kernel → count ≡ length own →
-      ends ≡ not (list_any (λ client. can_be_made v (next_call own n.made.items client)) (below count)) → ends ≡ is_end own (world_after p own w n.order)
+      ends ≡ not (list_any (λ client. can_be_made v (next_client_call own n.made.items client)) (numbers_below count)) → ends ≡ is_end own (world_after p own w n.order)
   ended_is n v count ends node at is_count is_ends =
-      is_ends ∙ ap (λ k. not (list_any (λ client. can_be_made v (next_call own n.made.items client)) (below k))) is_count
-      ∙ ap not (any_agree (λ client. can_be_made v (next_call own n.made.items client)) (may_call own (world_after p own w n.order)) (clients own) (λ client. may_is n v client node at))
+      is_ends ∙ ap (λ k. not (list_any (λ client. can_be_made v (next_client_call own n.made.items client)) (numbers_below k))) is_count
+      ∙ ap not (any_agree (λ client. can_be_made v (next_client_call own n.made.items client)) (may_call own (world_after p own w n.order)) (clients own) (λ client. may_is n v client node at))
 
   -- the answers behind its order
   behind_is : (same : Answer → Answer → Bool) (n : Node) (count : ℕ) (ends : Bool) → IsNode p own w n → count ≡ length own → ends ≡ is_end own (world_after p own w n.order) →
@@ -295,11 +295,11 @@ module _ (p : ProfileName) (own : List (List Call)) (w : World) where
   one_left v made client None rest = refl
   one_left v made client (Some call) rest = some_more (length rest)
 
-  some_left : (v : Shown) (made : List ℕ) (ns : List ℕ) → nat_lt 0 (length (flat_map (λ client. left_call v made client (next_call own made client)) ns)) ≡ list_any (λ client. is_some (next_call own made client)) ns
+  some_left : (v : Shown) (made : List ℕ) (ns : List ℕ) → nat_lt 0 (length (flat_map (λ client. left_call v made client (next_client_call own made client)) ns)) ≡ list_any (λ client. is_some (next_client_call own made client)) ns
   some_left v made [] = refl
   some_left v made (k ∷ ns) =
-      let f : ℕ → List LeftCall = λ client. left_call v made client (next_call own made client) in
-      ap (λ (l : List LeftCall). nat_lt 0 (length l)) (flat_map-cons f k ns) ∙ one_left v made k (next_call own made k) (flat_map f ns) ∙ ap (λ b. is_some (next_call own made k) || b) (some_left v made ns)
+      let f : ℕ → List LeftCall = λ client. left_call v made client (next_client_call own made client) in
+      ap (λ (l : List LeftCall). nat_lt 0 (length l)) (flat_map-cons f k ns) ∙ one_left v made k (next_client_call own made k) (flat_map f ns) ∙ ap (λ b. is_some (next_client_call own made k) || b) (some_left v made ns)
 
   stuck_is : (n : Node) (v : Shown) (ends : Bool) → IsNode p own w n → v ≡ shown (world_after p own w n.order).kernel → ends ≡ is_end own (world_after p own w n.order) →
       (ends && nat_lt 0 (length (left_calls own n.made.items v))) ≡ is_stuck own (world_after p own w n.order)
@@ -318,7 +318,7 @@ module _ (p : ProfileName) (own : List (List Call)) (w : World) where
 
   -- one node of a layer
   pub expanded_is : (same : Answer → Answer → Bool) (n : Node) (v : Shown) (count : ℕ) (ends : Bool) → IsNode p own w n → v ≡ shown (world_after p own w n.order).kernel → count ≡ length own →
-      ends ≡ not (list_any (λ client. can_be_made v (next_call own n.made.items client)) (below count)) → (nodes nodes' : List Node) (found found' : Findings) (answers answers' : List FoundAnswer) →
+      ends ≡ not (list_any (λ client. can_be_made v (next_client_call own n.made.items client)) (numbers_below count)) → (nodes nodes' : List Node) (found found' : Findings) (answers answers' : List FoundAnswer) →
       IsVisited p own w nodes nodes' (each_times n.weight (longer p own w n.order)) same found.answers answers (calls_told p own w n.order) →
       answers_of answers' ≡ with_firsts (same_answer same) (answers_of answers) (cond ends (end_told own count n.made.items n.waits.items n.order) []) →
       found'.answers ≡ answers' →
@@ -326,7 +326,7 @@ module _ (p : ProfileName) (own : List (List Call)) (w : World) where
       found'.ends ≡ saturated (found.ends + cond ends 1 0) →
       found'.orders ≡ saturated (found.orders + cond ends n.weight 0) →
       found'.stuck_orders ≡ saturated (found.stuck_orders + cond (ends && nat_lt 0 (length (left_calls own n.made.items v))) n.weight 0) →
-      IsExpanded p own w nodes nodes' same found found' (entry_of n ∷ [])
+      IsExpanded p own w nodes nodes' same found found' (node_order n ∷ [])
   expanded_is same n v count ends node at is_count is_ends nodes nodes' found found' answers answers' visited told answers_same stuck ends_are orders_are stuck_orders_are =
       let x = world_after p own w n.order in
       let ended = ended_is n v count ends node at is_count is_ends in
@@ -335,13 +335,13 @@ module _ (p : ProfileName) (own : List (List Call)) (w : World) where
       let stuck_after = λ (e : List ℕ × ℕ). stuck_behind p own w e.0 in
       record {
         are = visited.are;
-        entries_are = visited.entries_are ∙ ap (with_counts_up_to (2 ^ 64 - 1) (lead_alike p own w) (entries_of nodes)) (sym (flat_map-cons followers (entry_of n) [] ∙ append-nil (followers (entry_of n))));
+        entries_are = visited.entries_are ∙ ap (with_counts_up_to (2 ^ 64 - 1) (lead_alike p own w) (node_orders nodes)) (sym (flat_map-cons followers (node_order n) [] ∙ append-nil (followers (node_order n))));
         found_are = record {
           answers_are =
               ap answers_of answers_same ∙ behind_is same n count ends node is_count ended found.answers answers answers' visited.told_are told
-              ∙ ap (with_firsts (same_answer same) (answers_of found.answers)) (sym (flat_map-cons behind (entry_of n) [] ∙ append-nil (behind (entry_of n))));
+              ∙ ap (with_firsts (same_answer same) (answers_of found.answers)) (sym (flat_map-cons behind (node_order n) [] ∙ append-nil (behind (node_order n))));
           stuck_are =
-              stuck ∙ ap (with_firsts (same_stuck same_left) (stuck_of found.stuck.items)) (stuck_told_is n v ends node at ended ∙ sym (flat_map-cons stuck_after (entry_of n) [] ∙ append-nil (stuck_after (entry_of n))));
+              stuck ∙ ap (with_firsts (same_stuck same_left) (stuck_of found.stuck.items)) (stuck_told_is n v ends node at ended ∙ sym (flat_map-cons stuck_after (node_order n) [] ∙ append-nil (stuck_after (node_order n))));
           ends_are = ends_are ∙ ap (λ b. saturated (found.ends + cond b 1 0)) ended;
           orders_are = orders_are ∙ ap (λ b. saturated (found.orders + cond b n.weight 0)) ended;
           stuck_orders_are = stuck_orders_are ∙ ap (λ b. saturated (found.stuck_orders + cond b n.weight 0)) (stuck_is n v ends node at ended);
@@ -379,30 +379,30 @@ module _ (p : ProfileName) (own : List (List Call)) (w : World) where
       }
 
   pub layer_more : (same : Answer → Answer → Bool) (layer : List Node) (i : ℕ) (n : Node) (next next' : List Node) (found found' found'' : Findings) → i < length layer → n ≡ get_or layer i n →
-      IsExpanded p own w [] next same found found' (entries_of (take i layer)) → IsExpanded p own w next next' same found' found'' (entry_of n ∷ []) →
-      IsExpanded p own w [] next' same found found'' (entries_of (take (i + 1) layer))
+      IsExpanded p own w [] next same found found' (node_orders (take i layer)) → IsExpanded p own w next next' same found' found'' (node_order n ∷ []) →
+      IsExpanded p own w [] next' same found found'' (node_orders (take (i + 1) layer))
   layer_more same layer i n next next' found found' found'' lt is so_far now =
-      let es = entries_of (take i layer) in
+      let es = node_orders (take i layer) in
       let followers = λ (e : List ℕ × ℕ). each_times e.1 (longer p own w e.0) in
-      let took : entries_of (take (i + 1) layer) ≡ es ++ entry_of n ∷ [] = ap entries_of (take_more layer i n lt ∙ ap (λ y. take i layer ++ y ∷ []) (sym is)) ∙ map-append entry_of (take i layer) (n ∷ []) in
+      let took : node_orders (take (i + 1) layer) ≡ es ++ node_order n ∷ [] = ap node_orders (take_more layer i n lt ∙ ap (λ y. take i layer ++ y ∷ []) (sym is)) ∙ map-append node_order (take i layer) (n ∷ []) in
       subst (λ l. IsExpanded p own w [] next' same found found'' l) (sym took)
       (record {
         are = now.are;
         entries_are =
-            now.entries_are ∙ ap (λ l. with_counts_up_to (2 ^ 64 - 1) (lead_alike p own w) l (flat_map followers (entry_of n ∷ []))) so_far.entries_are
-            ∙ sym (counts_up_to-append (2 ^ 64 - 1) (lead_alike p own w) (flat_map followers es) (flat_map followers (entry_of n ∷ [])) [])
-            ∙ ap (with_counts_up_to (2 ^ 64 - 1) (lead_alike p own w) []) (sym (flat_map-append followers es (entry_of n ∷ [])));
-        found_are = found_more same found found' found'' es (entry_of n ∷ []) so_far.found_are now.found_are;
+            now.entries_are ∙ ap (λ l. with_counts_up_to (2 ^ 64 - 1) (lead_alike p own w) l (flat_map followers (node_order n ∷ []))) so_far.entries_are
+            ∙ sym (counts_up_to-append (2 ^ 64 - 1) (lead_alike p own w) (flat_map followers es) (flat_map followers (node_order n ∷ [])) [])
+            ∙ ap (with_counts_up_to (2 ^ 64 - 1) (lead_alike p own w) []) (sym (flat_map-append followers es (node_order n ∷ [])));
+        found_are = found_more same found found' found'' es (node_order n ∷ []) so_far.found_are now.found_are;
       })
 
   -- ---- a client's next call, where it can make one and where it cannot
 
   pub made_is : (same : Answer → Answer → Bool) (n : Node) (client : ℕ) (call : Call) (found found' : List FoundAnswer) (reply : Reply) (next : Shown) (order : List ℕ) (place : ℕ) (m : Node) →
-      IsNode p own w n → StepsTo p (world_after p own w n.order).kernel call reply next → next_call own n.made.items client ≡ Some call →
-      order ≡ n.order ++ client ∷ [] → place ≡ place_of n.made.items client →
+      IsNode p own w n → StepsTo p (world_after p own w n.order).kernel call reply next → next_client_call own n.made.items client ≡ Some call →
+      order ≡ n.order ++ client ∷ [] → place ≡ next_place n.made.items client →
       answers_of found' ≡ with_firsts (same_answer same) (answers_of found) (replied order client place reply ++ waits_ended order next n.waits.items reply) →
       m.order ≡ order → m.made.items ≡ one_more client (slice_get n.made.items client) n.made.items →
-      m.waits.items ≡ waits_after next n.waits.items (waiting_call call.thread client (place_of n.made.items client)) reply → m.words.items ≡ state_words m.made.items m.waits.items next →
+      m.waits.items ≡ waits_after next n.waits.items (waiting_call call.thread client (next_place n.made.items client)) reply → m.words.items ≡ state_words m.made.items m.waits.items next →
       IsMade p own w n m client same found found' × IsKernelOf p own w m next
   made_is same n client call found found' reply next order place m node step_is is order_is place_is told o k t d = (
     record {
@@ -418,29 +418,29 @@ module _ (p : ProfileName) (own : List (List Call)) (w : World) where
   )
 
   pub visited_not : (same : Answer → Answer → Bool) (n : Node) (v : Shown) (client : ℕ) (got : Option Call) (nodes : List Node) (found : List FoundAnswer) → IsNode p own w n → v ≡ shown (world_after p own w n.order).kernel → AreNodes p own w nodes →
-      got ≡ None → is_some got ≡ can_be_made v (next_call own n.made.items client) →
+      got ≡ None → is_some got ≡ can_be_made v (next_client_call own n.made.items client) →
       IsVisited p own w nodes nodes (each_times n.weight (one_longer p own w n.order client)) same found found (one_told p own w n.order client)
   visited_not same n v client got nodes found node at all none may =
       let cannot : may_call own (world_after p own w n.order) client ≡ false = sym (ap (λ (o : Option Call). is_some o) (sym none) ∙ may ∙ may_is n v client node at) in
       record {
         are = all;
-        entries_are = ap (λ l. with_counts_up_to (2 ^ 64 - 1) (lead_alike p own w) (entries_of nodes) (each_times n.weight l)) (sym (none_longer n client cannot));
+        entries_are = ap (λ l. with_counts_up_to (2 ^ 64 - 1) (lead_alike p own w) (node_orders nodes) (each_times n.weight l)) (sym (none_longer n client cannot));
         told_are = ap (with_firsts (same_answer same) (answers_of found)) (sym (none_told n client cannot));
       }
 
   pub visited_call : (same : Answer → Answer → Bool) (n : Node) (v : Shown) (client : ℕ) (got : Option Call) (call : Call) (nodes nodes' : List Node) (found found' : List FoundAnswer) (m : Node) →
       IsNode p own w n → v ≡ shown (world_after p own w n.order).kernel → AreNodes p own w nodes →
-      got ≡ Some call → is_some got ≡ can_be_made v (next_call own n.made.items client) →
+      got ≡ Some call → is_some got ≡ can_be_made v (next_client_call own n.made.items client) →
       IsMade p own w n m client same found found' → m.weight ≡ n.weight → nodes' ≡ with_node nodes m →
       IsVisited p own w nodes nodes' (each_times n.weight (one_longer p own w n.order client)) same found found' (one_told p own w n.order client)
   visited_call same n v client got call nodes nodes' found found' m node at all some may made weighs noted =
       let can : may_call own (world_after p own w n.order) client ≡ true = sym (ap (λ (o : Option Call). is_some o) (sym some) ∙ may ∙ may_is n v client node at) in
       let r = noted_is nodes m all made.is in
-      let one = λ (o : List ℕ) (k : ℕ). with_count_up_to (2 ^ 64 - 1) (lead_alike p own w) (entries_of nodes) (o, k) in
+      let one = λ (o : List ℕ) (k : ℕ). with_count_up_to (2 ^ 64 - 1) (lead_alike p own w) (node_orders nodes) (o, k) in
       record {
         are = subst (AreNodes p own w) (sym noted) r.0;
         entries_are =
-            ap entries_of noted ∙ r.1 ∙ ap (λ (o : List ℕ). one o m.weight) made.order_is ∙ ap (one (n.order ++ client ∷ [])) weighs
-            ∙ ap (λ l. with_counts_up_to (2 ^ 64 - 1) (lead_alike p own w) (entries_of nodes) (each_times n.weight l)) (sym (one_is n client can));
+            ap node_orders noted ∙ r.1 ∙ ap (λ (o : List ℕ). one o m.weight) made.order_is ∙ ap (one (n.order ++ client ∷ [])) weighs
+            ∙ ap (λ l. with_counts_up_to (2 ^ 64 - 1) (lead_alike p own w) (node_orders nodes) (each_times n.weight l)) (sym (one_is n client can));
         told_are = made.told_are ∙ ap (with_firsts (same_answer same) (answers_of found)) (sym (one_told_is n client can));
       }

@@ -18,7 +18,7 @@ use Rattle.query_orders.specs.declared.answer.Answer.{Answer}
 use Rattle.query_orders.specs.declared.answer.Answer.TheVariants.{Replied, Waits, NotMade}
 use Rattle.query_orders.specs.declared.answer.WaitingCall.{WaitingCall}
 use Rattle.query_orders.specs.declared.left.LeftCall.{LeftCall}
-use Rattle.query_orders.specs.World.{World, next_call, may_call, place_of, is_wait, still_waits, world_after}
+use Rattle.query_orders.specs.World.{World, next_client_call, may_call, next_place, is_wait, still_waits, world_after}
 use Rattle.query_orders.specs.Orders.{clients, orders, is_end, is_stuck}
 use Rattle.query_orders.specs.Answers.{Answered, answered, replied, wait_ended, waits_ended, call_answers, places_left, end_answers, answers_behind, same_answer}
 use Rattle.query_orders.specs.Ends.{StuckEnd, stuck_end, stuck_behind, same_stuck, left_calls}
@@ -88,7 +88,7 @@ module _ (same : Answer → Answer → Bool) (laws : IsKindTest same) where
       let o = step p v.kernel c in
       let x' = x ++ client ∷ [] in
       let y' = y ++ client ∷ [] in
-      let n = place_of v.made client in
+      let n = next_place v.made client in
       kinds-append (replied x' client n o.reply) (waits_ended x' (shown o.state) v.waits o.reply) (replied y' client n o.reply) (waits_ended y' (shown o.state) v.waits o.reply)
       (replied_kinds x' y' client n o.reply)
       (has_kinds-map (same_answer same) (λ (call : WaitingCall). answered x' call.client call.place (wait_ended o.reply call.thread)) (λ (call : WaitingCall). answered y' call.client call.place (wait_ended o.reply call.thread))
@@ -104,14 +104,14 @@ module _ (same : Answer → Answer → Bool) (laws : IsKindTest same) where
 
   -- what stands behind an order, by the world after it
   abbrev told : ProfileName → List (List Call) → World → List ℕ → List Answered
-  told p own v order = flat_map (λ client. call_answers p v order client (next_call own v.made client)) (filter (may_call own v) (clients own)) ++ cond (is_end own v) (end_answers own v order) []
+  told p own v order = flat_map (λ client. call_answers p v order client (next_client_call own v.made client)) (filter (may_call own v) (clients own)) ++ cond (is_end own v) (end_answers own v order) []
 
   told_kinds : (p : ProfileName) (own : List (List Call)) (v : World) (x y : List ℕ) → HasKinds (same_answer same) (told p own v x) (told p own v y)
   told_kinds p own v x y =
-      let f = λ (order : List ℕ) (client : ℕ). call_answers p v order client (next_call own v.made client) in
+      let f = λ (order : List ℕ) (client : ℕ). call_answers p v order client (next_client_call own v.made client) in
       let callers = filter (may_call own v) (clients own) in
       kinds-append (flat_map (f x) callers) (cond (is_end own v) (end_answers own v x) []) (flat_map (f y) callers) (cond (is_end own v) (end_answers own v y) [])
-      (kinds-flat_map (f x) (f y) (λ client. call_kinds p v x y client (next_call own v.made client)) callers)
+      (kinds-flat_map (f x) (f y) (λ client. call_kinds p v x y client (next_client_call own v.made client)) callers)
       (elim (is_end own v) as (λ b. HasKinds (same_answer same) (cond b (end_answers own v x) []) (cond b (end_answers own v y) [])) [ true ↦ end_kinds own v x y | false ↦ tt ])
 
   call_alike : (p : ProfileName) (v w : World) (order : List ℕ) (client : ℕ) (c : Option Call) → IsReached p v.kernel → IsReached p w.kernel → Alike v w → call_answers p v order client c ≡ call_answers p w order client c
@@ -119,10 +119,10 @@ module _ (same : Answer → Answer → Bool) (laws : IsKindTest same) where
   call_alike p v w order client (Some c) r s a =
       let longer = order ++ client ∷ [] in
       let whole = λ (n : ℕ) (reply : Reply) (x : Shown) (l : List WaitingCall). replied longer client n reply ++ waits_ended longer x l reply in
-      ap (λ (l : List ℕ). whole (place_of l client) (step p v.kernel c).reply (shown (step p v.kernel c).state) v.waits) a.made
-      ∙ ap (λ (q : Reply). whole (place_of w.made client) q (shown (step p v.kernel c).state) v.waits) (reply_alike p v.kernel w.kernel c r s a.shows)
-      ∙ ap (λ (x : Shown). whole (place_of w.made client) (step p w.kernel c).reply x v.waits) (step_alike p v.kernel w.kernel c r s a.shows)
-      ∙ ap (λ (l : List WaitingCall). whole (place_of w.made client) (step p w.kernel c).reply (shown (step p w.kernel c).state) l) a.waits
+      ap (λ (l : List ℕ). whole (next_place l client) (step p v.kernel c).reply (shown (step p v.kernel c).state) v.waits) a.made
+      ∙ ap (λ (q : Reply). whole (next_place w.made client) q (shown (step p v.kernel c).state) v.waits) (reply_alike p v.kernel w.kernel c r s a.shows)
+      ∙ ap (λ (x : Shown). whole (next_place w.made client) (step p w.kernel c).reply x v.waits) (step_alike p v.kernel w.kernel c r s a.shows)
+      ∙ ap (λ (l : List WaitingCall). whole (next_place w.made client) (step p w.kernel c).reply (shown (step p w.kernel c).state) l) a.waits
 
   ends_alike : (own : List (List Call)) (v w : World) (order : List ℕ) → Alike v w → end_answers own v order ≡ end_answers own w order
   ends_alike own v w order a =
@@ -131,9 +131,9 @@ module _ (same : Answer → Answer → Bool) (laws : IsKindTest same) where
 
   told_alike : (p : ProfileName) (own : List (List Call)) (v w : World) (order : List ℕ) → IsReached p v.kernel → IsReached p w.kernel → Alike v w → told p own v order ≡ told p own w order
   told_alike p own v w order r s a =
-      let f = λ (x : World) (client : ℕ). call_answers p x order client (next_call own x.made client) in
+      let f = λ (x : World) (client : ℕ). call_answers p x order client (next_client_call own x.made client) in
       ap (λ (l : List Answered). l ++ cond (is_end own v) (end_answers own v order) [])
-      (flat_map-agree (f v) (f w) (λ client. call_alike p v w order client (next_call own v.made client) r s a ∙ ap (call_answers p w order client) (next_alike own v w client a)) (filter (may_call own v) (clients own))
+      (flat_map-agree (f v) (f w) (λ client. call_alike p v w order client (next_client_call own v.made client) r s a ∙ ap (call_answers p w order client) (next_alike own v w client a)) (filter (may_call own v) (clients own))
       ∙ ap (flat_map (f w)) (filter_agree (may_call own v) (may_call own w) (λ client. may_alike own v w client a) (clients own)))
       ∙ ap (λ (l : List Answered). flat_map (f w) (filter (may_call own w) (clients own)) ++ cond (is_end own v) l []) (ends_alike own v w order a)
       ∙ ap (λ b. flat_map (f w) (filter (may_call own w) (clients own)) ++ cond b (end_answers own w order) []) (end_alike own v w a)

@@ -7,7 +7,7 @@ use Rattle.cap_core.specs.declared.profile.ProfileName.{ProfileName}
 use Rattle.kernel_abstract.specs.Shown.{Shown}
 use Rattle.kernel_abstract.specs.State.{shown}
 use Rattle.kernel_abstract.specs.Reached.{IsReached}
-use Rattle.query_orders.specs.Words.{listed, words_of}
+use Rattle.query_orders.specs.Words.{listed, shown_words}
 use Rattle.query_orders.proofs.KernelWords.Codes.{listed_tells}
 use Rattle.query_orders.proofs.KernelWords.Telling.{tells}
 use Rattle.query_orders.specs.declared.answer.WaitingCall.{WaitingCall}
@@ -44,8 +44,8 @@ pub record Alike (v w : World) : Type 0 where
 pub words_same : (p : ProfileName) (v w : World) → IsReached p v.kernel → IsReached p w.kernel → pointwise nat_eq (world_words v) (world_words w) ≡ true → Alike v w
 words_same p v w r s h =
     let e : world_words v ≡ world_words w = (bytes_eq-Decides (world_words v) (world_words w)).0 h in
-    let a = listed_tells (λ n. n ∷ []) (λ n. n ∷ []) (λ _. Unit {0}) number_tells v.made w.made (listed wait_words v.waits ++ words_of (shown v.kernel)) (listed wait_words w.waits ++ words_of (shown w.kernel)) e in
-    let b = listed_tells wait_words wait_words (λ _. Unit {0}) wait_tells v.waits w.waits (words_of (shown v.kernel)) (words_of (shown w.kernel)) a.1.0 in
+    let a = listed_tells (λ n. n ∷ []) (λ n. n ∷ []) (λ _. Unit {0}) number_tells v.made w.made (listed wait_words v.waits ++ shown_words (shown v.kernel)) (listed wait_words w.waits ++ shown_words (shown w.kernel)) e in
+    let b = listed_tells wait_words wait_words (λ _. Unit {0}) wait_tells v.waits w.waits (shown_words (shown v.kernel)) (shown_words (shown w.kernel)) a.1.0 in
     record { made = a.0; waits = b.0; shows = tells p v.kernel w.kernel r s b.1.0 }
 
 pub same_words : (v w : World) → Alike v w → pointwise nat_eq (world_words v) (world_words w) ≡ true

@@ -12,7 +12,7 @@ use Rattle.kernel_abstract.specs.declared.call.ThreadState.{ThreadState}
 use Rattle.kernel_abstract.specs.declared.call.ThreadState.TheVariants.{Ready, Inactive, Sending, Receiving}
 use Rattle.kernel_abstract.specs.declared.call.Inbox.{Inbox}
 use Rattle.kernel_abstract.specs.Shown.{Shown, state_at, inbox_at, waiting_at}
-use Rattle.query_orders.specs.Words.{listed, bit, parent_words, cap_words, message_words, state_words, inbox_words, waiter_words, object_words, slot_words}
+use Rattle.query_orders.specs.Words.{listed, bit, parent_words, cap_words, message_words, thread_state_words, inbox_words, waiter_words, object_words, slot_words}
 
 -- the first word, and the others
 abbrev first : List ℕ → ℕ
@@ -111,14 +111,14 @@ abbrev read_state : List ℕ → Option ThreadState × List ℕ
 read_state (k ∷ e ∷ us) = (state_with k e, us)
 read_state other = (None, other)
 
-state_read : (x : Option ThreadState) (us : List ℕ) → read_state (state_words x ++ us) ≡ (x, us)
+state_read : (x : Option ThreadState) (us : List ℕ) → read_state (thread_state_words x ++ us) ≡ (x, us)
 state_read None us = refl
 state_read (Some Ready) us = refl
 state_read (Some Inactive) us = refl
 state_read (Some (Sending e)) us = refl
 state_read (Some (Receiving e)) us = refl
 
-pub state_tells : (a b : Option ThreadState) (us vs : List ℕ) → state_words a ++ us ≡ state_words b ++ vs → (a ≡ b) × (us ≡ vs)
+pub state_tells : (a b : Option ThreadState) (us vs : List ℕ) → thread_state_words a ++ us ≡ thread_state_words b ++ vs → (a ≡ b) × (us ≡ vs)
 state_tells a b us vs h =
     let p = sym (state_read a us) ∙ ap read_state h ∙ state_read b vs in
     (ap (λ (x : Option ThreadState × List ℕ). x.0) p, ap (λ (x : Option ThreadState × List ℕ). x.1) p)
@@ -181,7 +181,7 @@ object_tells v w (Endpoint base badge rights) us vs h =
     (r.1.0, r.0)
 object_tells v w (Tcb base) us vs h =
     let s = state_tells (state_at v base) (state_at w base) (inbox_words (inbox_at v base) ++ us) (inbox_words (inbox_at w base) ++ vs)
-    (sym (append_assoc (state_words (state_at v base)) (inbox_words (inbox_at v base)) us) ∙ h ∙ append_assoc (state_words (state_at w base)) (inbox_words (inbox_at w base)) vs) in
+    (sym (append_assoc (thread_state_words (state_at v base)) (inbox_words (inbox_at v base)) us) ∙ h ∙ append_assoc (thread_state_words (state_at w base)) (inbox_words (inbox_at w base)) vs) in
     let r = inbox_tells (inbox_at v base) (inbox_at w base) us vs s.1 in
     (r.1, (s.0, r.0))
 

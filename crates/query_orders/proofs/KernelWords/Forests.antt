@@ -5,7 +5,7 @@ use Rattle.std.proofs.lemmas.Bool.Decides.{nat_tests}
 use Rattle.std.specs.List.{AllByRecursion as Each}
 use Rattle.kernel_forest.specs.Forest.{Forest, none, tree, preorder, parented}
 use Rattle.kernel_forest.specs.Entries.{Entry, slots, slot_of, derivations_of}
-use Rattle.query_orders.specs.Private.Waiting.{Apart}
+use Rattle.query_orders.specs.Private.Waiting.{AreWaitingApart}
 
 -- each entry with the slot right above it
 abbrev parents : Option ℕ → Forest Entry → List (Entry × Option ℕ)
@@ -51,7 +51,7 @@ each_append : {X : Type 0} (P : X → Type 0) (us vs : List X) → Each P us →
 each_append P [] vs h k = k
 each_append P (u ∷ us) vs h k = (h.0, each_append P us vs h.1 k)
 
-apart_parts : (us vs : List ℕ) → Apart (us ++ vs) → Apart us × Apart vs
+apart_parts : (us vs : List ℕ) → AreWaitingApart (us ++ vs) → AreWaitingApart us × AreWaitingApart vs
 apart_parts [] vs h = (tt, h)
 apart_parts (u ∷ us) vs h = let r = apart_parts us vs h.1 in (((each_parts (λ m. (m == u) ≡ false) us vs h.0).0, r.0), r.1)
 
@@ -94,7 +94,7 @@ cut above (x ∷ xs) (y ∷ ys) os os' a a' s s' h =
     (let p : x ∷ xs ≡ y ∷ ys = ap (λ z. z ∷ xs) e ∙ ap (λ l. y ∷ l) r.0 in p, r.1)
 
 record Good (above : Option ℕ) (f : Forest Entry) : Type 0 where
-  apart : Apart (nums f)
+  apart : AreWaitingApart (nums f)
   fresh : Fresh above (nums f)
 
 good_under : (above : Option ℕ) (a : Entry) (u o : Forest Entry) → Good above (tree a u o) → Good (Some a.slot) u
@@ -124,8 +124,8 @@ fresh_none : (ns : List ℕ) → Fresh None ns
 fresh_none [] = tt
 fresh_none (n ∷ ns) = (refl, fresh_none ns)
 
-good_top : (f : Forest Entry) → Apart (slots f) → Good None f
-good_top f h = record { apart = subst Apart (nums_are f) h; fresh = fresh_none (nums f) }
+good_top : (f : Forest Entry) → AreWaitingApart (slots f) → Good None f
+good_top f h = record { apart = subst AreWaitingApart (nums_are f) h; fresh = fresh_none (nums f) }
 
-pub derivations_tell : (f g : Forest Entry) → Apart (slots f) → Apart (slots g) → derivations_of f ≡ derivations_of g → f ≡ g
+pub derivations_tell : (f g : Forest Entry) → AreWaitingApart (slots f) → AreWaitingApart (slots g) → derivations_of f ≡ derivations_of g → f ≡ g
 derivations_tell f g x y h = same_forest None f g (good_top f x) (good_top g y) (sym (parents_are None f) ∙ h ∙ parents_are None g)

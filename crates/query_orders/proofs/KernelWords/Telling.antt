@@ -19,9 +19,9 @@ use Rattle.kernel_abstract.specs.State.{State, shown, thread_view, waiters, endp
 use Rattle.kernel_abstract.proofs.Lists.Tables.{get_table, same_nat_map}
 use Rattle.kernel_abstract.proofs.Reached.Equations.{shown-derivations, shown-threads, shown-endpoints}
 use Rattle.kernel_abstract.proofs.Reached.Simulation.{reached_is}
-use Rattle.query_orders.specs.Private.Waiting.{Apart}
+use Rattle.query_orders.specs.Private.Waiting.{AreWaitingApart}
 use Rattle.query_orders.proofs.KernelWords.Forests.{derivations_tell}
-use Rattle.query_orders.specs.Words.{slot_words, words_of}
+use Rattle.query_orders.specs.Words.{slot_words, shown_words}
 use Rattle.query_orders.specs.SameWords.{TellsWhatIsShown}
 use Rattle.query_orders.proofs.KernelWords.Codes.{Alike, listed_tells, slot_tells}
 
@@ -38,7 +38,7 @@ turned : (n : ℕ) (ns : List ℕ) → Each (λ m. (n == m) ≡ false) ns → Ea
 turned n [] h = tt
 turned n (m ∷ ms) h = (let k : (n == m) ≡ false = h.0 in grind (arith, nat_tests, k), turned n ms h.1)
 
-pub apart : (ns : List ℕ) → IsDistinct (λ (a b : ℕ). a == b) ns → Apart ns
+pub apart : (ns : List ℕ) → IsDistinct (λ (a b : ℕ). a == b) ns → AreWaitingApart ns
 apart [] h = tt
 apart (n ∷ ns) h = (turned n ns (IsDistinct-head (λ (a b : ℕ). a == b) n ns h), apart ns (IsDistinct-tail (λ (a b : ℕ). a == b) n ns h))
 
@@ -113,9 +113,9 @@ module _ (v w : Shown) where
       ∙ ap (λ x. let m : Shown = record { derivations = w.derivations; threads = x; endpoints = v.endpoints } in m) q
       ∙ ap (λ x. let m : Shown = record { derivations = w.derivations; threads = w.threads; endpoints = x } in m) r
 
-  same_shown : (f g : Forest Entry) (tf tg : ℕ → ThreadView) (ef eg : ℕ → List Waiter) → v.derivations ≡ f → w.derivations ≡ g → Apart (slots f) → Apart (slots g) →
+  same_shown : (f g : Forest Entry) (tf tg : ℕ → ThreadView) (ef eg : ℕ → List Waiter) → v.derivations ≡ f → w.derivations ≡ g → AreWaitingApart (slots f) → AreWaitingApart (slots g) →
       v.threads ≡ table (threads_of f) tf → w.threads ≡ table (threads_of g) tg → v.endpoints ≡ table (endpoints_of f) ef → w.endpoints ≡ table (endpoints_of g) eg →
-      words_of v ≡ words_of w → v ≡ w
+      shown_words v ≡ shown_words w → v ≡ w
   same_shown f g tf tg ef eg vf wg af ag vt wt ve we h =
       let r = listed_tells (slot_words v) (slot_words w) SlotAlike (slot_tells v w) (derivations_of v.derivations) (derivations_of w.derivations) [] [] (ap (λ l. l ++ []) h) in
       let same : f ≡ g = derivations_tell f g af ag (sym (ap derivations_of vf) ∙ r.0 ∙ ap derivations_of wg) in

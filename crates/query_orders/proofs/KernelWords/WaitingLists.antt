@@ -12,7 +12,7 @@ use Rattle.ipc_core.specs.Offers.{offer_in, offer_by}
 use Rattle.kernel_abstract.specs.Shown.{Shown, state_at, waiting_at}
 use Rattle.kernel_abstract.specs.Waiting.{state_in, offer_where, AreStatesAndLists}
 use Rattle.query_orders.specs.Words.{listed, waiter_words}
-use Rattle.query_orders.specs.Private.Waiting.{waiter_by, waiter_shown, threads_at}
+use Rattle.query_orders.specs.Private.Waiting.{waiter_by, waiter_shown, threads_waiting_at}
 
 itself : (n : ℕ) → (n == n) ≡ true
 itself n = grind (arith, nat_tests)
@@ -47,5 +47,5 @@ module _ (v : Shown) (e : ℕ) where
       ap (λ y. 1 ∷ (waiter_words y ++ listed (λ t. waiter_words (waiter_shown v t)) (map thread_of l))) (told x h.0 k.0)
       ∙ ap (λ r. 1 ∷ (waiter_words x ++ r)) (listed_so l h.1 k.1)
 
-  pub waiters_listed : AreStatesAndLists v → listed (λ t. waiter_words (waiter_shown v t)) (threads_at v e) ≡ listed waiter_words (waiting_at v e)
+  pub waiters_listed : AreStatesAndLists v → listed (λ t. waiter_words (waiter_shown v t)) (threads_waiting_at v e) ≡ listed waiter_words (waiting_at v e)
   waiters_listed agree = listed_so (waiting_at v e) (agree.listed e) (finds (waiting_at v e) (agree.once e))

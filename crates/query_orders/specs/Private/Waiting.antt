@@ -17,10 +17,10 @@ abbrev pub waiter_shown : Shown → ℕ → Waiter
 waiter_shown v thread = waiter_by thread (offer_at v thread)
 
 -- the threads that wait on an endpoint
-abbrev pub threads_at : Shown → ℕ → List ℕ
-threads_at v e = map thread_of (waiting_at v e)
+abbrev pub threads_waiting_at : Shown → ℕ → List ℕ
+threads_waiting_at v e = map thread_of (waiting_at v e)
 
 -- none of these comes twice, by tests that compute
-abbrev pub Apart : List ℕ → Type 0
-Apart [] = Unit {0}
-Apart (n ∷ ns) = Each (λ m. (m == n) ≡ false) ns × Apart ns
+abbrev pub AreWaitingApart : List ℕ → Type 0
+AreWaitingApart [] = Unit {0}
+AreWaitingApart (n ∷ ns) = Each (λ m. (m == n) ≡ false) ns × AreWaitingApart ns

@@ -2,8 +2,8 @@
 ghost use Rattle.std.specs.Prelude.{◌≡◌, ◌-◌, [], OnOk, cond, length, map, not, slice_get, unwrap_or};
 ghost use Rattle.std.specs.List.{flat_map, list_any};
 ghost use Rattle.kernel_lists.specs.Firsts.{with_firsts};
-ghost use Rattle.query_orders.specs.World.{next_call as next_call_of, can_be_made};
-ghost use Rattle.query_orders.specs.Orders.{below};
+ghost use Rattle.query_orders.specs.World.{next_client_call as next_call_of, can_be_made};
+ghost use Rattle.query_orders.specs.Orders.{numbers_below};
 ghost use Rattle.query_orders.specs.Answers.{answered, same_answer, numbers_from};
 ghost use Rattle.query_orders.specs.Nodes.{own_calls};
 ghost use Rattle.query_orders.specs.Found.{answers_of, not_made_told, end_told};
@@ -25,7 +25,7 @@ pub fn is_end<P: Profile, S: CapStore<P> + Drop, W: Waiters<P> + Drop>(
     at: &Kernel<P, S, W>,
     node: &Node,
 ) -> bool
-    ensures { result ≡ not (list_any (λ client. can_be_made at.now (next_call_of (own_calls calls.now) node.now.made.items client)) (below (length calls.now))) }
+    ensures { result ≡ not (list_any (λ client. can_be_made at.now (next_call_of (own_calls calls.now) node.now.made.items client)) (numbers_below (length calls.now))) }
 {
     let mut any = false;
     for client in 0..calls.len() {
@@ -83,7 +83,7 @@ pub fn note_end(
 /// Notes the calls of all clients that are not made in an order that ends.
 fn note_left(calls: &[Vec<Call>], node: &Node, found: &mut FoundAnswers) -> Result<(), AllocError>
     ensures { OnOk result (answers_of found.new ≡ with_firsts (same_answer ⟦<Answer as PartialEq>⟧.eq) (answers_of found.old)
-        (flat_map (not_made_told (own_calls calls.now) node.now.made.items node.now.order) (below (length calls.now)))) }
+        (flat_map (not_made_told (own_calls calls.now) node.now.made.items node.now.order) (numbers_below (length calls.now)))) }
 {
     for client in 0..calls.len() {
         let first = place_of(node.made.as_slice(), client);

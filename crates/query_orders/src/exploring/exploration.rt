@@ -10,7 +10,7 @@ ghost use Rattle.query_orders.specs.Nodes.{own_calls, layer, IsNode};
 ghost use Rattle.query_orders.specs.States.{AreTakenTogether};
 ghost use Rattle.query_orders.specs.Found.{IsMade};
 ghost use Rattle.query_orders.specs.Counts.{saturated};
-ghost use Rattle.query_orders.specs.Explorations.{IsExplored, IsBegun, is_last};
+ghost use Rattle.query_orders.specs.Explorations.{IsExplored, IsBegun, ends_exploration};
 ghost use Rattle.query_orders.specs.Private.Kernels.{IsKernelOf, AreKernels};
 ghost use Rattle.query_orders.specs.Private.Progress.{IsProgress};
 
@@ -165,7 +165,7 @@ fn states_after(explored: &Explored) -> u64
 
 /// Whether the exploration goes on: some order does, the states of the next layer are not too many, and neither are the calls.
 fn goes_on(explored: &Explored, limit: u64, count: usize) -> bool
-    ensures { result ≡ (nat_lt explored.now.calls count && not (is_last limit explored.now.states (length explored.now.layer))) }
+    ensures { result ≡ (nat_lt explored.now.calls count && not (ends_exploration limit explored.now.states (length explored.now.layer))) }
 {
     let is_last = explored.layer.nodes().is_empty() || limit < states_after(explored);
     explored.calls < count && !is_last

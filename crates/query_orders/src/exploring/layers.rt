@@ -4,9 +4,9 @@ ghost use Rattle.kernel_abstract.specs.declared.call.Call.{Call as CallOf};
 ghost use Rattle.kernel_abstract.specs.State.{shown};
 ghost use Rattle.kernel_abstract.specs.Reached.{IsReached, StepsTo};
 ghost use Rattle.kernel_lists.specs.Firsts.{each_times};
-ghost use Rattle.query_orders.specs.World.{World, next_call as next_call_of, one_more, waiting_call, place_of, waits_after, world_after};
+ghost use Rattle.query_orders.specs.World.{World, next_client_call as next_call_of, one_more, waiting_call, next_place, waits_after, world_after};
 ghost use Rattle.query_orders.specs.Orders.{longer};
-ghost use Rattle.query_orders.specs.Nodes.{own_calls, state_words, one_longer, IsNode, AreNodes, entry_of, entries_of};
+ghost use Rattle.query_orders.specs.Nodes.{own_calls, state_words, one_longer, IsNode, AreNodes, node_order, node_orders};
 ghost use Rattle.query_orders.specs.Found.{IsMade, IsVisited, IsExpanded, one_told, calls_told};
 ghost use Rattle.query_orders.specs.Private.Kernels.{IsKernelOf, AreKernels};
 
@@ -42,7 +42,7 @@ fn followed<P: Profile, S: MakeStore<P> + DerivationStore<P>, W: MakeWaiters<P>>
     ensures order { IfOk result (λ n. n.order ≡ order) }
     ensures made { IfOk result (λ n. n.made.items ≡ one_more client (slice_get node.now.made.items client) node.now.made.items) }
     ensures waits { IfOk result (λ n. n.waits.items
-        ≡ waits_after after.now node.now.waits.items (waiting_call call.thread client (place_of node.now.made.items client)) reply) }
+        ≡ waits_after after.now node.now.waits.items (waiting_call call.thread client (next_place node.now.made.items client)) reply) }
     ensures words { IfOk result (λ n. n.words.items ≡ state_words n.made.items n.waits.items after.now) }
     ensures weight { IfOk result (λ n. n.weight ≡ node.now.weight) }
 {
@@ -150,7 +150,7 @@ fn expand<P: Profile, S: MakeStore<P> + DerivationStore<P>, W: MakeWaiters<P>>(
 ) -> Result<(), AllocError>
     ensures expanded { OnOk result ((w : World) → IsReached P.profile w.kernel → IsNode P.profile (own_calls calls.now) w node.now
         → IsKernelOf P.profile (own_calls calls.now) w node.now at.now → AreNodes P.profile (own_calls calls.now) w nodes.old.layer
-        → IsExpanded P.profile (own_calls calls.now) w nodes.old.layer nodes.new.layer ⟦<Answer as PartialEq>⟧.eq found.old found.new (entry_of node.now ∷ [])) }
+        → IsExpanded P.profile (own_calls calls.now) w nodes.old.layer nodes.new.layer ⟦<Answer as PartialEq>⟧.eq found.old found.new (node_order node.now ∷ [])) }
     ensures kernels { OnOk result ((w : World) → IsReached P.profile w.kernel → IsNode P.profile (own_calls calls.now) w node.now
         → IsKernelOf P.profile (own_calls calls.now) w node.now at.now → AreKernels P.profile (own_calls calls.now) w nodes.old.kernels.items nodes.old.layer
         → AreKernels P.profile (own_calls calls.now) w nodes.new.kernels.items nodes.new.layer) }
@@ -174,7 +174,7 @@ pub fn next_layer<P: Profile, S: MakeStore<P> + DerivationStore<P>, W: MakeWaite
 ) -> Result<KeptLayer<P, S, W>, AllocError>
     ensures { IfOk result (λ next. (w : World) → IsReached P.profile w.kernel → kernel.now ≡ shown w.kernel → w.made ≡ replicate (length calls.now) 0 → AreNodes P.profile (own_calls calls.now) w layer.now
         → AreKernels P.profile (own_calls calls.now) w kept.old.items layer.now
-        → IsExpanded P.profile (own_calls calls.now) w [] next.layer ⟦<Answer as PartialEq>⟧.eq found.old found.new (entries_of layer.now)
+        → IsExpanded P.profile (own_calls calls.now) w [] next.layer ⟦<Answer as PartialEq>⟧.eq found.old found.new (node_orders layer.now)
         × AreKernels P.profile (own_calls calls.now) w next.kernels.items next.layer) }
 {
     let mut next = KeptLayer {

@@ -3,7 +3,7 @@ ghost use Rattle.std.specs.Prelude.{◌≡◌, ◌+◌, ◌≤◌, ℕ, IfOk, If
 ghost use Rattle.kernel_abstract.specs.Shown.{state_at};
 ghost use Rattle.kernel_abstract.specs.State.{State, shown};
 ghost use Rattle.kernel_abstract.specs.Reached.{IsReached, StepsTo};
-ghost use Rattle.query_orders.specs.World.{next_call, is_ready, can_be_made, one_more, place_of};
+ghost use Rattle.query_orders.specs.World.{next_client_call, is_ready, can_be_made, one_more, next_place};
 ghost use Rattle.query_orders.specs.Nodes.{own_calls};
 
 use crate::WaitingCall;
@@ -27,7 +27,7 @@ pub struct Node {
 
 /// The next call of a client, by how many calls each has made.
 pub fn next_call(calls: &[Vec<Call>], made: &[usize], client: usize) -> Option<Call>
-    ensures call { result ≡ next_call (own_calls calls.now) made.now client }
+    ensures call { result ≡ next_client_call (own_calls calls.now) made.now client }
     ensures more { IsSome result → IfSome (slice_get made.now client) (λ (n : ℕ). n + 1 ≤ usize.MAX) }
 {
     let place = made.get(client)?;
@@ -51,8 +51,8 @@ pub fn callable<P: Profile, S: CapStore<P> + Drop, W: Waiters<P> + Drop>(
     node: &Node,
     client: usize,
 ) -> Option<Call>
-    ensures may { is_some result ≡ can_be_made at.now (next_call (own_calls calls.now) node.now.made.items client) }
-    ensures call { IfSome result (λ call. next_call (own_calls calls.now) node.now.made.items client ≡ Some call) }
+    ensures may { is_some result ≡ can_be_made at.now (next_client_call (own_calls calls.now) node.now.made.items client) }
+    ensures call { IfSome result (λ call. next_client_call (own_calls calls.now) node.now.made.items client ≡ Some call) }
     ensures more { IsSome result → IfSome (slice_get node.now.made.items client) (λ (n : ℕ). n + 1 ≤ usize.MAX) }
 {
     let call = next_call(calls, node.made.as_slice(), client)?;
@@ -120,7 +120,7 @@ pub fn counted(alloc: Global, made: &[usize], client: usize) -> Result<Vec<usize
 
 /// How many calls a client has made.
 pub fn place_of(made: &[usize], client: usize) -> usize
-    ensures { result ≡ place_of made.now client }
+    ensures { result ≡ next_place made.now client }
 {
     made.get(client).copied().unwrap_or(0)
 }

@@ -51,7 +51,7 @@ pub fn add_message(words: &mut Vec<u64>, message: &Message) -> Result<(), AllocE
 
 /// What a thread does; nothing is at the address where there is `None`.
 pub fn add_state(words: &mut Vec<u64>, state: Option<ThreadState>) -> Result<(), AllocError>
-    ensures { OnOk result (words.new.items ≡ words.old.items ++ spec.state_words state) }
+    ensures { OnOk result (words.new.items ≡ words.old.items ++ spec.thread_state_words state) }
 {
     let (kind, endpoint) = match state {
         None => (0, 0),

@@ -80,7 +80,7 @@ pub fn words_of<P: Profile, S: DerivationStore<P> + Drop, W: Waiters<P> + Drop>(
     alloc: Global,
     kernel: &Kernel<P, S, W>,
 ) -> Result<Vec<u64>, AllocError>
-    ensures { IfOk result (λ words. words.items ≡ spec.words_of kernel.now) }
+    ensures { IfOk result (λ words. words.items ≡ spec.shown_words kernel.now) }
 {
     let derivations = kernel.derivations(alloc)?;
     let mut words = Vec::new(alloc);

@@ -2,7 +2,7 @@
 ghost use Rattle.std.specs.Prelude.{◌≡◌, ◌++◌, IfOk, OnOk};
 ghost use Rattle.kernel_abstract.specs.Shown.{waiting_at};
 ghost use Rattle.query_orders.specs.Words as spec;
-ghost use Rattle.query_orders.specs.Private.Waiting.{waiter_shown, threads_at};
+ghost use Rattle.query_orders.specs.Private.Waiting.{waiter_shown, threads_waiting_at};
 
 use crate::words::parts::add_waiter;
 use cap_core::Profile;
@@ -17,7 +17,7 @@ fn waiting_threads<P: Profile, S: CapStore<P> + Drop, W: Waiters<P> + Drop>(
     endpoint: u64,
     kernel: &Kernel<P, S, W>,
 ) -> Result<Vec<u64>, AllocError>
-    ensures { IfOk result (λ v. v.items ≡ threads_at kernel.now endpoint) }
+    ensures { IfOk result (λ v. v.items ≡ threads_waiting_at kernel.now endpoint) }
 {
     let mut threads = Vec::new(alloc);
     let mut next = kernel.waiting(endpoint, 0);

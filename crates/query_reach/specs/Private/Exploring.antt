@@ -50,7 +50,7 @@ pub record Adds (p : ProfileName) (from : Cap) (read : ℕ) (path : Path) (place
   pub added : (t : ℕ) (w : Path) → IsStep p from read path slot t w → HasUpTo new t place w
 
 -- those to all places below a number are put there, and nothing else
-pub record Extends (p : ProfileName) (from : Cap) (read : ℕ) (path : Path) (filled : List FullSlot) (count : ℕ) (old new : List (List (Option Path))) : Type 0 where
+pub record ExtendsExplored (p : ProfileName) (from : Cap) (read : ℕ) (path : Path) (filled : List FullSlot) (count : ℕ) (old new : List (List (Option Path))) : Type 0 where
   pub front : (t k : ℕ) → t ≤ read → path_at new t k ≡ path_at old t k
   pub kept : (t k : ℕ) (w : Path) → path_at old t k ≡ Some w → HasUpTo new t k w
   pub only : (t k : ℕ) (w : Path) → path_at new t k ≡ Some w → (path_at old t k ≡ Some w) ⊎ IsStepAt p from read path filled k t w
@@ -97,7 +97,7 @@ pub record StandsForIndex (p : ProfileName) (f : Forest Entry) (filled : List Fu
   pub leads : target_from p f left at.address index ≡ Some slot
 
 -- a table whose rows below a number were followed, from a first table on
-pub record IsExplored (p : ProfileName) (f : Forest Entry) (filled : List FullSlot) (first rows : List (List (Option Path))) (done : ℕ) : Type 0 where
+pub record IsSpaceExplored (p : ProfileName) (f : Forest Entry) (filled : List FullSlot) (first rows : List (List (Option Path))) (done : ℕ) : Type 0 where
   pub sound : (read place : ℕ) (path : Path) (u : FullSlot) → path_at rows read place ≡ Some path → slice_get filled place ≡ Some u →
       ComesFrom p f filled first read path u.address
   pub whole : (place : ℕ) (from : FullSlot) (start : Path) (depth index slot : ℕ) → path_at first 0 place ≡ Some start → slice_get filled place ≡ Some from →

@@ -12,9 +12,9 @@ use Rattle.cspace_core.specs.Resolution.{is_cnode, slot_of, resolution}
 use Rattle.kernel_abstract.specs.Lookups.{slot_found}
 
 -- where `left` bits of a word are left at a slot: with none left the slot is found, and else its CNode is entered
-abbrev pub goes_on : ProfileName → Forest Entry → ℕ → ℕ → ℕ → Result ℕ LookupFault
-goes_on p f zero slot word = Ok slot
-goes_on p f (suc left) slot word = slot_found (resolution p (cap_at f) (cap_at f slot) (low_bits (suc left) word))
+abbrev pub found_from : ProfileName → Forest Entry → ℕ → ℕ → ℕ → Result ℕ LookupFault
+found_from p f zero slot word = Ok slot
+found_from p f (suc left) slot word = slot_found (resolution p (cap_at f) (cap_at f slot) (low_bits (suc left) word))
 
 -- from a capability that is entered with `left` bits, by the word `entered` whose low `left` bits are 0, the slot at `slot`,
 -- which holds `to`, is chosen by the word `next`. A CNode is entered with the bits that are left; at any other capability

@@ -8,11 +8,11 @@ abbrev pub path_in : List (Option Path) → ℕ → Option Path
 path_in row place = option_and_then (λ (path : Option Path). path) (slice_get row place)
 
 -- the row of a number of bits read
-abbrev pub row_of : List (List (Option Path)) → ℕ → List (Option Path)
-row_of rows read = unwrap_or (slice_get rows read) []
+abbrev pub path_row : List (List (Option Path)) → ℕ → List (Option Path)
+path_row rows read = unwrap_or (slice_get rows read) []
 
 abbrev pub path_at : List (List (Option Path)) → ℕ → ℕ → Option Path
-path_at rows read place = path_in (row_of rows read) place
+path_at rows read place = path_in (path_row rows read) place
 
 -- by the words, and at one word by the indexes
 abbrev pub IsUpTo : Path → Path → Type 0
@@ -30,7 +30,7 @@ abbrev pub put_in : List (Option Path) → ℕ → Path → List (Option Path)
 put_in row place path = slice_set row place (Some (first_with path (path_in row place)))
 
 abbrev pub put : List (List (Option Path)) → ℕ → ℕ → Path → List (List (Option Path))
-put rows read place path = slice_set rows read (put_in (row_of rows read) place path)
+put rows read place path = slice_set rows read (put_in (path_row rows read) place path)
 
 -- a table has a path at a place that is no later than another one
 abbrev pub HasUpTo : List (List (Option Path)) → ℕ → ℕ → Path → Type 0
@@ -39,12 +39,12 @@ HasUpTo rows read place path = (first : Path) × (IsUpTo first path × (path_at 
 -- so many rows; each has no places yet, or one for each full slot
 pub record IsWide (height width : ℕ) (rows : List (List (Option Path))) : Type 0 where
   pub high : length rows ≡ height
-  pub wide : (read : ℕ) → (length (row_of rows read) ≡ 0) ⊎ (length (row_of rows read) ≡ width)
+  pub wide : (read : ℕ) → (length (path_row rows read) ≡ 0) ⊎ (length (path_row rows read) ≡ width)
 
 -- a row has a place for each full slot, and the paths are what they were
 pub record IsOpened (read width : ℕ) (old new : List (List (Option Path))) : Type 0 where
   pub wide : (height : ℕ) → IsWide height width old → IsWide height width new
-  pub places : length (row_of new read) ≡ width
+  pub places : length (path_row new read) ≡ width
   pub paths : (t k : ℕ) → path_at new t k ≡ path_at old t k
 
 -- a path is put at a place, and nothing else

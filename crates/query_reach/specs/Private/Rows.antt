@@ -12,7 +12,7 @@ abbrev pub full_slot : ProfileName → Derivation → FullSlot
 full_slot p d = record { address = address_of p d.slot; cap = d.cap }
 
 -- an entry of a list of reached slots is a word of a row, with the slot at its place
-pub record IsFound (row : List (Option ℕ)) (filled : List FullSlot) (r : Reached) : Type 0 where
+pub record IsFoundInRows (row : List (Option ℕ)) (filled : List FullSlot) (r : Reached) : Type 0 where
   pub place : ℕ
   pub at : FullSlot
   pub holds : slice_get filled place ≡ Some at

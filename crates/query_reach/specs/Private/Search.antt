@@ -7,7 +7,7 @@ use Rattle.kernel_forest.specs.Forest.{Forest}
 use Rattle.kernel_forest.specs.Entries.{Entry}
 use Rattle.query_reach.specs.declared.filled.FullSlot.{FullSlot}
 use Rattle.query_reach.specs.Reaching.{leads, Reaches}
-use Rattle.query_reach.specs.Private.Nodes.{goes_on, IsNext}
+use Rattle.query_reach.specs.Private.Nodes.{found_from, IsNext}
 use Rattle.query_reach.specs.Private.Tables.{word_in, word_at, IsAtMost}
 
 -- the next words of an entry at one place
@@ -46,7 +46,7 @@ abbrev pub IsBounded : ProfileName → List (List (Option ℕ)) → Type 0
 IsBounded p rows = (t k w : ℕ) → word_at rows t k ≡ Some w → w + 2 ^ t ≤ 2 ^ word_bits p
 
 -- an entry of a table stands for a word: the search goes on from it, and has not passed the word's least prefix
-pub record StandsFor (p : ProfileName) (f : Forest Entry) (filled : List FullSlot) (rows : List (List (Option ℕ))) (word slot : ℕ) : Type 0 where
+pub record EntryStandsFor (p : ProfileName) (f : Forest Entry) (filled : List FullSlot) (rows : List (List (Option ℕ))) (word slot : ℕ) : Type 0 where
   pub left : ℕ
   pub place : ℕ
   pub least : ℕ
@@ -54,11 +54,11 @@ pub record StandsFor (p : ProfileName) (f : Forest Entry) (filled : List FullSlo
   pub noted : word_at rows left place ≡ Some least
   pub holds : slice_get filled place ≡ Some at
   pub low : least + word % 2 ^ left ≤ word
-  pub leads : goes_on p f left at.address word ≡ Ok slot
+  pub leads : found_from p f left at.address word ≡ Ok slot
 
 -- a table is that of a search for a thread: its words lead where it says, and it stands for each word that leads to a full
 -- slot
 pub record IsSearch (p : ProfileName) (f : Forest Entry) (thread : ℕ) (filled : List FullSlot) (rows : List (List (Option ℕ))) : Type 0 where
   pub sound : (t k w : ℕ) (u : FullSlot) → word_at rows t k ≡ Some w → slice_get filled k ≡ Some u →
-      (rest : ℕ) → rest < 2 ^ t → leads p f thread (w + rest) ≡ goes_on p f t u.address rest
-  pub whole : (word slot : ℕ) → word < 2 ^ word_bits p → Reaches p f thread word slot → StandsFor p f filled rows word slot
+      (rest : ℕ) → rest < 2 ^ t → leads p f thread (w + rest) ≡ found_from p f t u.address rest
+  pub whole : (word slot : ℕ) → word < 2 ^ word_bits p → Reaches p f thread word slot → EntryStandsFor p f filled rows word slot

@@ -6,7 +6,7 @@ ghost use Rattle.kernel_forest.specs.Entries.{Entry};
 ghost use Rattle.query_reach.specs.declared.chains.chain.Target.{Target as TargetOf};
 ghost use Rattle.query_reach.specs.FullSlots.{AreFullSlots};
 ghost use Rattle.query_reach.specs.Chain as spec;
-ghost use Rattle.query_reach.specs.Private.Layers.{leads, is_next, is_sought_at, is_sought_in, IsFirst, HasNone, AreStepped, IsRunFrom, layer_at};
+ghost use Rattle.query_reach.specs.Private.Layers.{leads_to_layer, is_next, is_sought_at, is_sought_in, IsFirstLayer, HasNoneSought, AreStepped, IsRunFrom, layer_at};
 
 use crate::FullSlot;
 use crate::chains::layers::{has, layers, leads_to};
@@ -83,14 +83,14 @@ fn sought_in<P: Profile>(layer: &[FullSlot], target: &Target) -> Option<FullSlot
 }
 
 fn first_before<P: Profile>(layer: &[FullSlot], slot: &FullSlot) -> Option<FullSlot>
-    ensures { result ≡ find (λ s. leads P.profile s slot.now) layer.now }
+    ensures { result ≡ find (λ s. leads_to_layer P.profile s slot.now) layer.now }
 {
     layer.iter().find(|from| leads_to::<P>(from, slot)).copied()
 }
 
 /// The first slot of a layer that leads to a slot.
 fn before<P: Profile>(layer: &[FullSlot], slot: &FullSlot) -> Option<FullSlot>
-    ensures some { IfSome result (λ s. In s layer.now × (leads P.profile s slot.now ≡ true)) }
+    ensures some { IfSome result (λ s. In s layer.now × (leads_to_layer P.profile s slot.now ≡ true)) }
     ensures none { IfNone result (is_next P.profile layer.now slot.now ≡ false) }
 {
     first_before::<P>(layer, slot)
@@ -98,8 +98,8 @@ fn before<P: Profile>(layer: &[FullSlot], slot: &FullSlot) -> Option<FullSlot>
 
 /// The first layer in which some slot holds what is sought, by its place, with the first such slot.
 fn first_sought<P: Profile>(layers: &[Vec<FullSlot>], target: &Target) -> Option<Place>
-    ensures some { IfSome result (λ r. IsFirst P.profile target.now (map (λ l. l.items) layers.now) r.depth r.slot) }
-    ensures none { IfNone result (HasNone P.profile target.now (map (λ l. l.items) layers.now) (length layers.now)) }
+    ensures some { IfSome result (λ r. IsFirstLayer P.profile target.now (map (λ l. l.items) layers.now) r.depth r.slot) }
+    ensures none { IfNone result (HasNoneSought P.profile target.now (map (λ l. l.items) layers.now) (length layers.now)) }
 {
     for (depth, layer) in layers.iter().enumerate() {
         if let Some(slot) = sought_in::<P>(layer.as_slice(), target) {

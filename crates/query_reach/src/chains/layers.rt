@@ -2,7 +2,7 @@
 ghost use Rattle.std.specs.Prelude.{◌≡◌, ◌==◌, ◌&&◌, ◌+◌, ◌^◌, nat_le, nat_lt, not, IfOk, map};
 ghost use Rattle.std.specs.List.{filter};
 ghost use Rattle.query_reach.specs.Chain as spec;
-ghost use Rattle.query_reach.specs.Private.Layers.{leads, is_next, next_of, others_of, IsLaid};
+ghost use Rattle.query_reach.specs.Private.Layers.{leads_to_layer, is_next, next_layer, others_of, IsLaid};
 
 use crate::FullSlot;
 use cap_core::{Cap, Profile, Range, range_of};
@@ -36,7 +36,7 @@ fn gives<P: Profile>(cap: Cap, slot: u64) -> bool
 
 /// Whether a slot leads to another one.
 pub fn leads_to<P: Profile>(from: &FullSlot, slot: &FullSlot) -> bool
-    ensures { result ≡ leads P.profile from.now slot.now }
+    ensures { result ≡ leads_to_layer P.profile from.now slot.now }
 {
     gives::<P>(from.cap, slot.address)
 }
@@ -53,7 +53,7 @@ fn next_layer<P: Profile>(
     layer: &[FullSlot],
     rest: &[FullSlot],
 ) -> Result<Vec<FullSlot>, AllocError>
-    ensures { IfOk result (λ v. v.items ≡ next_of P.profile layer.now rest.now) }
+    ensures { IfOk result (λ v. v.items ≡ next_layer P.profile layer.now rest.now) }
 {
     rest.iter()
         .filter(|slot| is_behind::<P>(layer, slot))

@@ -3,12 +3,12 @@ use Rattle.std.specs.Global.{Vec}
 use Rattle.query_orders.specs.declared.exploring.found.FoundAnswer.{FoundAnswer}
 use Rattle.query_orders.specs.Found.{answers_of}
 use Rattle.command_explore_text.specs.Numbers.{numbers_in}
-use Rattle.command_explore_text.specs.Text.{is_of}
+use Rattle.command_explore_text.specs.Text.{is_answer_of}
 use Rattle.command_explore_text.proofs.rows.answer_rows.Given as goal
 
 abbrev pub invariant-loop-answer : goal.invariant-loop-answer
 invariant-loop-answer l =
-    (n : ℕ) → IfSome (slice_get l.rows.items n) (λ (row : Vec FoundAnswer). answers_of row.items ++ filter (is_of (numbers_in l.numbers) n) (answers_of l.rest) ≡ filter (is_of (numbers_in l.numbers) n) (answers_of l.answers))
+    (n : ℕ) → IfSome (slice_get l.rows.items n) (λ (row : Vec FoundAnswer). answers_of row.items ++ filter (is_answer_of (numbers_in l.numbers) n) (answers_of l.rest) ≡ filter (is_answer_of (numbers_in l.numbers) n) (answers_of l.answers))
 
 abbrev pub decreases-loop-answer : goal.decreases-loop-answer
 decreases-loop-answer l = length l.rest

@@ -5,14 +5,14 @@ use Rattle.std.proofs.lemmas.Option.{slice_get_read}
 use Rattle.std.specs.Global.{Vec}
 use Rattle.query_orders.specs.declared.exploring.found.FoundAnswer.{FoundAnswer}
 use Rattle.query_orders.specs.Found.{answers_of}
-use Rattle.command_explore_text.specs.Text.{is_of}
+use Rattle.command_explore_text.specs.Text.{is_answer_of}
 use Rattle.command_explore_text.proofs.CallAnswers.{twice}
 use Rattle.command_explore_text.proofs.rows.row_of.Goals as goal
 
 pub returns-in-Some : goal.returns-in-Some
 returns-in-Some c numbers are =
     let rows = c.args.rows.now in
-    let own = is_of numbers c.args.number in
+    let own = is_answer_of numbers c.args.number in
     let all = answers_of c.args.answers.now in
     let t : true ≡ nat_lt c.args.number (length rows) = c.in-Some.ensures.lookup.0 in
     let lt : c.args.number < length rows = grind (arith, nat_tests) in

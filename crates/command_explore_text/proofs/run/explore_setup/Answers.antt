@@ -6,7 +6,7 @@ use Rattle.query_orders.specs.contracts.answer.AnswerPartialEq.TheImpl as answer
 use Rattle.query_orders.specs.Nodes.{own_calls as items_of}
 use Rattle.query_orders.specs.Explorations.{IsExplored}
 use Rattle.setup_format.specs.Views.{CallView}
-use Rattle.command_explore_text.specs.Clients.{own_calls, first_clients}
+use Rattle.command_explore_text.specs.Clients.{calls_of_each, first_clients}
 use Rattle.setup_report.proofs.Runs.{boot_reached}
 use Rattle.command_explore_text.proofs.Explored.{exploration_is}
 use Rattle.command_explore_text.proofs.run.explore_setup.Goals as goal
@@ -17,7 +17,7 @@ returns g c =
     let setup = c.args.setup.now in
     let A = boot p setup.plan in
     let shows : c.in_ok-kernel.kernel ≡ shown A = c.in_ok-kernel.ensures.shows ∙ ap (λ q. shown (boot p q)) c.plan.ensures.plan in
-    let own : items_of c.as_slice.result.now ≡ own_calls setup = ap items_of c.as_slice.ensures.value ∙ c.in_ok-calls.ensures in
+    let own : items_of c.as_slice.result.now ≡ calls_of_each setup = ap items_of c.as_slice.ensures.value ∙ c.in_ok-calls.ensures in
     let begin : c.as_slice-2.result.now ≡ first_clients setup c.args.first = c.as_slice-2.ensures.value ∙ c.in_ok-begin.ensures in
     let many : length c.calls.result.now ≡ length setup.calls = ap length c.calls.ensures ∙ length-map setup.calls (λ (k : CallView). k.call) in
     let explored = subst (λ (n : ℕ). IsExplored p (items_of c.as_slice.result.now) A c.as_slice-2.result.now answer_eq.ghosts.eq c.args.limit (n + 1) c.in_ok-explored.explored) many (c.in_ok-explored.ensures A (boot_reached p setup.plan c.requires) shows) in

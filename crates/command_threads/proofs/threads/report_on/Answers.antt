@@ -8,7 +8,7 @@ use Rattle.setup_format.specs.Views.{CallView}
 use Rattle.setup_threads.specs.SharedReport.{shared_report_of}
 use Rattle.command_check.specs.Program.{verdict_on}
 use Rattle.setup_report.proofs.Runs.{boot_reached}
-use Rattle.command_threads.specs.Private.Begun.{IsRunFrom, calls_in, state_begun}
+use Rattle.command_threads.specs.Private.Begun.{IsSharedFrom, calls_in, state_begun}
 use Rattle.command_threads.specs.SharedRuns.{count_first, first_calls}
 use Rattle.command_threads.proofs.Reports.{book_shows}
 use Rattle.command_threads.proofs.Wholes.{shared_run_is, state_is, whole_is}
@@ -31,10 +31,10 @@ returns-clause-made g c =
     let long : length replies.items ≡ replies.len = search rules in
     let made : c.len.result ≡ count_first first setup = c.len.ensures ∙ c.requires.many in
     let whole = whole_is setup first replies.items c.as_slice.result.now later c.as_slice-later.result.now h c.as_slice.ensures.value c.as_slice-later.ensures.value (long ∙ c.requires.many) c.in-Ok.ensures in
-    let from : IsRunFrom ends p start (drop (count_first first setup) setup.calls) (setup.limit - count_first first setup) later =
-    subst (λ n. IsRunFrom ends p start (drop n setup.calls) (setup.limit - count_first first setup) later) made
-    (subst (λ n. IsRunFrom ends p start (drop c.len.result setup.calls) n later) c.requires.limit
-    (subst (λ (A : State). IsRunFrom ends p A (drop c.len.result setup.calls) g.N.Naming.limit later) c.requires.start c.in_ok-book.ensures.run)) in
+    let from : IsSharedFrom ends p start (drop (count_first first setup) setup.calls) (setup.limit - count_first first setup) later =
+    subst (λ n. IsSharedFrom ends p start (drop n setup.calls) (setup.limit - count_first first setup) later) made
+    (subst (λ n. IsSharedFrom ends p start (drop c.len.result setup.calls) n later) c.requires.limit
+    (subst (λ (A : State). IsSharedFrom ends p A (drop c.len.result setup.calls) g.N.Naming.limit later) c.requires.start c.in_ok-book.ensures.run)) in
     let reached : IsReached p start = reached_after p (boot p setup.plan) (calls_in (first_calls first setup)) (boot_reached p setup.plan c.requires.plan) in
     let told = ap (λ l. shared_report_of p (length setup.calls) l b.kernel) c.as_slice-2.ensures.value in
     let shows = book_shows p start g.N.Naming.opening b.kernel later h (length setup.calls) reached c.requires.opening b.stands in

@@ -6,8 +6,8 @@ use Rattle.kernel_abstract.specs.Step.{step, replies_of, state_after}
 use Rattle.setup_format.specs.Views.{CallView}
 use Rattle.command_trace_lines.specs.Told.{told_lines}
 use Rattle.command_why.specs.Tables.{call_table}
-use Rattle.command_why.specs.Why.{explained}
-use Rattle.command_trace.specs.Trace.{call_lines, calls_lines, why_at}
+use Rattle.command_why.specs.Why.{reason_lines_of}
+use Rattle.command_trace.specs.Trace.{traced_call_lines, traced_calls_lines, why_at}
 use Rattle.command_trace_lines.proofs.Differences.{written}
 use Rattle.command_trace_lines.proofs.Steps.{reached_after, after_one, replies_one, take_next, there_is, take_whole, start_of_run, no_replies}
 use Rattle.command_trace.proofs.Steps.{call_next, none_left}
@@ -20,7 +20,7 @@ loop-i-init g c =
       told = c.requires.told;
       stands = λ A reached same. same ∙ ap shown (sym (start_of_run p A));
       replies = λ A reached same. c.in_ok-replies.ensures.items ∙ sym (no_replies p A);
-      text = λ A reached same. ap (λ B. string_bytes c.args.out.now ++ calls_lines p (table_view c.args.table.now) 0 B c.args.setup.now.calls) (start_of_run p A);
+      text = λ A reached same. ap (λ B. string_bytes c.args.out.now ++ traced_calls_lines p (table_view c.args.table.now) 0 B c.args.setup.now.calls) (start_of_run p A);
     }
 
 pub make_call-requires-clause-reached : goal.make_call-requires-clause-reached
@@ -56,12 +56,12 @@ loop-i-preserved g c =
           let stands = c.loop-i.invariant.stands A reached same in
           let steps = c.in_ok-next.ensures.steps B call (reached_after p A made reached) stands at.1 in
           let wrote : string_bytes c.make_call.new.out
-          ≡ string_bytes c.loop-i.out ++ call_lines (i + 1) call (step p B call.call).reply (why_at p table i B call.call) (told_lines p (shown B)) (told_lines p (shown (step p B call.call).state)) =
+          ≡ string_bytes c.loop-i.out ++ traced_call_lines (i + 1) call (step p B call.call).reply (why_at p table i B call.call) (told_lines p (shown B)) (told_lines p (shown (step p B call.call).state)) =
           c.in_ok-next.ensures.text call at.1
-          ∙ (λ k. string_bytes c.loop-i.out ++ call_lines (i + 1) call (steps.reply_is k) (explained p (stands k) (record { call = call.call; table = call_table table i })) (told_lines p (stands k)) (told_lines p (steps.shows k))) in
-          ap (λ C. string_bytes c.make_call.new.out ++ calls_lines p table (i + 1) C (drop (i + 1) calls)) (ap (state_after p A) more ∙ after_one p A made call.call)
+          ∙ (λ k. string_bytes c.loop-i.out ++ traced_call_lines (i + 1) call (steps.reply_is k) (reason_lines_of p (stands k) (record { call = call.call; table = call_table table i })) (told_lines p (stands k)) (told_lines p (steps.shows k))) in
+          ap (λ C. string_bytes c.make_call.new.out ++ traced_calls_lines p table (i + 1) C (drop (i + 1) calls)) (ap (state_after p A) more ∙ after_one p A made call.call)
           ∙ written (string_bytes c.loop-i.out) (string_bytes c.make_call.new.out) (string_bytes c.args.out.now) _
-          (calls_lines p table (i + 1) (step p B call.call).state (drop (i + 1) calls)) _ (calls_lines p table 0 A calls)
+          (traced_calls_lines p table (i + 1) (step p B call.call).state (drop (i + 1) calls)) _ (traced_calls_lines p table 0 A calls)
           wrote (call_next p table calls i call B at.1) (c.loop-i.invariant.text A reached same);
     }
 

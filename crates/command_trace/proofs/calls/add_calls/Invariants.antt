@@ -4,18 +4,18 @@ use Rattle.kernel_abstract.specs.State.{State, shown}
 use Rattle.kernel_abstract.specs.Step.{replies_of, state_after}
 use Rattle.kernel_abstract.specs.Reached.{IsReached}
 use Rattle.setup_format.specs.Views.{CallView}
-use Rattle.command_trace.specs.Trace.{calls_lines}
-use Rattle.command_trace_lines.specs.Views.{IsTold}
+use Rattle.command_trace.specs.Trace.{traced_calls_lines}
+use Rattle.command_trace_lines.specs.Views.{IsStateTold}
 use Rattle.command_trace.proofs.calls.add_calls.Given as goal
 
 abbrev pub invariant-loop-i : goal.invariant-loop-i
 invariant-loop-i g l =
     let p = g.P.Profile.profile in
     record {
-      told : IsTold p l.kernel l.told;
+      told : IsStateTold p l.kernel l.told;
       stands : (A : State) → IsReached p A → l.initial.kernel ≡ shown A → l.kernel ≡ shown (state_after p A (map (λ (c : CallView). c.call) (take l.i l.setup.calls)));
       replies : (A : State) → IsReached p A → l.initial.kernel ≡ shown A → l.replies.items ≡ replies_of p A (map (λ (c : CallView). c.call) (take l.i l.setup.calls));
       text : (A : State) → IsReached p A → l.initial.kernel ≡ shown A →
-          string_bytes l.out ++ calls_lines p (table_view l.table) l.i (state_after p A (map (λ (c : CallView). c.call) (take l.i l.setup.calls))) (drop l.i l.setup.calls)
-          ≡ string_bytes l.initial.out ++ calls_lines p (table_view l.table) 0 A l.setup.calls;
+          string_bytes l.out ++ traced_calls_lines p (table_view l.table) l.i (state_after p A (map (λ (c : CallView). c.call) (take l.i l.setup.calls))) (drop l.i l.setup.calls)
+          ≡ string_bytes l.initial.out ++ traced_calls_lines p (table_view l.table) 0 A l.setup.calls;
     }

@@ -2,7 +2,7 @@ use Rattle.std.proofs.Common.{◌+◌, ◌++◌, subst, ◌∙◌, string_bytes,
 use Rattle.kernel_abstract.specs.Reached.{StepsTo}
 use Rattle.setup_report.specs.Report.{terminated, call_text}
 use Rattle.command_trace_lines.specs.Told.{told_lines, told_changes}
-use Rattle.command_why.specs.Why.{explained}
+use Rattle.command_why.specs.Why.{reason_lines_of}
 use Rattle.command_trace.specs.Trace.{words_line, why_text}
 use Rattle.command_trace_lines.proofs.Steps.{follows, call_is, expected_is}
 use Rattle.command_trace.proofs.Steps.{four_parts}
@@ -40,5 +40,5 @@ returns-clause-text g c = λ call there.
     ∙ (λ k. string_bytes c.args.out.now
     ++ (terminated (call_text (c.args.i + 1) call.call c.step-reply.result call.expect)
     ++ (words_line call.call.op
-    ++ (why_text (explained p c.args.kernel.now (record { call = made k; table = c.call_table.ensures k }))
+    ++ (why_text (reason_lines_of p c.args.kernel.now (record { call = made k; table = c.call_table.ensures k }))
     ++ told_changes (told_lines p c.args.kernel.now) told))))

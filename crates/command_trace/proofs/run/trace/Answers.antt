@@ -9,7 +9,7 @@ use Rattle.setup_report.specs.Report.{terminated, met_count, expectation_count}
 use Rattle.command_trace_lines.specs.Names.{name_lines}
 use Rattle.command_trace_lines.specs.Told.{told_changes, told_lines, nothing_told}
 use Rattle.command_check.specs.Program.{replies_to}
-use Rattle.command_trace.specs.Trace.{head_line, calls_lines, count_line, trace_of}
+use Rattle.command_trace.specs.Trace.{trace_head_line, traced_calls_lines, count_line, trace_of}
 use Rattle.setup_report.proofs.Runs.{boot_reached, replies_length}
 use Rattle.command_trace.proofs.Steps.{whole_text}
 use Rattle.command_trace.proofs.run.trace.Goals as goal
@@ -43,14 +43,14 @@ returns-clause-text g c =
     (λ i. (c.into_bytes.ensures.value i).items)
     ∙ whole_text (string_bytes c.add_names.new.out) (string_bytes c.add_boot.new.out) (string_bytes c.tell.new.out) (string_bytes c.add_calls.new.out) (string_bytes c.add_expectations.new.out)
     _ _ _ _ _
-    (c.in_ok-add_names.ensures ∙ ap (λ l. l ++ name_lines (names_view c.args.names.now)) (c.in_ok-add_head.ensures ∙ ap (λ l. l ++ head_line c.args.setup.now) c.new-out.ensures.bytes))
+    (c.in_ok-add_names.ensures ∙ ap (λ l. l ++ name_lines (names_view c.args.names.now)) (c.in_ok-add_head.ensures ∙ ap (λ l. l ++ trace_head_line c.args.setup.now) c.new-out.ensures.bytes))
     c.in_ok-add_boot.ensures
     c.in_ok-told.ensures.text
     (c.in_ok-replies.ensures.text (boot p plan) (boot_reached p plan c.requires) stands)
     c.in_ok-add_expectations.ensures
-    ∙ (λ i. (head_line c.args.setup.now ++ name_lines (names_view c.args.names.now))
+    ∙ (λ i. (trace_head_line c.args.setup.now ++ name_lines (names_view c.args.names.now))
     ++ ((terminated (codes "0 boot") ++ told_changes nothing_told (told_lines p (stands i)))
-    ++ (calls_lines p (table_view c.args.table.now) 0 (boot p plan) calls
+    ++ (traced_calls_lines p (table_view c.args.table.now) 0 (boot p plan) calls
     ++ count_line
     ((c.in_ok-count.ensures.met ∙ ap (met_count calls) replies) i)
     ((c.in_ok-count.ensures.expected ∙ ap (expectation_count calls) replies) i))))

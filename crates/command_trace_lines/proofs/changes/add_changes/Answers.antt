@@ -1,5 +1,5 @@
 use Rattle.std.proofs.Common.{◌≡◌, ◌+◌, Some, map, drop, slice_get, string_bytes, sym, ◌∙◌, arith}
-use Rattle.command_trace_lines.specs.Changes.{line_changes, removed, added, change}
+use Rattle.command_trace_lines.specs.Changes.{line_changes, removed_line, added, change}
 use Rattle.command_trace_lines.specs.Views.{line_view}
 use Rattle.command_trace_lines.proofs.Differences.{viewed, written, step_old, step_new, step_both}
 use Rattle.command_trace_lines.proofs.changes.add_changes.Goals as goal
@@ -14,7 +14,7 @@ loop-i-preserved-in-Less c =
     record {
       old = omega (arith, (c.in-Less.ensures.old (λ is. cc)));
       new = c.loop-i.invariant.new;
-      text = written _ _ (string_bytes c.args.out.now) (removed (Some a.1)) (line_changes (drop (c.loop-i.i + 1) o) (drop c.loop-i.j n)) _ _
+      text = written _ _ (string_bytes c.args.out.now) (removed_line (Some a.1)) (line_changes (drop (c.loop-i.i + 1) o) (drop c.loop-i.j n)) _ _
           c.in_ok-add_removed-in-Less.ensures
           (step_old o n c.loop-i.i c.loop-i.j c.requires.old c.requires.new a here order)
           c.loop-i.invariant.text;

@@ -1,9 +1,9 @@
 use Rattle.std.proofs.Common.{◌≡◌, map}
 use Rattle.std.specs.List.{flat_map}
 use Rattle.std.specs.Map.Iter.{deref}
-use Rattle.command_trace_lines.specs.Lines.{line_at, endpoint_at}
-use Rattle.command_trace_lines.specs.Views.{endpoint_line}
+use Rattle.command_trace_lines.specs.Lines.{line_at, endpoint_text_at}
+use Rattle.command_trace_lines.specs.Views.{endpoint_row_line}
 use Rattle.command_trace_lines.proofs.messages.endpoint_rows.Given as goal
 
 abbrev pub invariant-loop-endpoint : goal.invariant-loop-endpoint
-invariant-loop-endpoint g l = map endpoint_line l.rows.items ≡ flat_map (line_at (endpoint_at l.kernel)) (map deref l.yielded)
+invariant-loop-endpoint g l = map endpoint_row_line l.rows.items ≡ flat_map (line_at (endpoint_text_at l.kernel)) (map deref l.yielded)

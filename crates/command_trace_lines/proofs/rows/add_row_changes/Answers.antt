@@ -2,7 +2,7 @@ use Rattle.std.proofs.Common.{◌≡◌, ◌++◌, map, string_bytes, sym, ap, s
 use Rattle.std.specs.List.{flat_map}
 use Rattle.command_trace_lines.specs.Changes.{line_changes}
 use Rattle.command_trace_lines.specs.Views.{line_view}
-use Rattle.command_trace_lines.specs.Private.Rows.{Apart}
+use Rattle.command_trace_lines.specs.Private.Rows.{AreLinesApart}
 use Rattle.command_trace_lines.proofs.Ends.{on_ok, between, between_apart, between_told}
 use Rattle.command_trace_lines.proofs.rows.add_row_changes.Goals as goal
 
@@ -12,8 +12,8 @@ add_sorted_changes-requires g c =
     let n = c.same_front-front.result in
     let b = c.same_back-back.result in
     record {
-      old = subst Apart (sym (ap (map line_view) c.as_mut_slice.ensures.value ∙ c.in_ok-gone.ensures)) (between_apart f c.args.old.now n b c.requires.old);
-      new = subst Apart (sym (ap (map line_view) c.as_mut_slice-2.ensures.value ∙ c.in_ok-come.ensures)) (between_apart f c.args.new.now n b c.requires.new);
+      old = subst AreLinesApart (sym (ap (map line_view) c.as_mut_slice.ensures.value ∙ c.in_ok-gone.ensures)) (between_apart f c.args.old.now n b c.requires.old);
+      new = subst AreLinesApart (sym (ap (map line_view) c.as_mut_slice-2.ensures.value ∙ c.in_ok-come.ensures)) (between_apart f c.args.new.now n b c.requires.new);
     }
 
 pub returns : goal.returns

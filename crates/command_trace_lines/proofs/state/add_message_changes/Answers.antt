@@ -1,7 +1,7 @@
 use Rattle.std.proofs.Common.{◌++◌, List, [], ◌∷◌, string_bytes, ◌∙◌, append_assoc}
 use Rattle.std.specs.List.{flat_map}
 use Rattle.command_trace_lines.specs.Changes.{line_changes}
-use Rattle.command_trace_lines.specs.Views.{thread_line, inbox_line, endpoint_line}
+use Rattle.command_trace_lines.specs.Views.{thread_row_line, inbox_line, endpoint_row_line}
 use Rattle.command_trace_lines.specs.Private.Kept.{thread_rows, inbox_rows, endpoint_rows}
 use Rattle.command_trace_lines.specs.declared.text.ThreadText.{ThreadText}
 use Rattle.command_trace_lines.specs.declared.text.InboxText.{InboxText}
@@ -11,9 +11,9 @@ use Rattle.command_trace_lines.proofs.state.add_message_changes.Goals as goal
 
 pub returns : goal.returns
 returns g c =
-    let threads_of = λ (list : List ThreadText). flat_map (λ (t : ThreadText). thread_line t ∷ []) list in
+    let threads_of = λ (list : List ThreadText). flat_map (λ (t : ThreadText). thread_row_line t ∷ []) list in
     let inboxes_of = λ (list : List InboxText). flat_map (λ (i : InboxText). inbox_line i ∷ []) list in
-    let endpoints_of = λ (list : List EndpointRow). flat_map (λ (e : EndpointRow). endpoint_line e ∷ []) list in
+    let endpoints_of = λ (list : List EndpointRow). flat_map (λ (e : EndpointRow). endpoint_row_line e ∷ []) list in
     let out = string_bytes c.args.out.now in
     let threads = line_changes (thread_rows c.args.old.now) (thread_rows c.args.new.now) in
     let inboxes = line_changes (inbox_rows c.args.old.now) (inbox_rows c.args.new.now) in

@@ -4,7 +4,7 @@ use Rattle.slot_core.specs.Calls.{derivation_view}
 use Rattle.command_trace_lines.specs.Changes.{changes, line_changes}
 use Rattle.command_trace_lines.specs.Siblings.{row_view}
 use Rattle.command_trace_lines.specs.Private.Path.{sibling_line}
-use Rattle.command_trace_lines.specs.Private.Rows.{Apart}
+use Rattle.command_trace_lines.specs.Private.Rows.{AreLinesApart}
 use Rattle.command_trace_lines.specs.Private.Kept.{view_rows}
 use Rattle.command_trace_lines.specs.declared.siblings.SiblingRow.{SiblingRow}
 use Rattle.command_trace_lines.proofs.Kept.{order_is_apart, view_apart, walk_is}
@@ -24,8 +24,8 @@ add_row_changes-requires g c =
     let siblings = c.in_ok-siblings.siblings.items in
     let there = ap (map view) c.as_slice.ensures.value ∙ c.requires.list in
     record {
-      old = subst (λ list. Apart (rows list)) (sym c.as_slice-2.ensures.value) c.requires.old.siblings;
-      new = subst (λ list. Apart (rows list)) (sym c.as_slice-3.ensures.value)
+      old = subst (λ list. AreLinesApart (rows list)) (sym c.as_slice-2.ensures.value) c.requires.old.siblings;
+      new = subst (λ list. AreLinesApart (rows list)) (sym c.as_slice-3.ensures.value)
           (order_is_apart f siblings (walk_is g.P.Profile.profile c.as_slice.result.now siblings f c.in_ok-siblings.ensures there c.requires.apart) c.requires.apart);
     }
 

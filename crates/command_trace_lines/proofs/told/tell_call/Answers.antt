@@ -1,7 +1,7 @@
 use Rattle.std.proofs.Common.{◌≡◌, ◌++◌, inl, inr, string_bytes, sym, ap, subst, ◌∙◌, append-nil}
 use Rattle.kernel_abstract.specs.declared.call.Reply.{Reply}
 use Rattle.command_trace_lines.specs.Told.{told_lines}
-use Rattle.command_trace_lines.specs.Views.{Follows}
+use Rattle.command_trace_lines.specs.Views.{FollowsReply}
 use Rattle.command_trace_lines.proofs.Views.{nothing_differs}
 use Rattle.command_trace_lines.proofs.Kept.{same_forest}
 use Rattle.command_trace_lines.proofs.told.tell_call.Goals as goal
@@ -9,7 +9,7 @@ use Rattle.command_trace_lines.proofs.told.tell_call.Goals as goal
 pub tell_messages-requires : goal.tell_messages-requires
 tell_messages-requires g c =
     let w = c.args.kernel.now in
-    let follows = λ (r : Reply). Follows r c.requires.0 w in (
+    let follows = λ (r : Reply). FollowsReply r c.requires.0 w in (
       c.requires.0,
       c.requires.1,
       same_forest c.requires.0 w (elim c.in-Waiting.is [
@@ -22,7 +22,7 @@ pub returns-in-Dropped-clause-text : goal.returns-in-Dropped-clause-text
 returns-in-Dropped-clause-text g c = λ v told after.
     let p = g.P.Profile.profile in
     let w = c.args.kernel.now in
-    let follows = λ (r : Reply). Follows r v w in
+    let follows = λ (r : Reply). FollowsReply r v w in
     let same : w ≡ v = elim c.in-Dropped.is [
       | inl is ↦ subst follows is after
       | inr x ↦ elim x [

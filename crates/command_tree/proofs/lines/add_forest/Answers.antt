@@ -4,7 +4,7 @@ use Rattle.std.proofs.Math.ListN.{drop_of_length-le}
 use Rattle.slot_core.specs.Calls.{derivation_view}
 use Rattle.setup_values.specs.Names.{names_view}
 use Rattle.command_tree.specs.Tree.{placed_line}
-use Rattle.command_tree.specs.Private.Path.{walked}
+use Rattle.command_tree.specs.Private.Path.{slots_with_paths}
 use Rattle.command_tree.proofs.Rows.{next, last}
 use Rattle.command_tree.proofs.Walked.{walked_is}
 use Rattle.command_tree.proofs.lines.add_forest.Goals as goal
@@ -21,4 +21,4 @@ returns g c = λ f distinct are.
     let view = derivation_view g.P.Profile.profile in
     sym (last names view c.loop-row.path.items (string_bytes c.loop-row.out) _ (drop_of_length-le c.args.rows.now (omega (arith, c.loop-row-test.false))))
     ∙ (c.loop-row.invariant
-    ∙ ap (λ l. string_bytes c.args.out.now ++ flat_map (placed_line names) l) (ap (walked []) are ∙ walked_is f distinct))
+    ∙ ap (λ l. string_bytes c.args.out.now ++ flat_map (placed_line names) l) (ap (slots_with_paths []) are ∙ walked_is f distinct))

@@ -7,7 +7,7 @@ use Rattle.kernel_abstract.specs.Step.{step, replies_of, state_after}
 use Rattle.kernel_abstract.proofs.Reached.Runs.{state_after-nil, state_after-snoc, replies_of-nil, replies_of-snoc, reached_after}
 use Rattle.setup_format.specs.Views.{CallView}
 use Rattle.command_why.specs.Tables.{call_table}
-use Rattle.command_why.specs.Why.{call_lines, calls_lines, explained}
+use Rattle.command_why.specs.Why.{why_call_lines, calls_lines, reason_lines_of}
 use Rattle.command_why.proofs.Steps.{call_next, take_next, there_is, none_left, written}
 use Rattle.command_why.proofs.calls.add_calls.Goals as goal
 
@@ -46,9 +46,9 @@ loop-i-preserved g c =
           let stands = c.loop-i.invariant.stands A reached same in
           let steps = c.in_ok-reply.ensures.steps B call (reached_after p A made reached) stands at.1 in
           let wrote : string_bytes c.make_call.new.out
-          ≡ string_bytes c.loop-i.out ++ call_lines chosen (i + 1) call (step p B call.call).reply (explained p (shown B) (record { call = call.call; table = call_table table i })) =
+          ≡ string_bytes c.loop-i.out ++ why_call_lines chosen (i + 1) call (step p B call.call).reply (reason_lines_of p (shown B) (record { call = call.call; table = call_table table i })) =
           c.in_ok-reply.ensures.text call at.1
-          ∙ (λ k. string_bytes c.loop-i.out ++ call_lines chosen (i + 1) call (steps.reply_is k) (explained p (stands k) (record { call = call.call; table = call_table table i }))) in
+          ∙ (λ k. string_bytes c.loop-i.out ++ why_call_lines chosen (i + 1) call (steps.reply_is k) (reason_lines_of p (stands k) (record { call = call.call; table = call_table table i }))) in
           ap (λ C. string_bytes c.make_call.new.out ++ calls_lines p table chosen (i + 1) C (drop (i + 1) calls)) (ap (state_after p A) more ∙ state_after-snoc p A made call.call)
           ∙ written (string_bytes c.loop-i.out) (string_bytes c.make_call.new.out) (string_bytes c.args.out.now) _
           (calls_lines p table chosen (i + 1) (step p B call.call).state (drop (i + 1) calls)) _ (calls_lines p table chosen 0 A calls)

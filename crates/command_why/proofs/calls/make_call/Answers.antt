@@ -1,7 +1,7 @@
 use Rattle.std.proofs.Common.{◌+◌, ◌++◌, subst, ◌∙◌, string_bytes, option_copied}
 use Rattle.kernel_abstract.specs.Reached.{StepsTo}
 use Rattle.setup_report.specs.Report.{call_text}
-use Rattle.command_why.specs.Why.{explained, told_lines}
+use Rattle.command_why.specs.Why.{reason_lines_of, explained_lines}
 use Rattle.command_why.proofs.Steps.{call_is, expected_is}
 use Rattle.command_why.proofs.calls.make_call.Goals as goal
 
@@ -17,5 +17,5 @@ returns-clause-text g c = λ call there.
     let made = call_is c.args.setup.now.calls c.calls.result.now c.args.i _ call c.calls.ensures there in
     let expected = expected_is c.args.setup.now.calls c.args.i (option_copied c.expect-expected.result) call c.expect-expected.ensures there in
     c.in_ok-add_call_lines.ensures
-    ∙ (λ k. string_bytes c.args.out.now ++ told_lines c.args.chosen (c.args.i + 1) (call_text (c.args.i + 1) (made k) c.step-reply.result (expected k)) (c.in_ok-why.ensures k))
-    ∙ (λ k. string_bytes c.args.out.now ++ told_lines c.args.chosen (c.args.i + 1) (call_text (c.args.i + 1) call.call c.step-reply.result call.expect) (explained p c.args.kernel.now (record { call = made k; table = c.call_table.ensures k })))
+    ∙ (λ k. string_bytes c.args.out.now ++ explained_lines c.args.chosen (c.args.i + 1) (call_text (c.args.i + 1) (made k) c.step-reply.result (expected k)) (c.in_ok-why.ensures k))
+    ∙ (λ k. string_bytes c.args.out.now ++ explained_lines c.args.chosen (c.args.i + 1) (call_text (c.args.i + 1) call.call c.step-reply.result call.expect) (reason_lines_of p c.args.kernel.now (record { call = made k; table = c.call_table.ensures k })))

@@ -7,7 +7,7 @@ use Rattle.kernel_abstract.specs.State.{shown}
 use Rattle.setup_format.specs.Views.{CallView}
 use Rattle.setup_report.specs.Report.{met_count, expectation_count}
 use Rattle.command_check.specs.Program.{replies_to}
-use Rattle.command_why.specs.Why.{calls_lines, ending, refused_count, why_of}
+use Rattle.command_why.specs.Why.{calls_lines, why_ending, refused_count, why_of}
 use Rattle.setup_report.proofs.Runs.{boot_reached, replies_length}
 use Rattle.command_why.proofs.run.why.Goals as goal
 
@@ -62,6 +62,6 @@ returns-clause-text g c =
     ∙ ap (λ l. l ++ text) c.new-out.ensures.bytes in
     (λ i. (c.into_bytes.ensures.value i).items)
     ∙ c.in_ok-add_ending.ensures
-    ∙ (λ i. told i ++ ending c.args.chosen (many i) (refused_count (again i))
+    ∙ (λ i. told i ++ why_ending c.args.chosen (many i) (refused_count (again i))
     ((c.in_ok-count.ensures.met ∙ ap (met_count calls) replies) i)
     ((c.in_ok-count.ensures.expected ∙ ap (expectation_count calls) replies) i))

@@ -2,7 +2,7 @@ use Rattle.std.proofs.Common.{◌≡◌, arith, length, map, List, Option, ◌�
 use Rattle.std.proofs.lemmas.List.{length-map}
 use Rattle.std.proofs.lemmas.Option.{slice_get_within}
 use Rattle.cap_core.specs.Numbers.{word_bits}
-use Rattle.query_reach.specs.Private.Tables.{row_at}
+use Rattle.query_reach.specs.Private.Tables.{left_row}
 use Rattle.query_reach.specs.Private.Search.{IsSearch}
 use Rattle.query_reach.proofs.FullSlots.{all_lawful}
 use Rattle.query_reach.proofs.Listed.{none_reached, root_null, first_search, any_same, are_reached, only_row}
@@ -29,7 +29,7 @@ returns g c f are =
     c.in_ok-search.ensures.found (word_bits g.P.Profile.profile) f c.args.thread (all_lawful g.P.Profile.profile f c.args.filled.now are c.requires.lawful) are start in
     let one : length c.search.new.rows.items ≡ 1 = omega (arith, c.in_ok-search.ensures.one, c.search.new.rows.ok.0) in
     let one' : length rows ≡ 1 = rw length-map one in
-    let row : c.as_slice.result.now ≡ row_at rows 0 = c.as_slice.ensures.value ∙ only_row (λ r. r.items) c.search.new.rows.items c.index.result.now one c.index.ensures in
+    let row : c.as_slice.result.now ≡ left_row rows 0 = c.as_slice.ensures.value ∙ only_row (λ r. r.items) c.search.new.rows.items c.index.result.now one c.index.ensures in
     are_reached g.P.Profile.profile f c.args.thread c.args.filled.now rows c.in_ok-list.list.items c.put_in_order.new.list.items
     are c.requires.rising one' c.in_ok-search.ensures.bounded searched
     (rw row at c.in_ok-list.ensures.only) (rw row at c.in_ok-list.ensures.all)

@@ -4,7 +4,7 @@ use Rattle.cap_core.specs.Numbers.{word_bits}
 use Rattle.cap_core.specs.Objects.{IsLawful}
 use Rattle.kernel_forest.specs.Forest.{Forest}
 use Rattle.kernel_forest.specs.Entries.{Entry, cap_at}
-use Rattle.query_reach.specs.Private.Tables.{IsWide}
+use Rattle.query_reach.specs.Private.Tables.{IsWideTable}
 use Rattle.query_reach.specs.FullSlots.{AreFullSlots}
 use Rattle.query_reach.specs.Private.Search.{IsBounded, IsSearch}
 use Rattle.query_reach.proofs.search.search.Given as goal
@@ -14,7 +14,7 @@ invariant-loop-alloc g l = record {
   some : 0 < vec_len l.rows;
   rows : vec_len l.rows ≤ word_bits g.P.Profile.profile + 1;
   bounded : IsBounded g.P.Profile.profile (map (λ r. r.items) l.rows.items);
-  wide : IsWide (length l.filled) (map (λ r. r.items) l.rows.items);
+  wide : IsWideTable (length l.filled) (map (λ r. r.items) l.rows.items);
   found : (memory : ℕ) (f : Forest Entry) (thread : ℕ) → ((s : ℕ) → (cap_at f s ≡ Null) ⊎ IsLawful g.P.Profile.profile memory (cap_at f s)) → AreFullSlots f l.filled
       → IsSearch g.P.Profile.profile f thread l.filled (map (λ r. r.items) l.fn.rows.items) → IsSearch g.P.Profile.profile f thread l.filled (map (λ r. r.items) l.rows.items);
 }

@@ -1,6 +1,6 @@
 use Rattle.std.proofs.Common.{rules, ◌≡◌, ◌++◌, List, Some, None, ap, sym, ◌∙◌, subst}
 use Rattle.kernel_shared.specs.declared.entry.Entry.{Entry}
-use Rattle.kernel_shared.specs.ClientStates.{ClientState, lost, holds_not, calls_made, lost_calls}
+use Rattle.kernel_shared.specs.ClientStates.{ClientState, lost, holds_not, client_calls_made, lost_calls}
 use Rattle.kernel_shared.proofs.Answered.{not_held, unmade, finished}
 use Rattle.kernel_shared.proofs.shared.Shared.call.Goals as goal
 
@@ -43,4 +43,4 @@ returns-in-None-clause-unmade g c none =
     let w = c.write-written.new.client in
     let s : c.confirm-reply.new.self ≡ w = c.in-None.ensures.none in
     let u = unmade g.N.Naming.profile g.N.Naming.opening c.args.client.now w e.later c.assert_lawful-2.ensures.lawful c.assert_lawful.ensures.done e.same.0 e.same.1 none in
-    subst (λ (t : ClientState). calls_made t ≡ calls_made c.args.client.now ++ lost_calls t.stray) (sym s) u
+    subst (λ (t : ClientState). client_calls_made t ≡ client_calls_made c.args.client.now ++ lost_calls t.stray) (sym s) u

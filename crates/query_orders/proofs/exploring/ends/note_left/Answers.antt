@@ -2,8 +2,8 @@ use Rattle.std.proofs.Common.{◌≡◌, ◌-◌, ℕ, List, length, map, ap, �
 use Rattle.std.specs.List.{flat_map}
 use Rattle.kernel_lists.specs.Firsts.{with_firsts}
 use Rattle.query_orders.specs.declared.answer.Answer.TheVariants.{NotMade}
-use Rattle.query_orders.specs.World.{place_of}
-use Rattle.query_orders.specs.Orders.{below}
+use Rattle.query_orders.specs.World.{next_place}
+use Rattle.query_orders.specs.Orders.{numbers_below}
 use Rattle.query_orders.specs.Answers.{answered, same_answer, numbers_from}
 use Rattle.query_orders.specs.contracts.answer.AnswerPartialEq.TheImpl as answer_eq
 use Rattle.query_orders.specs.Nodes.{own_calls}
@@ -20,10 +20,10 @@ loop-client-preserved c =
     all_more (same_answer answer_eq.ghosts.eq) (not_made_told own n.made.items n.order) (answers_of c.args.found.now) (answers_of c.loop-client.found) (answers_of c.note_not_made.new.found) k
     c.loop-client.invariant
     (c.in_ok-note_not_made.ensures
-    ∙ ap (λ first. told n.order first c.count_of-end.result) (c.place_of-first.ensures ∙ ap (λ l. place_of l k) c.as_slice.ensures.value)
-    ∙ ap (told n.order (place_of n.made.items k)) c.count_of-end.ensures)
+    ∙ ap (λ first. told n.order first c.count_of-end.result) (c.place_of-first.ensures ∙ ap (λ l. next_place l k) c.as_slice.ensures.value)
+    ∙ ap (told n.order (next_place n.made.items k)) c.count_of-end.ensures)
 
 pub returns : goal.returns
 returns c =
     let end : c.loop-client.client ≡ length c.args.calls.now = omega arith in
-    c.loop-client.invariant ∙ ap (λ k. with_firsts (same_answer answer_eq.ghosts.eq) (answers_of c.args.found.now) (flat_map (not_made_told (own_calls c.args.calls.now) c.args.node.now.made.items c.args.node.now.order) (below k))) end
+    c.loop-client.invariant ∙ ap (λ k. with_firsts (same_answer answer_eq.ghosts.eq) (answers_of c.args.found.now) (flat_map (not_made_told (own_calls c.args.calls.now) c.args.node.now.made.items c.args.node.now.order) (numbers_below k))) end

@@ -1,7 +1,7 @@
 use Rattle.std.proofs.Common.{◌≡◌, ◌-◌, ℕ, ap, sym, ◌∙◌, arith}
 use Rattle.query_orders.specs.World.{start}
 use Rattle.query_orders.specs.Nodes.{own_calls}
-use Rattle.query_orders.specs.Explorations.{depth_from}
+use Rattle.query_orders.specs.Explorations.{layers_from}
 use Rattle.query_orders.proofs.Exploration.Explorations.{depth_goes_on, depth_ends, goes_less}
 use Rattle.query_orders.proofs.exploring.exploration.explore.Goals as goal
 
@@ -15,8 +15,8 @@ loop-alloc-init g c A r k =
       b.0,
       (
         (b.1).1,
-        ap (λ (n : ℕ). depth_from p own (start own A) c.args.first.now c.args.limit (c.args.count - n) n) none
-            ∙ ap (λ (n : ℕ). depth_from p own (start own A) c.args.first.now c.args.limit n 0) whole,
+        ap (λ (n : ℕ). layers_from p own (start own A) c.args.first.now c.args.limit (c.args.count - n) n) none
+            ∙ ap (λ (n : ℕ). layers_from p own (start own A) c.args.first.now c.args.limit n 0) whole,
       ),
     )
 
@@ -31,7 +31,7 @@ loop-alloc-preserved g c A r k =
       now.0,
       (
         now.1,
-        ap (λ (n : ℕ). depth_from p own (start own A) c.args.first.now c.args.limit (c.args.count - n) n) c.in_ok-advance.ensures.calls
+        ap (λ (n : ℕ). layers_from p own (start own A) c.args.first.now c.args.limit (c.args.count - n) n) c.in_ok-advance.ensures.calls
             ∙ sym (depth_goes_on p own A c.args.first.now c.args.limit c.args.count c.loop-alloc.explored c.goes_on.result (before.0).to c.goes_on.ensures c.loop-alloc-test.true)
             ∙ depths,
       ),

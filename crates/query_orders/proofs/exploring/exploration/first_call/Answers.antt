@@ -1,5 +1,5 @@
 use Rattle.std.proofs.Common.{◌≡◌, List, ℕ, Some, ap, sym, ◌∙◌}
-use Rattle.query_orders.specs.World.{next_call, world_after}
+use Rattle.query_orders.specs.World.{next_client_call, world_after}
 use Rattle.query_orders.specs.contracts.answer.AnswerPartialEq.TheImpl as answer_eq
 use Rattle.query_orders.specs.Nodes.{own_calls}
 use Rattle.query_orders.proofs.Exploration.Steps.{world_reached}
@@ -13,7 +13,7 @@ returns-in-Some-clause-made g c =
     let own = own_calls c.args.calls.now in
     if_ok c.note_call.result c.note_call.ensures.made
     (λ new h w r node at.
-    (let next_is : next_call own c.args.node.made.items c.args.client ≡ Some c.in-Some.call = sym (c.next_call.ensures.call ∙ ap (λ (l : List ℕ). next_call own l c.args.client) c.as_slice.ensures.value) ∙ c.in-Some.is in
+    (let next_is : next_client_call own c.args.node.made.items c.args.client ≡ Some c.in-Some.call = sym (c.next_call.ensures.call ∙ ap (λ (l : List ℕ). next_client_call own l c.args.client) c.as_slice.ensures.value) ∙ c.in-Some.is in
     h own w r node (c.step-reply.ensures.stands (world_after p own w c.args.node.order).kernel (world_reached p own w c.args.node.order r) at) next_is))
 
 pub returns-in-None-clause-made : goal.returns-in-None-clause-made
@@ -24,4 +24,4 @@ returns-in-None-clause-made g c =
     (λ new h w r node at.
     (let a = h.1 in
     let b = a.1 in
-    none_made p own w answer_eq.ghosts.eq c.args.node new c.args.client c.next_call.result c.args.found.now c.args.at.now node (c.next_call.ensures.call ∙ ap (λ (l : List ℕ). next_call own l c.args.client) c.as_slice.ensures.value) c.in-None.is h.0 a.0 b.0 b.1 at))
+    none_made p own w answer_eq.ghosts.eq c.args.node new c.args.client c.next_call.result c.args.found.now c.args.at.now node (c.next_call.ensures.call ∙ ap (λ (l : List ℕ). next_client_call own l c.args.client) c.as_slice.ensures.value) c.in-None.is h.0 a.0 b.0 b.1 at))

@@ -1,5 +1,5 @@
 use Rattle.std.proofs.Common.{◌≡◌, List, ℕ, None, ap, ◌∙◌}
-use Rattle.query_orders.specs.World.{next_call}
+use Rattle.query_orders.specs.World.{next_client_call}
 use Rattle.query_orders.specs.Nodes.{own_calls}
 use Rattle.query_orders.proofs.Exploration.Replays.{call_made, none_left}
 use Rattle.query_orders.proofs.exploring.kernels.make_next.Goals as goal
@@ -10,7 +10,7 @@ returns-in-Some g c w r at is =
     let own = own_calls c.args.calls.now in
     let made = c.args.made.now.items in
     call_made p own w c.args.client c.in-Some.call c.step.result c.step.new.self made c.count.new.made.items c.next_call.result is
-    (c.next_call.ensures.call ∙ ap (λ (l : List ℕ). next_call own l c.args.client) c.as_slice.ensures.value) c.in-Some.is
+    (c.next_call.ensures.call ∙ ap (λ (l : List ℕ). next_client_call own l c.args.client) c.as_slice.ensures.value) c.in-Some.is
     (c.step.ensures.stands w.kernel r at) c.count.ensures
 
 pub returns-in_default : goal.returns-in_default
@@ -20,4 +20,4 @@ returns-in_default g c w r at is =
     let made = c.args.made.now.items in
     let none : c.next_call.result ≡ None = cc in
     none_left p own w c.args.client c.args.at.now made c.next_call.result at is
-    (c.next_call.ensures.call ∙ ap (λ (l : List ℕ). next_call own l c.args.client) c.as_slice.ensures.value) none
+    (c.next_call.ensures.call ∙ ap (λ (l : List ℕ). next_client_call own l c.args.client) c.as_slice.ensures.value) none

@@ -3,7 +3,7 @@ use Rattle.std.proofs.lemmas.List.{take_all, drop_more}
 use Rattle.kernel_abstract.specs.Shown.{Shown}
 use Rattle.query_orders.specs.contracts.answer.AnswerPartialEq.TheImpl as answer_eq
 use Rattle.query_orders.specs.declared.exploring.node.Node.{Node}
-use Rattle.query_orders.specs.Nodes.{own_calls, IsNode, entries_of}
+use Rattle.query_orders.specs.Nodes.{own_calls, IsNode, node_orders}
 use Rattle.query_orders.specs.Found.{IsExpanded}
 use Rattle.query_orders.specs.Private.Kernels.{AreKernels}
 use Rattle.query_orders.proofs.Exploration.Loops.{each_at}
@@ -44,7 +44,7 @@ returns g c w r k zero all kernels =
     let p = g.P.Profile.profile in
     let own = own_calls c.args.calls.now in
     let before = c.loop-node.invariant w r k zero all kernels in (
-      subst (λ (l : List Node). IsExpanded p own w [] c.loop-node.next.layer answer_eq.ghosts.eq c.args.found.now c.loop-node.found (entries_of l))
+      subst (λ (l : List Node). IsExpanded p own w [] c.loop-node.next.layer answer_eq.ghosts.eq c.args.found.now c.loop-node.found (node_orders l))
           (take_all c.loop-node.node-index c.args.layer.now (omega arith)) before.0,
       (before.1).0,
     )

@@ -1,7 +1,7 @@
 use Rattle.std.proofs.Common.{List, ℕ, ◌++◌, ap, ◌∙◌}
 use Rattle.kernel_lists.specs.Firsts.{with_firsts}
 use Rattle.query_orders.specs.declared.answer.WaitingCall.{WaitingCall}
-use Rattle.query_orders.specs.World.{place_of}
+use Rattle.query_orders.specs.World.{next_place}
 use Rattle.query_orders.specs.Answers.{same_answer, replied, waits_ended}
 use Rattle.query_orders.specs.contracts.answer.AnswerPartialEq.TheImpl as answer_eq
 use Rattle.query_orders.specs.Found.{answers_of}
@@ -23,5 +23,5 @@ returns-clause-made g c own w r node steps next_is =
     made_is p own w answer_eq.ghosts.eq n client c.args.call c.args.found.now c.note_outcome.new.found reply after order place c.in_ok-new.new
     node steps next_is
     c.in_ok-order.ensures
-    (c.place_of-place.ensures ∙ ap (λ (l : List ℕ). place_of l client) c.as_slice.ensures.value)
+    (c.place_of-place.ensures ∙ ap (λ (l : List ℕ). next_place l client) c.as_slice.ensures.value)
     told c.in_ok-new.ensures.order c.in_ok-new.ensures.made c.in_ok-new.ensures.waits c.in_ok-new.ensures.words

@@ -2,8 +2,8 @@ use Rattle.std.proofs.Common.{◌≡◌, ◌++◌, ◌∷◌, [], map, filter, l
 use Rattle.std.proofs.lemmas.List.{length-map}
 use Rattle.std.specs.List.{flat_map}
 use Rattle.kernel_lists.specs.Firsts.{each_times}
-use Rattle.query_orders.specs.World.{next_call, may_call, world_after}
-use Rattle.query_orders.specs.Orders.{below}
+use Rattle.query_orders.specs.World.{next_client_call, may_call, world_after}
+use Rattle.query_orders.specs.Orders.{numbers_below}
 use Rattle.query_orders.specs.Answers.{call_answers}
 use Rattle.query_orders.specs.contracts.answer.AnswerPartialEq.TheImpl as answer_eq
 use Rattle.query_orders.specs.Nodes.{own_calls}
@@ -34,9 +34,9 @@ returns-clause-visited g c w r node at all =
     let own = own_calls c.args.calls.now in
     let order = c.args.node.now.order in
     let end : c.loop-client.client ≡ length c.args.calls.now = omega arith in
-    subst (λ k. IsVisited p own w c.args.nodes.now.layer c.loop-client.nodes.layer (each_times c.args.node.now.weight (map (λ c. order ++ c ∷ []) (filter (may_call own (world_after p own w order)) (below k))))
+    subst (λ k. IsVisited p own w c.args.nodes.now.layer c.loop-client.nodes.layer (each_times c.args.node.now.weight (map (λ c. order ++ c ∷ []) (filter (may_call own (world_after p own w order)) (numbers_below k))))
     answer_eq.ghosts.eq c.args.found.now c.loop-client.found
-    (flat_map (λ c. call_answers p (world_after p own w order) order c (next_call own (world_after p own w order).made c)) (filter (may_call own (world_after p own w order)) (below k))))
+    (flat_map (λ c. call_answers p (world_after p own w order) order c (next_client_call own (world_after p own w order).made c)) (filter (may_call own (world_after p own w order)) (numbers_below k))))
     (end ∙ sym (length-map c.args.calls.now _)) ((c.loop-client.invariant).0 w r node at all)
 
 pub returns-clause-kernels : goal.returns-clause-kernels

@@ -9,7 +9,7 @@ use Rattle.query_reach.specs.declared.filled.FullSlot.{FullSlot}
 use Rattle.query_reach.specs.FullSlots.{AreFullSlots}
 use Rattle.query_reach.specs.declared.chains.chain.Target.{Target}
 use Rattle.query_reach.specs.Chain.{IsShortest}
-use Rattle.query_reach.specs.Private.Layers.{IsLaid, IsFirst, HasNone, is_sought_at, IsRunFrom}
+use Rattle.query_reach.specs.Private.Layers.{IsLaid, IsFirstLayer, HasNoneSought, is_sought_at, IsRunFrom}
 use Rattle.query_reach.proofs.Laid.{stepped}
 use Rattle.query_reach.proofs.Walked.{none_found, found}
 use Rattle.query_reach.proofs.chains.chain.shortest_chain.Goals as goal
@@ -25,8 +25,8 @@ returns-in-None g c =
     let xs = c.as_slice.result.now in
     let laid : IsLaid p here elsewhere (map shows xs) =
     subst (λ (l : List (Vec FullSlot Global)). IsLaid p here elsewhere (map shows l)) (sym c.as_slice.ensures.value) c.in_ok-layers.ensures in
-    let none : HasNone p target (map shows xs) (length (map shows xs)) =
-    subst (HasNone p target (map shows xs)) (sym (length-map xs shows)) c.in-None.ensures.none in
+    let none : HasNoneSought p target (map shows xs) (length (map shows xs)) =
+    subst (HasNoneSought p target (map shows xs)) (sym (length-map xs shows)) c.in-None.ensures.none in
     λ f are. subst (IsShortest p f target root) (sym c.new.ensures.items) (none_found p f root target c.args.filled.now are (map shows xs) laid none)
 
 pub chain_to-requires-clause-stepped : goal.chain_to-requires-clause-stepped
@@ -53,8 +53,8 @@ returns g c =
     let xs = c.as_slice-in-Some.result.now in
     let laid : IsLaid p here elsewhere (map shows xs) =
     subst (λ (l : List (Vec FullSlot Global)). IsLaid p here elsewhere (map shows l)) (sym c.as_slice-in-Some.ensures.value) c.in_ok-layers.ensures in
-    let first : IsFirst p target (map shows xs) place.depth place.slot =
-    subst (λ (l : List (Vec FullSlot Global)). IsFirst p target (map shows l) place.depth place.slot)
+    let first : IsFirstLayer p target (map shows xs) place.depth place.slot =
+    subst (λ (l : List (Vec FullSlot Global)). IsFirstLayer p target (map shows l) place.depth place.slot)
     (c.as_slice.ensures.value ∙ sym c.as_slice-in-Some.ensures.value) c.in-Some.ensures.some in
     IfOk-weaker c.chain_to.result
     (λ chain. (t : Target) → is_sought_at p t place.slot ≡ true → IsRunFrom p t (map shows xs) 0 place.depth chain.items)

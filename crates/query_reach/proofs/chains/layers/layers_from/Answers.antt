@@ -2,14 +2,14 @@
 use Rattle.std.proofs.Common.{◌≡◌, ◌<◌, List, length, refl, sym, Vec, Global, arith, vec_len}
 use Rattle.std.proofs.lemmas.Bool.{eqb-true, eqb-false}
 use Rattle.query_reach.specs.declared.filled.FullSlot.{FullSlot}
-use Rattle.query_reach.specs.Private.Layers.{next_of, others_of}
+use Rattle.query_reach.specs.Private.Layers.{next_layer, others_of}
 use Rattle.query_reach.proofs.Laid.{laid_more, laid_done, fewer_left, no_length}
 use Rattle.query_reach.proofs.chains.layers.layers_from.Goals as goal
 
 pub loop-alloc-preserved : goal.loop-alloc-preserved
 loop-alloc-preserved g c =
     let shows : Vec FullSlot Global → List FullSlot = λ v. v.items in
-    let next : c.in_ok-next.next.items ≡ next_of g.P.Profile.profile c.loop-alloc.layer.items c.loop-alloc.rest.items =
+    let next : c.in_ok-next.next.items ≡ next_layer g.P.Profile.profile c.loop-alloc.layer.items c.loop-alloc.rest.items =
     rw (c.as_slice.ensures.value, c.as_slice-in-loop-alloc.ensures.value) at c.in_ok-next.ensures in
     let others : c.in_ok-rest.rest.items ≡ others_of g.P.Profile.profile c.loop-alloc.layer.items c.loop-alloc.rest.items =
     rw (c.as_slice-in-loop-alloc-2.ensures.value, c.as_slice-in-loop-alloc-3.ensures.value) at c.in_ok-rest.ensures in
@@ -19,7 +19,7 @@ loop-alloc-preserved g c =
 
 pub loop-alloc-smaller : goal.loop-alloc-smaller
 loop-alloc-smaller g c =
-    let next : c.in_ok-next.next.items ≡ next_of g.P.Profile.profile c.loop-alloc.layer.items c.loop-alloc.rest.items =
+    let next : c.in_ok-next.next.items ≡ next_layer g.P.Profile.profile c.loop-alloc.layer.items c.loop-alloc.rest.items =
     rw (c.as_slice.ensures.value, c.as_slice-in-loop-alloc.ensures.value) at c.in_ok-next.ensures in
     let others : c.in_ok-rest.rest.items ≡ others_of g.P.Profile.profile c.loop-alloc.layer.items c.loop-alloc.rest.items =
     rw (c.as_slice-in-loop-alloc-2.ensures.value, c.as_slice-in-loop-alloc-3.ensures.value) at c.in_ok-rest.ensures in
