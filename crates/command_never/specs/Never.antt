@@ -12,7 +12,7 @@ use Rattle.kernel_abstract.specs.Plan.{Plan}
 use Rattle.setup_objects.specs.declared.meant.ObjectKind.TheVariants.{Thread, Endpoint}
 use Rattle.setup_objects.specs.Meant.{object_meant, are_meant}
 use Rattle.command_parts.specs.Behind.{refused_behind}
-use Rattle.command_parts.specs.Threads.{Trusted, trusted_by, are_trusted, named}
+use Rattle.command_parts.specs.Threads.{Trusted, trusted_by, are_trusted, objects_named}
 use Rattle.command_never_text.specs.Open.{IsNeverOf}
 use Rattle.command_core.specs.declared.fault.Verdict.{Verdict}
 use Rattle.command_core.specs.declared.fault.Verdict.TheVariants.{AllMet, NotMet, Absent}
@@ -26,17 +26,17 @@ pub record Asked : Type 0 where
   pub by : List (List ℕ)
 
 -- a question, with its words as lists of characters
-abbrev pub asked_of : Question → Asked
-asked_of q = record {
+abbrev pub asked_never : Question → Asked
+asked_never q = record {
   trust = trusted_by q.trust;
   from = q.from.now;
   to = q.to.now;
   by = map (λ (w : Bor (List ℕ)). w.now) q.by.now;
 }
 
-abbrev pub verdict_of : Never → Verdict
-verdict_of Excluded = AllMet
-verdict_of Possible = NotMet
+abbrev pub never_verdict : Never → Verdict
+never_verdict Excluded = AllMet
+never_verdict Possible = NotMet
 
 -- nothing is written
 abbrev pub IsAbsent : List ℕ → Verdict → Type 0
@@ -50,16 +50,16 @@ are_live v from to = is_some (state_at v from) && is_some (state_at v to)
 abbrev pub IsAnsweredOf : ProfileName → Names → SetupView → ℕ → ℕ → List ℕ → List ℕ → Shown → List ℕ → ℕ → ℕ → List ℕ → Verdict → Type 0
 IsAnsweredOf p names setup made refused without messages v by from to text verdict =
     MatchBool (are_live v from to)
-    ((answer : Never) × (IsNeverOf p names setup made refused without messages v by from to text answer × (verdict ≡ verdict_of answer)))
+    ((answer : Never) × (IsNeverOf p names setup made refused without messages v by from to text answer × (verdict ≡ never_verdict answer)))
     (IsAbsent text verdict)
 
 -- of two threads, where each text stands for one
-abbrev pub IsAnswered : ProfileName → Names → SetupView → ℕ → ℕ → Shown → Asked → Option ℕ → Option ℕ → List ℕ → Verdict → Type 0
-IsAnswered p names setup made refused v asked None to text verdict = IsAbsent text verdict
-IsAnswered p names setup made refused v asked (Some from) None text verdict = IsAbsent text verdict
-IsAnswered p names setup made refused v asked (Some from) (Some to) text verdict =
-    IsAnsweredOf p names setup made refused (named Thread p names setup.plan v asked.trust.without) (named Thread p names setup.plan v asked.trust.messages) v
-    (named Endpoint p names setup.plan v asked.by) from to text verdict
+abbrev pub IsNeverAnswered : ProfileName → Names → SetupView → ℕ → ℕ → Shown → Asked → Option ℕ → Option ℕ → List ℕ → Verdict → Type 0
+IsNeverAnswered p names setup made refused v asked None to text verdict = IsAbsent text verdict
+IsNeverAnswered p names setup made refused v asked (Some from) None text verdict = IsAbsent text verdict
+IsNeverAnswered p names setup made refused v asked (Some from) (Some to) text verdict =
+    IsAnsweredOf p names setup made refused (objects_named Thread p names setup.plan v asked.trust.without) (objects_named Thread p names setup.plan v asked.trust.messages) v
+    (objects_named Endpoint p names setup.plan v asked.by) from to text verdict
 
 -- each text for a trusted thread stands for a thread, and each for an endpoint that is allowed for an endpoint
 abbrev pub has_asked : ProfileName → Names → Plan → Shown → Asked → Bool
@@ -69,7 +69,7 @@ has_asked p names plan v asked = are_trusted p names plan v asked.trust && are_m
 abbrev pub IsNeverBy : Asked → ProfileName → Names → SetupView → ℕ → ℕ → Shown → List ℕ → Verdict → Type 0
 IsNeverBy asked p names setup made refused v text verdict =
     MatchBool (has_asked p names setup.plan v asked)
-    (IsAnswered p names setup made refused v asked (object_meant Thread p names setup.plan v asked.from) (object_meant Thread p names setup.plan v asked.to) text verdict)
+    (IsNeverAnswered p names setup made refused v asked (object_meant Thread p names setup.plan v asked.from) (object_meant Thread p names setup.plan v asked.to) text verdict)
     (IsAbsent text verdict)
 
 -- the same of the state behind the first calls

@@ -41,7 +41,7 @@ pub struct Question<'a> {
 }
 
 fn verdict_of(answer: Never) -> Verdict
-    ensures { result ≡ spec.verdict_of answer }
+    ensures { result ≡ spec.never_verdict answer }
 {
     match answer {
         Never::Excluded => Verdict::AllMet,
@@ -110,9 +110,9 @@ impl Question<'_> {
         requires limits { IsWithinLimits P.profile setup.now.plan }
         requires memory { (memory : ℕ) × IsInMemory P.profile memory kernel.now }
         ensures { IfOk result (λ answer. spec.IsAnsweredOf P.profile (names_view names.now) setup.now made refused
-            (meant.named objects.Thread P.profile (names_view names.now) setup.now.plan kernel.now (spec.asked_of self.now).trust.without)
-            (meant.named objects.Thread P.profile (names_view names.now) setup.now.plan kernel.now (spec.asked_of self.now).trust.messages)
-            kernel.now (meant.named objects.Endpoint P.profile (names_view names.now) setup.now.plan kernel.now (spec.asked_of self.now).by)
+            (meant.objects_named objects.Thread P.profile (names_view names.now) setup.now.plan kernel.now (spec.asked_never self.now).trust.without)
+            (meant.objects_named objects.Thread P.profile (names_view names.now) setup.now.plan kernel.now (spec.asked_never self.now).trust.messages)
+            kernel.now (meant.objects_named objects.Endpoint P.profile (names_view names.now) setup.now.plan kernel.now (spec.asked_never self.now).by)
             from to answer.text.items answer.verdict) }
     {
         if !are_live::<P, S, W>(kernel, from, to) {
@@ -158,7 +158,7 @@ impl Question<'_> {
     ) -> Result<Answer, AllocError>
         requires limits { IsWithinLimits P.profile setup.now.plan }
         requires memory { (memory : ℕ) × IsInMemory P.profile memory kernel.now }
-        ensures { IfOk result (λ answer. spec.IsAnswered P.profile (names_view names.now) setup.now made refused kernel.now (spec.asked_of self.now)
+        ensures { IfOk result (λ answer. spec.IsNeverAnswered P.profile (names_view names.now) setup.now made refused kernel.now (spec.asked_never self.now)
             (words.object_meant objects.Thread P.profile (names_view names.now) setup.now.plan kernel.now self.now.from.now)
             (words.object_meant objects.Thread P.profile (names_view names.now) setup.now.plan kernel.now self.now.to.now) answer.text.items answer.verdict) }
     {
@@ -184,7 +184,7 @@ impl Question<'_> {
         kernel: &Kernel<P, S, W>,
     ) -> bool
         requires { IsWithinLimits P.profile setup.now.plan }
-        ensures { result ≡ spec.has_asked P.profile (names_view names.now) setup.now.plan kernel.now (spec.asked_of self.now) }
+        ensures { result ≡ spec.has_asked P.profile (names_view names.now) setup.now.plan kernel.now (spec.asked_never self.now) }
     {
         self.trust.is_meant::<P, S, W>(names, setup, kernel)
             && are_meant::<P, S, W>(names, setup, kernel, ObjectKind::Endpoint, self.by)
@@ -230,7 +230,7 @@ impl Question<'_> {
     ) -> Result<Answer, AllocError>
         requires limits { IsWithinLimits P.profile setup.now.plan }
         requires memory { (memory : ℕ) × IsInMemory P.profile memory kernel.now }
-        ensures { IfOk result (λ answer. spec.IsNeverBy (spec.asked_of self.now) P.profile (names_view names.now) setup.now made refused kernel.now answer.text.items answer.verdict) }
+        ensures { IfOk result (λ answer. spec.IsNeverBy (spec.asked_never self.now) P.profile (names_view names.now) setup.now made refused kernel.now answer.text.items answer.verdict) }
     {
         if !self.has_asked::<P, S, W>(names, setup, kernel) {
             let absent = self.absent::<P, S, W>(alloc, names, setup, kernel)?;
@@ -242,9 +242,9 @@ impl Question<'_> {
 
 impl Command for Question<'_> {
     ghost use Rattle.command_check.specs.Commands.{IsStateAnswer};
-    ghost use Rattle.command_never.specs.Never.{IsNever, asked_of};
+    ghost use Rattle.command_never.specs.Never.{IsNever, asked_never};
 
-    ghost answers = { λ question. IsStateAnswer (IsNever (asked_of question)) question.after };
+    ghost answers = { λ question. IsStateAnswer (IsNever (asked_never question)) question.after };
 
     fn answer<P: Profile, S: MakeStore<P> + DerivationStore<P>, W: MakeWaiters<P>>(
         &self,

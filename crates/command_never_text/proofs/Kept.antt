@@ -35,7 +35,7 @@ use Rattle.setup_report.proofs.Addresses.Rising.{any_rising}
 use Rattle.command_never_text.specs.declared.waits.Wait.{Wait}
 use Rattle.command_parts.specs.Text.{is_part, is_use}
 use Rattle.command_never_text.specs.Waits.{waits}
-use Rattle.command_never_text.specs.Never.{has_bytes, is_use_of, is_sender, is_receiver, may_send_to, may_receive_on, is_open, endpoints_met, are_open}
+use Rattle.command_never_text.specs.Never.{has_bytes, is_use_of, is_waiting_sender, is_waiting_receiver, may_send_to, may_receive_on, is_open, endpoints_met, are_open}
 use Rattle.command_never_text.specs.Kept.{HasNoByteIn, IsKeptFrom, TellsKept, AreKept, AreKeptEver}
 use Rattle.command_never_text.proofs.Tests.{neither, none_at, is_in_mapped}
 use Rattle.command_never_text.proofs.Had.{bytes_at, covered_use, may_use, write_kept, read_kept}
@@ -61,10 +61,10 @@ use_at right i e u h = eqb-true u.endpoint e (both_true (u.endpoint == e) _ (bot
 use_of_at : (i e : ℕ) (u : PartUse) → is_use_of i e u ≡ true → u.endpoint ≡ e
 use_of_at i e u h = eqb-true u.endpoint e (both_true (u.part == i) _ h).1
 
-pub sender_at : (memory : List PartMemory) (i e : ℕ) (w : Wait) → is_sender memory i e w ≡ true → w.endpoint ≡ e
+pub sender_at : (memory : List PartMemory) (i e : ℕ) (w : Wait) → is_waiting_sender memory i e w ≡ true → w.endpoint ≡ e
 sender_at memory i e w h = eqb-true w.endpoint e (both_true (w.endpoint == e) _ (both_true w.sends _ h).1).0
 
-pub receiver_at : (memory : List PartMemory) (i e : ℕ) (w : Wait) → is_receiver memory i e w ≡ true → w.endpoint ≡ e
+pub receiver_at : (memory : List PartMemory) (i e : ℕ) (w : Wait) → is_waiting_receiver memory i e w ≡ true → w.endpoint ≡ e
 receiver_at memory i e w h = eqb-true w.endpoint e (both_true (w.endpoint == e) _ (both_true (not w.sends) _ h).1).0
 
 pub part_is : (o : Option ℕ) (i : ℕ) → o ≡ Some i → is_part i o ≡ true
@@ -149,10 +149,10 @@ module _ (p : ProfileName) (memory : List PartMemory) (uses : List PartUse) (A :
   sent : (s : SendRecord) → WaitsOrIsSentWithin p parts A s → part_at memory s.thread.base ≡ Some i → Sends s.endpoint.base
   sent s (inl there) at =
       let e = s.endpoint.base in
-      let waiting = sender_waits p A reached (is_sender memory i e) s there (rw (eq-eqb e e refl, part_is (part_at memory s.thread.base) i at) refl) in
+      let waiting = sender_waits p A reached (is_waiting_sender memory i e) s there (rw (eq-eqb e e refl, part_is (part_at memory s.thread.base) i at) refl) in
       record {
         may = true_right _ _ (true_right _ _ waiting);
-        place = inr (waited_met uses ws e (is_sender memory i e) (sender_at memory i e) waiting);
+        place = inr (waited_met uses ws e (is_waiting_sender memory i e) (sender_at memory i e) waiting);
       }
   sent s (inr within) at =
       sends_used s.endpoint.base (may_use p memory uses i write_bit s.endpoint.base s.badge write_kept (within i at))
@@ -160,10 +160,10 @@ module _ (p : ProfileName) (memory : List PartMemory) (uses : List PartUse) (A :
   received : (a : ReceiveRecord) → WaitsOrIsReceivedWithin p parts A a → part_at memory a.thread.base ≡ Some j → Receives a.endpoint.base
   received a (inl there) at =
       let e = a.endpoint.base in
-      let waiting = receiver_waits p A reached (is_receiver memory j e) a there (rw (eq-eqb e e refl, part_is (part_at memory a.thread.base) j at) refl) in
+      let waiting = receiver_waits p A reached (is_waiting_receiver memory j e) a there (rw (eq-eqb e e refl, part_is (part_at memory a.thread.base) j at) refl) in
       record {
         may = true_right _ _ (true_right _ _ waiting);
-        place = inr (waited_met uses ws e (is_receiver memory j e) (receiver_at memory j e) waiting);
+        place = inr (waited_met uses ws e (is_waiting_receiver memory j e) (receiver_at memory j e) waiting);
       }
   received a (inr within) at =
       let may = within j at in

@@ -25,12 +25,12 @@ use Rattle.command_never_text.specs.Never.{has_bytes, is_open, endpoints_met}
 abbrev pub chain_line : Names → ℕ → ℕ → List ℕ
 chain_line names thread target = terminated (codes "chain " ++ (thread_name names thread ++ (codes " -> " ++ decimal target)))
 
-abbrev pub slot_line : FullSlot → List ℕ
-slot_line s = terminated (codes "  slot " ++ (decimal s.address ++ (codes " " ++ cap_text s.cap)))
+abbrev pub chain_slot_line : FullSlot → List ℕ
+chain_slot_line s = terminated (codes "  slot " ++ (decimal s.address ++ (codes " " ++ cap_text s.cap)))
 
 abbrev pub chain_lines : Names → ℕ → ℕ → List FullSlot → List ℕ
 chain_lines names thread target [] = []
-chain_lines names thread target (s ∷ more) = chain_line names thread target ++ flat_map slot_line (s ∷ more)
+chain_lines names thread target (s ∷ more) = chain_line names thread target ++ flat_map chain_slot_line (s ∷ more)
 
 -- the text of a shortest chain from a thread's root slot to a capability that is sought; nothing where there is no chain
 pub record IsChainText (p : ProfileName) (names : Names) (f : Forest Entry) (thread : ℕ) (target : Target) (text : List ℕ) : Type 0 where

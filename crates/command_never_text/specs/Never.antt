@@ -29,23 +29,23 @@ abbrev pub is_use_of : ℕ → ℕ → PartUse → Bool
 is_use_of part endpoint u = u.part == part && u.endpoint == endpoint
 
 -- a thread of the part waits on the endpoint to send; or to receive
-abbrev pub is_sender : List PartMemory → ℕ → ℕ → Wait → Bool
-is_sender memory part endpoint w = w.sends && (w.endpoint == endpoint && is_part part (part_at memory w.thread))
+abbrev pub is_waiting_sender : List PartMemory → ℕ → ℕ → Wait → Bool
+is_waiting_sender memory part endpoint w = w.sends && (w.endpoint == endpoint && is_part part (part_at memory w.thread))
 
-abbrev pub is_receiver : List PartMemory → ℕ → ℕ → Wait → Bool
-is_receiver memory part endpoint w = not w.sends && (w.endpoint == endpoint && is_part part (part_at memory w.thread))
+abbrev pub is_waiting_receiver : List PartMemory → ℕ → ℕ → Wait → Bool
+is_waiting_receiver memory part endpoint w = not w.sends && (w.endpoint == endpoint && is_part part (part_at memory w.thread))
 
 -- the part may send to the endpoint: it has bytes of it, or a use with Write, or one of its threads waits there to send
 abbrev pub may_send_to : ProfileName → List PartMemory → List PartUse → List Wait → ℕ → ℕ → Bool
 may_send_to p memory uses waits part endpoint =
     has_bytes p memory part endpoint
-    || (list_any (is_use write_bit part endpoint) uses || list_any (is_sender memory part endpoint) waits)
+    || (list_any (is_use write_bit part endpoint) uses || list_any (is_waiting_sender memory part endpoint) waits)
 
 -- the part may receive on it: it has bytes of it, or a use with Read, or one of its threads waits there to receive
 abbrev pub may_receive_on : ProfileName → List PartMemory → List PartUse → List Wait → ℕ → ℕ → Bool
 may_receive_on p memory uses waits part endpoint =
     has_bytes p memory part endpoint
-    || (list_any (is_use read_bit part endpoint) uses || list_any (is_receiver memory part endpoint) waits)
+    || (list_any (is_use read_bit part endpoint) uses || list_any (is_waiting_receiver memory part endpoint) waits)
 
 -- ---- what is open from part i to part j
 

@@ -19,9 +19,9 @@ use Rattle.command_never_text.specs.declared.never.Never.{Never}
 use Rattle.command_never_text.specs.declared.never.Never.TheVariants.{Excluded, Possible}
 use Rattle.setup_format.specs.Views.{SetupView}
 use Rattle.setup_report.specs.State.{is_in, endpoints}
-use Rattle.command_parts.specs.Text.{badge_text, none_text, head_lines, sel4_lines}
+use Rattle.command_parts.specs.Text.{any_badge_text, none_text, head_lines, sel4_lines, takes_between}
 use Rattle.command_never_text.specs.Waits.{waits}
-use Rattle.command_never_text.specs.Never.{has_some, is_use_of, is_sender, is_receiver, is_open, endpoints_met, never}
+use Rattle.command_never_text.specs.Never.{has_some, is_use_of, is_waiting_sender, is_waiting_receiver, is_open, endpoints_met, never}
 use Rattle.command_parts.specs.Ever.{AreRightParts}
 use Rattle.command_never_text.specs.Kept.{AreThreadsKept}
 use Rattle.command_never_text.specs.Chains.{AreChains}
@@ -55,7 +55,7 @@ bytes_line p part endpoint m =
 abbrev pub used_line : ℕ → ℕ → PartUse → List ℕ
 used_line part endpoint u =
     cond (is_use_of part endpoint u)
-    (terminated (codes "  part " ++ (decimal part ++ (codes " use " ++ (decimal endpoint ++ (codes " badge " ++ (badge_text u.badge.0
+    (terminated (codes "  part " ++ (decimal part ++ (codes " use " ++ (decimal endpoint ++ (codes " badge " ++ (any_badge_text u.badge.0
     ++ (codes " rights " ++ rights_text u.rights)))))))) []
 
 abbrev pub offered_line : List ℕ → ℕ → ℕ → Option Offer → List ℕ
@@ -66,11 +66,11 @@ offered_line name part endpoint (Some offer) =
 
 abbrev pub sender_line : Names → List PartMemory → Shown → ℕ → ℕ → Wait → List ℕ
 sender_line names memory v part endpoint w =
-    cond (is_sender memory part endpoint w) (offered_line (thread_name names w.thread) part endpoint (offer_at v w.thread)) []
+    cond (is_waiting_sender memory part endpoint w) (offered_line (thread_name names w.thread) part endpoint (offer_at v w.thread)) []
 
-abbrev pub receiver_line : Names → List PartMemory → ℕ → ℕ → Wait → List ℕ
-receiver_line names memory part endpoint w =
-    cond (is_receiver memory part endpoint w)
+abbrev pub open_receiver_line : Names → List PartMemory → ℕ → ℕ → Wait → List ℕ
+open_receiver_line names memory part endpoint w =
+    cond (is_waiting_receiver memory part endpoint w)
     (terminated (codes "  part " ++ (decimal part ++ (codes " waiting " ++ (decimal endpoint ++ (codes " -> " ++ thread_name names w.thread)))))) []
 
 abbrev pub had_lines : ProfileName → List PartMemory → List PartUse → ℕ → ℕ → List ℕ
@@ -79,18 +79,18 @@ had_lines p memory uses part endpoint =
 
 -- ---- each endpoint that is open
 
-abbrev pub endpoint_line : ℕ → List ℕ
-endpoint_line endpoint = terminated (codes "open " ++ decimal endpoint)
+abbrev pub open_endpoint_line : ℕ → List ℕ
+open_endpoint_line endpoint = terminated (codes "open " ++ decimal endpoint)
 
-abbrev pub endpoint_lines : ProfileName → Names → List PartMemory → List PartUse → Shown → ℕ → ℕ → ℕ → List ℕ
-endpoint_lines p names memory uses v i j endpoint =
-    endpoint_line endpoint
+abbrev pub open_endpoint_lines : ProfileName → Names → List PartMemory → List PartUse → Shown → ℕ → ℕ → ℕ → List ℕ
+open_endpoint_lines p names memory uses v i j endpoint =
+    open_endpoint_line endpoint
     ++ (had_lines p memory uses i endpoint ++ (flat_map (sender_line names memory v i endpoint) (waits p v)
-    ++ (had_lines p memory uses j endpoint ++ flat_map (receiver_line names memory j endpoint) (waits p v))))
+    ++ (had_lines p memory uses j endpoint ++ flat_map (open_receiver_line names memory j endpoint) (waits p v))))
 
 abbrev pub open_lines : ProfileName → Names → List PartMemory → List PartUse → Shown → List ℕ → ℕ → ℕ → ℕ → List ℕ
 open_lines p names memory uses v by i j endpoint =
-    cond (is_open p memory uses (waits p v) by i j endpoint) (endpoint_lines p names memory uses v i j endpoint) []
+    cond (is_open p memory uses (waits p v) by i j endpoint) (open_endpoint_lines p names memory uses v i j endpoint) []
 
 -- between two parts: in one part all is open
 abbrev pub lines_between : ProfileName → Names → List PartMemory → List PartUse → Shown → List ℕ → Option ℕ → Option ℕ → List ℕ
@@ -105,13 +105,20 @@ sel4_between p memory uses None to = []
 sel4_between p memory uses (Some i) None = []
 sel4_between p memory uses (Some i) (Some j) = cond (i == j) [] (sel4_lines p memory uses i j)
 
+-- whether one of two parts may take slots from the other
+abbrev pub taken_between : List PartMemory → Shown → Option ℕ → Option ℕ → List ℕ
+taken_between memory v None to = []
+taken_between memory v (Some i) None = []
+taken_between memory v (Some i) (Some j) = cond (i == j) [] (takes_between memory v i j)
+
 -- ---- all of it
 
 abbrev pub lines_of_answer : ProfileName → Names → List PartMemory → List PartUse → Shown → List ℕ → ℕ → ℕ → List ℕ
 lines_of_answer p names memory uses v by from to =
     answer_line names memory from to (never p memory uses (waits p v) by from to)
     ++ (lines_between p names memory uses v by (part_at memory from) (part_at memory to)
-    ++ sel4_between p memory uses (part_at memory from) (part_at memory to))
+    ++ (sel4_between p memory uses (part_at memory from) (part_at memory to)
+    ++ taken_between memory v (part_at memory from) (part_at memory to)))
 
 unfoldable pub never_text : ProfileName → Names → SetupView → ℕ → ℕ → List ℕ → List ℕ → List PartMemory → List PartUse → Shown → List ℕ → ℕ → ℕ → List ℕ
 never_text p names setup made refused without messages memory uses v by from to =

@@ -27,7 +27,7 @@ fn tcb_size<P: Profile>() -> u64
 }
 
 fn add_slot(out: &mut String, slot: &FullSlot) -> Result<(), AllocError>
-    ensures { OnOk result (string_bytes out.new ≡ string_bytes out.old ++ spec.slot_line slot.now) }
+    ensures { OnOk result (string_bytes out.new ≡ string_bytes out.old ++ spec.chain_slot_line slot.now) }
 {
     let address = slot.address;
     let cap = CapText(slot.cap);
@@ -35,7 +35,7 @@ fn add_slot(out: &mut String, slot: &FullSlot) -> Result<(), AllocError>
 }
 
 fn add_slots(out: &mut String, chain: &[FullSlot]) -> Result<(), AllocError>
-    ensures { OnOk result (string_bytes out.new ≡ string_bytes out.old ++ flat_map spec.slot_line chain.now) }
+    ensures { OnOk result (string_bytes out.new ≡ string_bytes out.old ++ flat_map spec.chain_slot_line chain.now) }
 {
     for slot in chain {
         add_slot(out, slot)?;

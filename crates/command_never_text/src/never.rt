@@ -82,26 +82,26 @@ fn has_use_of(uses: &[PartUse], part: u64, endpoint: u64) -> bool
 
 /// Whether a thread of the part waits on the endpoint to send.
 pub fn is_sender(memory: &[PartMemory], wait: &Wait, part: u64, endpoint: u64) -> bool
-    ensures { result ≡ spec.is_sender memory.now part endpoint wait.now }
+    ensures { result ≡ spec.is_waiting_sender memory.now part endpoint wait.now }
 {
     wait.sends && wait.endpoint == endpoint && is_of_part(memory, part, wait.thread)
 }
 
 /// Whether a thread of the part waits on the endpoint to receive.
 pub fn is_receiver(memory: &[PartMemory], wait: &Wait, part: u64, endpoint: u64) -> bool
-    ensures { result ≡ spec.is_receiver memory.now part endpoint wait.now }
+    ensures { result ≡ spec.is_waiting_receiver memory.now part endpoint wait.now }
 {
     !wait.sends && wait.endpoint == endpoint && is_of_part(memory, part, wait.thread)
 }
 
 fn has_sender(memory: &[PartMemory], waits: &[Wait], part: u64, endpoint: u64) -> bool
-    ensures { result ≡ list_any (spec.is_sender memory.now part endpoint) waits.now }
+    ensures { result ≡ list_any (spec.is_waiting_sender memory.now part endpoint) waits.now }
 {
     waits.iter().any(|w| is_sender(memory, w, part, endpoint))
 }
 
 fn has_receiver(memory: &[PartMemory], waits: &[Wait], part: u64, endpoint: u64) -> bool
-    ensures { result ≡ list_any (spec.is_receiver memory.now part endpoint) waits.now }
+    ensures { result ≡ list_any (spec.is_waiting_receiver memory.now part endpoint) waits.now }
 {
     waits.iter().any(|w| is_receiver(memory, w, part, endpoint))
 }

@@ -19,8 +19,8 @@ use crate::never::{
 use crate::waits::{Wait, waits};
 use cap_core::Profile;
 use command_parts::{
-    BadgeText, Heading, add_heading, add_sel4_lines, all_trusted, is_in, listed, none_text,
-    parts_of_callers,
+    BadgeText, Heading, add_heading, add_sel4_lines, add_take_of, all_trusted, is_in, listed,
+    none_text, part_slots, parts_of_callers,
 };
 use ipc_core::Waiters;
 use kernel_core::Kernel;
@@ -225,7 +225,7 @@ fn add_receiver(
     wait: &Wait,
 ) -> Result<(), AllocError>
     ensures { OnOk result (string_bytes out.new ≡ string_bytes out.old
-        ++ spec.receiver_line (names_view names.now) memory.now part endpoint wait.now) }
+        ++ spec.open_receiver_line (names_view names.now) memory.now part endpoint wait.now) }
 {
     let name = thread_name(names, wait.thread);
     if is_receiver(memory, wait, part, endpoint) {
@@ -243,7 +243,7 @@ fn add_receivers(
     endpoint: u64,
 ) -> Result<(), AllocError>
     ensures { OnOk result (string_bytes out.new ≡ string_bytes out.old
-        ++ flat_map (spec.receiver_line (names_view names.now) layout.now.memory.now part endpoint) layout.now.waits.now) }
+        ++ flat_map (spec.open_receiver_line (names_view names.now) layout.now.memory.now part endpoint) layout.now.waits.now) }
 {
     for wait in layout.waits {
         add_receiver(out, names, layout.memory, part, endpoint, wait)?;
@@ -252,7 +252,7 @@ fn add_receivers(
 }
 
 fn add_number(out: &mut String, endpoint: u64) -> Result<(), AllocError>
-    ensures { OnOk result (string_bytes out.new ≡ string_bytes out.old ++ spec.endpoint_line endpoint) }
+    ensures { OnOk result (string_bytes out.new ≡ string_bytes out.old ++ spec.open_endpoint_line endpoint) }
 {
     writeln!(out, "open {endpoint}")
 }
@@ -268,7 +268,7 @@ fn add_endpoint<P: Profile, S: CapStore<P> + Drop, W: Waiters<P> + Drop>(
 ) -> Result<(), AllocError>
     requires { layout.now.waits.now ≡ waits_of P.profile kernel.now }
     ensures { OnOk result (string_bytes out.new ≡ string_bytes out.old
-        ++ spec.endpoint_lines P.profile (names_view names.now) layout.now.memory.now layout.now.uses.now kernel.now between.now.from between.now.to endpoint) }
+        ++ spec.open_endpoint_lines P.profile (names_view names.now) layout.now.memory.now layout.now.uses.now kernel.now between.now.from between.now.to endpoint) }
 {
     add_number(out, endpoint)?;
     add_had::<P>(out, layout, between.from, endpoint)?;
@@ -360,6 +360,28 @@ fn add_sel4_between<P: Profile>(
     add_sel4_lines::<P>(alloc, out, layout.memory, layout.uses, from, to)
 }
 
+/// Adds a line where one of the parts of two threads may take slots from the other.
+fn add_taken_between<P: Profile, S: DerivationStore<P> + Drop, W: Waiters<P> + Drop>(
+    alloc: Global,
+    out: &mut String,
+    memory: &[PartMemory],
+    kernel: &Kernel<P, S, W>,
+    from: Option<u64>,
+    to: Option<u64>,
+) -> Result<(), AllocError>
+    ensures { OnOk result (string_bytes out.new ≡ string_bytes out.old ++ spec.taken_between memory.now kernel.now from to) }
+{
+    let (Some(from), Some(to)) = (from, to) else {
+        return Ok(());
+    };
+    if from == to {
+        return Ok(());
+    }
+    let part_slots = part_slots::<P, S, W>(alloc, memory, kernel)?;
+    add_take_of(alloc, out, part_slots.as_slice(), from, to)?;
+    add_take_of(alloc, out, part_slots.as_slice(), to, from)
+}
+
 fn add_allowed(out: &mut String, live: &[u64], endpoint: u64) -> Result<(), AllocError>
     ensures { OnOk result (string_bytes out.new ≡ string_bytes out.old ++ spec.allowed_line live.now endpoint) }
 {
@@ -421,6 +443,7 @@ fn add_lines_of_answer<P: Profile, S: DerivationStore<P> + Drop, W: Waiters<P> +
         second,
     )?;
     add_sel4_between::<P>(alloc, out, layout, first, second)?;
+    add_taken_between::<P, S, W>(alloc, out, layout.memory, kernel, first, second)?;
     Ok(answer)
 }
 
@@ -483,7 +506,7 @@ fn never_with_chains<P: Profile, S: DerivationStore<P> + Drop, W: Waiters<P> + D
 
 /// Whether a thread's part is kept from another's, but for the endpoints that `by` names, whatever calls the threads make that are
 /// not trusted; and the text that says so, with the endpoints that are open where it is not, what passes between the parts in seL4
-/// beside messages, and the slots through which the one thread comes to what is open.
+/// beside messages, which of them may take slots from the other, and the slots through which the one thread comes to what is open.
 ///
 /// # Errors
 ///

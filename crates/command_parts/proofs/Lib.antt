@@ -2,4 +2,9 @@ pub mod Pushed
 pub mod Right
 pub mod Callers
 pub mod Receiving
+pub mod Beneath
+pub mod Walked
+pub mod Given
+pub mod Held
+pub mod Alone
 pub mod Faults

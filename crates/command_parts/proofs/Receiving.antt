@@ -14,7 +14,7 @@ use Rattle.query_parts.specs.Order.{owns_endpoint}
 use Rattle.setup_report.specs.State.{rising}
 use Rattle.command_parts.specs.declared.ways.Passing.{Passing}
 use Rattle.command_parts.specs.declared.ways.Passing.TheVariants.{Message, Grant, Answer}
-use Rattle.command_parts.specs.Text.{parts_of, passes, may_pass, badges_by, is_use, is_of_part, is_of_endpoint, sends_with_any, may_send_any, badges, may_receive, receivers_on, receivers, way, ways_on}
+use Rattle.command_parts.specs.Text.{parts_of, passes_by, may_pass, badges_by, is_use, is_of_part, is_of_endpoint, sends_with_any, may_send_any, badges, may_part_receive, receivers_on, other_receivers, way, ways_on}
 
 -- ---- what a filter leaves out, a stricter test does not miss
 
@@ -75,21 +75,21 @@ module _ (p : ProfileName) (memory : List PartMemory) (uses : List PartUse) wher
       (filter_kept (is_use write_bit from endpoint) keep (λ u h. keeps write_bit u h) l)
 
   pub receivers_here : (endpoint : ℕ) (here : List PartUse) (parts : List ℕ) → here ≡ filter (is_of_endpoint endpoint) uses → parts ≡ parts_of memory →
-      filter (may_receive p memory here endpoint) parts ≡ receivers_on p memory uses endpoint
+      filter (may_part_receive p memory here endpoint) parts ≡ receivers_on p memory uses endpoint
   receivers_here endpoint here parts is all =
-      filter_agree (may_receive p memory here endpoint) (may_receive p memory uses endpoint) (λ part.
+      filter_agree (may_part_receive p memory here endpoint) (may_part_receive p memory uses endpoint) (λ part.
       ap (λ b. owns_endpoint p memory part endpoint || b)
       (ap (list_any (is_use read_bit part endpoint)) is
       ∙ any_kept (is_use read_bit part endpoint) (is_of_endpoint endpoint) (λ u h. left_true _ _ (right_true (u.part == part) _ h)) uses)) parts
-      ∙ ap (filter (may_receive p memory uses endpoint)) all
+      ∙ ap (filter (may_part_receive p memory uses endpoint)) all
 
-  others_are : (from endpoint : ℕ) → filter (λ other. not (other == from)) (receivers_on p memory uses endpoint) ≡ receivers p memory uses from endpoint
+  others_are : (from endpoint : ℕ) → filter (λ other. not (other == from)) (receivers_on p memory uses endpoint) ≡ other_receivers p memory uses from endpoint
   others_are from endpoint =
-      sym (filter_both (may_receive p memory uses endpoint) (λ other. not (other == from)) (parts_of memory))
-      ∙ filter_agree (λ other. may_receive p memory uses endpoint other && not (other == from)) (λ other. not (other == from) && may_receive p memory uses endpoint other)
-      (λ other. exchanged (may_receive p memory uses endpoint other) (not (other == from))) (parts_of memory)
+      sym (filter_both (may_part_receive p memory uses endpoint) (λ other. not (other == from)) (parts_of memory))
+      ∙ filter_agree (λ other. may_part_receive p memory uses endpoint other && not (other == from)) (λ other. not (other == from) && may_part_receive p memory uses endpoint other)
+      (λ other. exchanged (may_part_receive p memory uses endpoint other) (not (other == from))) (parts_of memory)
 
-  used : (passing : Passing) (from endpoint : ℕ) (u : PartUse) → passes passing from endpoint u ≡ true → is_use write_bit from endpoint u ≡ true
+  used : (passing : Passing) (from endpoint : ℕ) (u : PartUse) → passes_by passing from endpoint u ≡ true → is_use write_bit from endpoint u ≡ true
   used Message from endpoint u h = h
   used Grant from endpoint u h = left_true _ _ h
   used Answer from endpoint u h = left_true _ _ h
@@ -98,7 +98,7 @@ module _ (p : ProfileName) (memory : List PartMemory) (uses : List PartUse) wher
       may_pass passing p memory (filter keep l) from endpoint ≡ may_pass passing p memory l from endpoint
   kept_passes keep passing from endpoint keeps l =
       ap (λ b. owns_endpoint p memory from endpoint || b)
-      (any_kept (passes passing from endpoint) keep (λ u h. keeps write_bit u (used passing from endpoint u h)) l)
+      (any_kept (passes_by passing from endpoint) keep (λ u h. keeps write_bit u (used passing from endpoint u h)) l)
 
   kept_by : (keep : PartUse → Bool) (passing : Passing) (from endpoint : ℕ) → KeepsUses keep from endpoint → (l : List PartUse) →
       badges_by passing p memory (filter keep l) from endpoint ≡ badges_by passing p memory l from endpoint
@@ -123,7 +123,7 @@ module _ (p : ProfileName) (memory : List PartMemory) (uses : List PartUse) wher
   pub receivers_same : (list : List PartUse) → ((n : ℕ) → filter (is_of_endpoint n) list ≡ filter (is_of_endpoint n) uses) → (endpoint : ℕ) →
       receivers_on p memory list endpoint ≡ receivers_on p memory uses endpoint
   receivers_same list same endpoint =
-      filter_agree (may_receive p memory list endpoint) (may_receive p memory uses endpoint) (λ part.
+      filter_agree (may_part_receive p memory list endpoint) (may_part_receive p memory uses endpoint) (λ part.
       ap (λ b. owns_endpoint p memory part endpoint || b)
       (sym (any_kept (is_use read_bit part endpoint) (is_of_endpoint endpoint) (λ u h. of_endpoint part endpoint read_bit u h) list)
       ∙ ap (list_any (is_use read_bit part endpoint)) (same endpoint)

@@ -7,11 +7,11 @@ use Rattle.kernel_abstract.specs.Boot.{boot}
 use Rattle.kernel_abstract.specs.Step.{replies_of}
 use Rattle.setup_format.specs.Views.{SetupView, CallView}
 
-abbrev pub is_refused : Reply → Bool
-is_refused (Refused refusal) = true
-is_refused reply = false
+abbrev pub is_refused_reply : Reply → Bool
+is_refused_reply (Refused refusal) = true
+is_refused_reply reply = false
 
 -- how many of the first calls of a set-up are refused
 abbrev pub refused_behind : ProfileName → SetupView → ℕ → ℕ
 refused_behind p setup made =
-    count_by is_refused (replies_of p (boot p setup.plan) (take made (map (λ (c : CallView). c.call) setup.calls)))
+    count_by is_refused_reply (replies_of p (boot p setup.plan) (take made (map (λ (c : CallView). c.call) setup.calls)))

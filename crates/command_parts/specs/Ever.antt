@@ -22,7 +22,7 @@ pub record AreRightParts (p : ProfileName) (v : Shown) (trusted : List ℕ) (mem
   pub callers : AreInParts p memory (callers p v trusted)
 
 -- the text of such parts, where so many of the calls that are made were refused
-abbrev pub IsTextOf : ProfileName → Names → SetupView → ℕ → ℕ → List ℕ → List ℕ → Shown → List ℕ → Type 0
-IsTextOf p names setup made refused without messages v text =
+abbrev pub IsPartsText : ProfileName → Names → SetupView → ℕ → ℕ → List ℕ → List ℕ → Shown → List ℕ → Type 0
+IsPartsText p names setup made refused without messages v text =
     (memory : List PartMemory) × ((uses : List PartUse)
     × (AreRightParts p v (without ++ messages) memory uses × (text ≡ ever_text p names setup made refused without messages memory uses v)))

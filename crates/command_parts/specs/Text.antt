@@ -17,9 +17,14 @@ use Rattle.query_parts.specs.Order.{owns_endpoint}
 use Rattle.setup_values.specs.Names.{Names}
 use Rattle.setup_values.specs.Told.{profile_text, thread_name}
 use Rattle.setup_format.specs.Views.{SetupView}
-use Rattle.setup_report.specs.State.{rising, threads, endpoints}
+use Rattle.setup_report.specs.State.{is_in, rising, threads, endpoints}
 use Rattle.setup_report.specs.Text.{rights_text}
 use Rattle.setup_report.specs.Report.{terminated, threads_at}
+use Rattle.command_parts.specs.declared.takes.PartSlot.{PartSlot}
+use Rattle.command_parts.specs.declared.takes.Take.{Take}
+use Rattle.command_parts.specs.Messages.{passes_alone, uses_held}
+use Rattle.command_parts.specs.Takes.{part_slots, taken_by, takes, taking}
+pub use Rattle.command_parts.specs.Takes.{is_part}
 use Rattle.command_parts.specs.declared.ways.Way.{Way}
 use Rattle.command_parts.specs.declared.ways.Passing.{Passing}
 use Rattle.command_parts.specs.declared.ways.Passing.TheVariants.{Message, Grant, Answer}
@@ -34,9 +39,9 @@ abbrev pub calls_text : ℕ → ℕ → ℕ → List ℕ
 calls_text calls made refused = codes " calls " ++ (decimal calls ++ (codes " after " ++ (decimal made ++ refused_text refused)))
 
 -- of a text with this name, by a set-up of which so many calls are made, and so many of these refused
-abbrev pub head_line : List ℕ → SetupView → ℕ → ℕ → List ℕ
-head_line name setup made refused =
-    terminated (name ++ (codes " 2 " ++ (profile_text setup.profile ++ (codes " memory_bits " ++ (decimal setup.plan.memory_bits
+abbrev pub parts_head_line : List ℕ → SetupView → ℕ → ℕ → List ℕ
+parts_head_line name setup made refused =
+    terminated (name ++ (codes " 3 " ++ (profile_text setup.profile ++ (codes " memory_bits " ++ (decimal setup.plan.memory_bits
     ++ calls_text (length setup.calls) made refused)))))
 
 -- the word `none` behind a trusted thread that is not live
@@ -52,7 +57,7 @@ messages_line names v thread = terminated (codes "messages " ++ (thread_name nam
 -- the first line, the threads that make no more calls, and those that go on to send and receive alone
 abbrev pub head_lines : List ℕ → Names → SetupView → ℕ → ℕ → List ℕ → List ℕ → Shown → List ℕ
 head_lines name names setup made refused without messages v =
-    head_line name setup made refused ++ (flat_map (without_line names v) without ++ flat_map (messages_line names v) messages)
+    parts_head_line name setup made refused ++ (flat_map (without_line names v) without ++ flat_map (messages_line names v) messages)
 
 -- ---- a part: its live threads, its memory and the endpoints that it may use
 
@@ -66,33 +71,40 @@ abbrev pub state_line : List ℕ → Option ThreadState → List ℕ
 state_line name None = []
 state_line name (Some state) = terminated (codes "  thread " ++ (name ++ (codes " " ++ state_word state)))
 
--- a part is the one with a number
-abbrev pub is_part : ℕ → Option ℕ → Bool
-is_part part None = false
-is_part part (Some i) = i == part
-
-abbrev pub thread_line : Names → List PartMemory → ℕ → Shown → ℕ → List ℕ
-thread_line names memory part v thread =
+abbrev pub part_thread_line : Names → List PartMemory → ℕ → Shown → ℕ → List ℕ
+part_thread_line names memory part v thread =
     cond (is_part part (part_at memory thread)) (state_line (thread_name names thread) (state_at v thread)) []
 
 abbrev pub memory_line : ℕ → PartMemory → List ℕ
 memory_line part m =
     cond (m.part == part) (terminated (codes "  memory " ++ (decimal m.first ++ (codes " to " ++ decimal m.last)))) []
 
+-- of a part that only passes messages: a line that says so, and what it has
+abbrev pub held_line : PartUse → List ℕ
+held_line u =
+    terminated (codes "  use " ++ (decimal u.endpoint ++ (codes " badge " ++ (decimal u.badge.0 ++ (codes " rights " ++ rights_text u.rights)))))
+
+abbrev pub held_lines : List PartSlot → ℕ → List ℕ
+held_lines slots part = terminated (codes "  only messages") ++ flat_map held_line (uses_held slots part)
+
 -- 0 stands for any badge
-abbrev pub badge_text : ℕ → List ℕ
-badge_text badge = cond (badge == 0) (codes "any") (decimal badge)
+abbrev pub any_badge_text : ℕ → List ℕ
+any_badge_text badge = cond (badge == 0) (codes "any") (decimal badge)
 
 abbrev pub use_line : ℕ → PartUse → List ℕ
 use_line part u =
     cond (u.part == part)
-    (terminated (codes "  use " ++ (decimal u.endpoint ++ (codes " badge " ++ (badge_text u.badge.0 ++ (codes " rights " ++ rights_text u.rights)))))) []
+    (terminated (codes "  use " ++ (decimal u.endpoint ++ (codes " badge " ++ (any_badge_text u.badge.0 ++ (codes " rights " ++ rights_text u.rights)))))) []
 
-abbrev pub part_lines : ProfileName → Names → List PartMemory → List PartUse → Shown → ℕ → List ℕ
-part_lines p names memory uses v part =
+abbrev pub use_lines : List PartSlot → List ℕ → List PartUse → ℕ → List ℕ
+use_lines slots alone uses part = cond (is_in part alone) (held_lines slots part) (flat_map (use_line part) uses)
+
+-- some parts pass messages alone
+abbrev pub part_lines : ProfileName → Names → List PartMemory → List PartUse → Shown → List PartSlot → List ℕ → ℕ → List ℕ
+part_lines p names memory uses v slots alone part =
     terminated (codes "part " ++ decimal part)
-    ++ (flat_map (thread_line names memory part v) (threads p v)
-    ++ (flat_map (memory_line part) memory ++ flat_map (use_line part) uses))
+    ++ (flat_map (part_thread_line names memory part v) (threads p v)
+    ++ (flat_map (memory_line part) memory ++ use_lines slots alone uses part))
 
 -- ---- ways: from one part to another, by an endpoint that the one may send to, and the other receive on
 
@@ -120,24 +132,25 @@ badges p memory uses part endpoint =
     cond (may_send_any p memory uses part endpoint) (0 ∷ [])
     (rising (map (λ (u : PartUse). u.badge.0) (filter (is_use write_bit part endpoint) uses)))
 
-abbrev pub may_receive : ProfileName → List PartMemory → List PartUse → ℕ → ℕ → Bool
-may_receive p memory uses endpoint part = owns_endpoint p memory part endpoint || list_any (is_use read_bit part endpoint) uses
+abbrev pub may_part_receive : ProfileName → List PartMemory → List PartUse → ℕ → ℕ → Bool
+may_part_receive p memory uses endpoint part = owns_endpoint p memory part endpoint || list_any (is_use read_bit part endpoint) uses
 
 -- a use that a part has, and one of an endpoint
 abbrev pub is_of_part : ℕ → PartUse → Bool
 is_of_part part u = u.part == part
 
+-- a use of the endpoint
 abbrev pub is_of_endpoint : ℕ → PartUse → Bool
 is_of_endpoint endpoint u = u.endpoint == endpoint
 
 -- the parts that may receive on an endpoint
 abbrev pub receivers_on : ProfileName → List PartMemory → List PartUse → ℕ → List ℕ
-receivers_on p memory uses endpoint = filter (may_receive p memory uses endpoint) (parts_of memory)
+receivers_on p memory uses endpoint = filter (may_part_receive p memory uses endpoint) (parts_of memory)
 
 -- the other parts that may receive on an endpoint
-abbrev pub receivers : ProfileName → List PartMemory → List PartUse → ℕ → ℕ → List ℕ
-receivers p memory uses part endpoint =
-    filter (λ other. not (other == part) && may_receive p memory uses endpoint other) (parts_of memory)
+abbrev pub other_receivers : ProfileName → List PartMemory → List PartUse → ℕ → ℕ → List ℕ
+other_receivers p memory uses part endpoint =
+    filter (λ other. not (other == part) && may_part_receive p memory uses endpoint other) (parts_of memory)
 
 abbrev pub way : ℕ → ℕ → ℕ → ℕ → Way
 way from endpoint badge to = record { from = from; endpoint = endpoint; badge = badge; to = to }
@@ -150,13 +163,13 @@ hands_over part endpoint u = is_use write_bit part endpoint u && has_right grant
 abbrev pub is_answered : ℕ → ℕ → PartUse → Bool
 is_answered part endpoint u = is_use write_bit part endpoint u && (has_right grant_bit u.rights || has_right grant_reply_bit u.rights)
 
-abbrev pub passes : Passing → ℕ → ℕ → PartUse → Bool
-passes Message part endpoint u = is_use write_bit part endpoint u
-passes Grant part endpoint u = hands_over part endpoint u
-passes Answer part endpoint u = is_answered part endpoint u
+abbrev pub passes_by : Passing → ℕ → ℕ → PartUse → Bool
+passes_by Message part endpoint u = is_use write_bit part endpoint u
+passes_by Grant part endpoint u = hands_over part endpoint u
+passes_by Answer part endpoint u = is_answered part endpoint u
 
 abbrev pub may_pass : Passing → ProfileName → List PartMemory → List PartUse → ℕ → ℕ → Bool
-may_pass passing p memory uses part endpoint = owns_endpoint p memory part endpoint || list_any (passes passing part endpoint) uses
+may_pass passing p memory uses part endpoint = owns_endpoint p memory part endpoint || list_any (passes_by passing part endpoint) uses
 
 -- the badges of ways; where it is not messages that pass, 0 alone
 abbrev pub badges_by : Passing → ProfileName → List PartMemory → List PartUse → ℕ → ℕ → List ℕ
@@ -166,7 +179,7 @@ badges_by Answer p memory uses part endpoint = cond (may_pass Answer p memory us
 
 abbrev pub ways_on : Passing → ProfileName → List PartMemory → List PartUse → ℕ → ℕ → List Way
 ways_on passing p memory uses from endpoint =
-    flat_map (λ badge. map (way from endpoint badge) (receivers p memory uses from endpoint)) (badges_by passing p memory uses from endpoint)
+    flat_map (λ badge. map (way from endpoint badge) (other_receivers p memory uses from endpoint)) (badges_by passing p memory uses from endpoint)
 
 abbrev pub ways_from : Passing → ProfileName → List PartMemory → List PartUse → ℕ → List Way
 ways_from passing p memory uses from = flat_map (ways_on passing p memory uses from) (endpoints_used uses)
@@ -175,9 +188,28 @@ ways_from passing p memory uses from = flat_map (ways_on passing p memory uses f
 abbrev pub ways : Passing → ProfileName → List PartMemory → List PartUse → List Way
 ways passing p memory uses = flat_map (ways_from passing p memory uses) (parts_of memory)
 
+-- ---- the ways of messages, where some parts only pass messages: these send by what they have
+
+abbrev pub badges_held : List PartUse → ℕ → ℕ → List ℕ
+badges_held held part endpoint = rising (map (λ (u : PartUse). u.badge.0) (filter (is_use write_bit part endpoint) held))
+
+abbrev pub held_ways_on : ProfileName → List PartMemory → List PartUse → List PartUse → ℕ → ℕ → List Way
+held_ways_on p memory uses held from endpoint =
+    flat_map (λ badge. map (way from endpoint badge) (filter (λ other. not (other == from)) (receivers_on p memory uses endpoint))) (badges_held held from endpoint)
+
+abbrev pub held_ways_from : ProfileName → List PartMemory → List PartUse → List PartUse → ℕ → List Way
+held_ways_from p memory uses held from = flat_map (held_ways_on p memory uses held from) (endpoints_used uses)
+
+abbrev pub message_ways_from : ProfileName → List PartMemory → List PartUse → List PartSlot → List ℕ → ℕ → List Way
+message_ways_from p memory uses slots alone from =
+    cond (is_in from alone) (held_ways_from p memory uses (uses_held slots from) from) (ways_from Message p memory uses from)
+
+abbrev pub message_ways : ProfileName → List PartMemory → List PartUse → List PartSlot → List ℕ → List Way
+message_ways p memory uses slots alone = flat_map (message_ways_from p memory uses slots alone) (parts_of memory)
+
 abbrev pub way_line : Way → List ℕ
 way_line w =
-    terminated (codes "way " ++ (decimal w.from ++ (codes " -> " ++ (decimal w.endpoint ++ (codes " badge " ++ (badge_text w.badge
+    terminated (codes "way " ++ (decimal w.from ++ (codes " -> " ++ (decimal w.endpoint ++ (codes " badge " ++ (any_badge_text w.badge
     ++ (codes " -> " ++ decimal w.to)))))))
 
 abbrev pub passing_line : Passing → Way → List ℕ
@@ -190,7 +222,7 @@ passing_line Answer w =
 -- the same of two parts alone
 abbrev pub between_line : Passing → ProfileName → List PartMemory → List PartUse → ℕ → ℕ → ℕ → List ℕ
 between_line passing p memory uses from to endpoint =
-    cond (may_pass passing p memory uses from endpoint && may_receive p memory uses endpoint to) (passing_line passing (way from endpoint 0 to)) []
+    cond (may_pass passing p memory uses from endpoint && may_part_receive p memory uses endpoint to) (passing_line passing (way from endpoint 0 to)) []
 
 abbrev pub lines_of_two : Passing → ProfileName → List PartMemory → List PartUse → ℕ → ℕ → List ℕ
 lines_of_two passing p memory uses from to = flat_map (between_line passing p memory uses from to) (endpoints_used uses)
@@ -200,6 +232,18 @@ abbrev pub sel4_lines : ProfileName → List PartMemory → List PartUse → ℕ
 sel4_lines p memory uses i j =
     lines_of_two Grant p memory uses i j ++ (lines_of_two Grant p memory uses j i
     ++ (lines_of_two Answer p memory uses i j ++ lines_of_two Answer p memory uses j i))
+
+-- ---- takes: a part may take slots from another, where full slots of the other stand below its own
+
+abbrev pub take_line : Take → List ℕ
+take_line t = terminated (codes "take " ++ (decimal t.by ++ (codes " -> " ++ decimal t.of)))
+
+-- the same of two parts alone
+abbrev pub take_of_two : List PartSlot → ℕ → ℕ → List ℕ
+take_of_two list by of = cond (is_in of (taken_by list by)) (take_line (taking by of)) []
+
+abbrev pub takes_between : List PartMemory → Shown → ℕ → ℕ → List ℕ
+takes_between memory v i j = take_of_two (part_slots memory v.derivations) i j ++ take_of_two (part_slots memory v.derivations) j i
 
 -- ---- sends that wait: each may be delivered, whatever the uses are
 
@@ -214,23 +258,39 @@ waiting_line names v endpoint thread = offer_line (thread_name names thread) end
 abbrev pub waiting_lines : Names → Shown → ℕ → List ℕ
 waiting_lines names v endpoint = flat_map (waiting_line names v endpoint) (threads_at v endpoint)
 
-abbrev pub count_line : ℕ → ℕ → ℕ → ℕ → List ℕ
-count_line parts ways grants replies =
+abbrev pub parts_count_line : ℕ → ℕ → ℕ → ℕ → ℕ → List ℕ
+parts_count_line parts ways grants replies taken =
     terminated (codes "parts " ++ (decimal parts ++ (codes " ways " ++ (decimal ways ++ (codes " grants " ++ (decimal grants
-    ++ (codes " replies " ++ decimal replies)))))))
+    ++ (codes " replies " ++ (decimal replies ++ (codes " takes " ++ decimal taken)))))))))
+
+abbrev pub held_way_line : Way → List ℕ
+held_way_line w =
+    terminated (codes "way " ++ (decimal w.from ++ (codes " -> " ++ (decimal w.endpoint ++ (codes " badge " ++ (decimal w.badge ++ (codes " -> " ++ decimal w.to)))))))
+
+abbrev pub message_line : List ℕ → Way → List ℕ
+message_line alone w = cond (is_in w.from alone) (held_way_line w) (way_line w)
 
 -- ---- all of it
 
 abbrev pub way_lines : Passing → ProfileName → List PartMemory → List PartUse → List ℕ
 way_lines passing p memory uses = flat_map (passing_line passing) (ways passing p memory uses)
 
-unfoldable pub ever_lines : ProfileName → Names → List PartMemory → List PartUse → Shown → List ℕ
-ever_lines p names memory uses v =
-    flat_map (part_lines p names memory uses v) (parts_of memory)
-    ++ (way_lines Message p memory uses ++ (way_lines Grant p memory uses ++ (way_lines Answer p memory uses
+-- the lines by the full slots, and the parts that only pass messages
+unfoldable pub lines_by_slots : ProfileName → Names → List PartMemory → List PartUse → Shown → List PartSlot → List ℕ → List ℕ
+lines_by_slots p names memory uses v slots alone =
+    flat_map (part_lines p names memory uses v slots alone) (parts_of memory)
+    ++ (flat_map (message_line alone) (message_ways p memory uses slots alone)
+    ++ (way_lines Grant p memory uses ++ (way_lines Answer p memory uses
+    ++ (flat_map take_line (takes slots (parts_of memory))
     ++ (flat_map (waiting_lines names v) (endpoints p v)
-    ++ count_line (length (parts_of memory)) (length (ways Message p memory uses)) (length (ways Grant p memory uses))
-    (length (ways Answer p memory uses))))))
+    ++ parts_count_line (length (parts_of memory)) (length (message_ways p memory uses slots alone)) (length (ways Grant p memory uses))
+    (length (ways Answer p memory uses)) (length (takes slots (parts_of memory))))))))
+
+abbrev pub parts_alone : ProfileName → List PartMemory → Shown → List ℕ
+parts_alone p memory v = filter (passes_alone p (part_slots memory v.derivations)) (parts_of memory)
+
+unfoldable pub ever_lines : ProfileName → Names → List PartMemory → List PartUse → Shown → List ℕ
+ever_lines p names memory uses v = lines_by_slots p names memory uses v (part_slots memory v.derivations) (parts_alone p memory v)
 
 unfoldable pub ever_text : ProfileName → Names → SetupView → ℕ → ℕ → List ℕ → List ℕ → List PartMemory → List PartUse → Shown → List ℕ
 ever_text p names setup made refused without messages memory uses v =

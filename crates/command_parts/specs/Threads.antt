@@ -12,8 +12,8 @@ use Rattle.setup_report.specs.State.{is_in, rising, threads}
 use Rattle.command_parts.specs.declared.threads.Trust.{Trust}
 
 -- the objects of a kind that some words stand for, rising
-abbrev pub named : ObjectKind → ProfileName → Names → Plan → Shown → List (List ℕ) → List ℕ
-named kind p names plan v texts = rising (objects_meant kind p names plan v texts)
+abbrev pub objects_named : ObjectKind → ProfileName → Names → Plan → Shown → List (List ℕ) → List ℕ
+objects_named kind p names plan v texts = rising (objects_meant kind p names plan v texts)
 
 -- the words for the threads that are trusted: to make no more calls, and to send and receive alone
 pub record Trusted : Type 0 where

@@ -6,9 +6,9 @@ use Rattle.kernel_abstract.specs.State.{State, shown}
 use Rattle.setup_values.specs.Names.{Names}
 use Rattle.setup_format.specs.Views.{SetupView}
 use Rattle.setup_objects.specs.declared.meant.ObjectKind.TheVariants.{Thread}
-use Rattle.command_parts.specs.Threads.{Trusted, are_trusted, named}
+use Rattle.command_parts.specs.Threads.{Trusted, are_trusted, objects_named}
 use Rattle.command_parts.specs.Behind.{refused_behind}
-use Rattle.command_parts.specs.Ever.{IsTextOf}
+use Rattle.command_parts.specs.Ever.{IsPartsText}
 use Rattle.command_core.specs.declared.fault.Verdict.{Verdict}
 use Rattle.command_core.specs.declared.fault.Verdict.TheVariants.{AllMet, Absent}
 
@@ -17,7 +17,7 @@ use Rattle.command_core.specs.declared.fault.Verdict.TheVariants.{AllMet, Absent
 abbrev pub IsEverOf : Trusted → ProfileName → Names → SetupView → ℕ → ℕ → Shown → List ℕ → Verdict → Type 0
 IsEverOf trust p names setup made refused v text verdict =
     MatchBool (are_trusted p names setup.plan v trust)
-    (IsTextOf p names setup made refused (named Thread p names setup.plan v trust.without) (named Thread p names setup.plan v trust.messages) v text
+    (IsPartsText p names setup made refused (objects_named Thread p names setup.plan v trust.without) (objects_named Thread p names setup.plan v trust.messages) v text
     × (verdict ≡ AllMet))
     ((text ≡ []) × (verdict ≡ Absent))
 

@@ -14,13 +14,13 @@ use slot_core::MakeStore;
 use std::alloc::{AllocError, Global};
 
 fn is_refused(reply: &Reply) -> bool
-    ensures { result ≡ spec.is_refused reply.now }
+    ensures { result ≡ spec.is_refused_reply reply.now }
 {
     matches!(reply, Reply::Refused(_))
 }
 
 fn count_refused(replies: &[Reply]) -> usize
-    ensures { result ≡ count_by spec.is_refused replies.now }
+    ensures { result ≡ count_by spec.is_refused_reply replies.now }
 {
     replies.iter().filter(|reply| is_refused(reply)).count()
 }

@@ -48,9 +48,9 @@ impl Ever<'_> {
     ) -> Result<Vec<u8>, AllocError>
         requires limits { IsWithinLimits P.profile setup.now.plan }
         requires memory { (memory : ℕ) × IsInMemory P.profile memory kernel.now }
-        ensures { IfOk result (λ text. spec.IsTextOf P.profile (names_view names.now) setup.now made refused
-            (meant.named objects.Thread P.profile (names_view names.now) setup.now.plan kernel.now (trusted_by self.now.trust).without)
-            (meant.named objects.Thread P.profile (names_view names.now) setup.now.plan kernel.now (trusted_by self.now.trust).messages) kernel.now text.items) }
+        ensures { IfOk result (λ text. spec.IsPartsText P.profile (names_view names.now) setup.now made refused
+            (meant.objects_named objects.Thread P.profile (names_view names.now) setup.now.plan kernel.now (trusted_by self.now.trust).without)
+            (meant.objects_named objects.Thread P.profile (names_view names.now) setup.now.plan kernel.now (trusted_by self.now.trust).messages) kernel.now text.items) }
     {
         let Trust { without, messages } = self.trust;
         let without = named::<P, S, W>(alloc, names, setup, kernel, ObjectKind::Thread, without)?;

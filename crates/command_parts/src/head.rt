@@ -69,7 +69,7 @@ fn add_head(
     made: usize,
     refused: usize,
 ) -> Result<(), AllocError>
-    ensures { OnOk result (string_bytes out.new ≡ string_bytes out.old ++ spec.head_line name.now setup.now made refused) }
+    ensures { OnOk result (string_bytes out.new ≡ string_bytes out.old ++ spec.parts_head_line name.now setup.now made refused) }
 {
     let profile = profile_text(setup.profile());
     let memory_bits = setup.plan().memory_bits();
@@ -78,7 +78,7 @@ fn add_head(
         made,
         refused,
     };
-    writeln!(out, "{name} 2 {profile} memory_bits {memory_bits}{calls}")
+    writeln!(out, "{name} 3 {profile} memory_bits {memory_bits}{calls}")
 }
 
 /// What is told of an object that is not there.

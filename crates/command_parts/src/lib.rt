@@ -4,8 +4,11 @@
 mod behind;
 mod command;
 mod head;
+mod laws;
+mod messages;
 mod parts;
 mod sets;
+mod takes;
 mod text;
 mod threads;
 mod ways;
@@ -13,8 +16,12 @@ mod ways;
 pub use behind::kernel_behind;
 pub use command::Ever;
 pub use head::{Heading, add_heading, none_text};
+pub use laws::{parts_of_messages_keep_to_their_uses, what_is_not_told_is_not_taken};
 pub use parts::{BadgeText, is_of_part};
 pub use sets::{is_in, listed, rising};
+pub use takes::{PartSlot, Take, add_take_of, part_slots};
 pub use text::{all_trusted, ever, parts_of_callers};
 pub use threads::{Trust, named};
-pub use ways::{Passing, Way, add_sel4_lines, has_use_to_receive, has_use_to_send, ways_by};
+pub use ways::{
+    Passing, Way, add_sel4_lines, has_use_to_receive, has_use_to_send, uses_on, ways_by,
+};

@@ -10,6 +10,9 @@ ghost use Rattle.setup_report.specs.State.{threads as threads_of};
 ghost use Rattle.setup_values.specs.Told as told;
 ghost use Rattle.command_parts.specs.Text as spec;
 
+use crate::messages::uses_held;
+use crate::sets::is_in;
+use crate::takes::PartSlot;
 use cap_core::Profile;
 use ipc_core::Waiters;
 use kernel_core::{Kernel, ThreadState};
@@ -17,7 +20,7 @@ use query_parts::{PartMemory, PartUse, Parts, part_at};
 use setup_report::RightsText;
 use setup_values::{Name, thread_name};
 use slot_core::CapStore;
-use std::alloc::AllocError;
+use std::alloc::{AllocError, Global};
 use std::fmt;
 use std::fmt::Write;
 
@@ -26,7 +29,7 @@ use std::fmt::Write;
 pub struct BadgeText(pub u64);
 
 impl fmt::Display for BadgeText {
-    ghost output = { λ b. Some (spec.badge_text b.0) };
+    ghost output = { λ b. Some (spec.any_badge_text b.0) };
 
     fn fmt<W: fmt::Write>(&self, f: &mut fmt::Formatter<W>) -> fmt::Result {
         let badge = self.0;
@@ -87,7 +90,7 @@ fn add_thread<P: Profile, S: CapStore<P> + Drop, W: Waiters<P> + Drop>(
     thread: u64,
 ) -> Result<(), AllocError>
     ensures { OnOk result (string_bytes out.new ≡ string_bytes out.old
-        ++ spec.thread_line (names_view names.now) memory.now part kernel.now thread) }
+        ++ spec.part_thread_line (names_view names.now) memory.now part kernel.now thread) }
 {
     if is_of_part(memory, part, thread) {
         add_state::<P, S, W>(out, names, kernel, thread)
@@ -105,7 +108,7 @@ fn add_threads<P: Profile, S: CapStore<P> + Drop, W: Waiters<P> + Drop>(
     threads: &[u64],
 ) -> Result<(), AllocError>
     ensures { OnOk result (string_bytes out.new ≡ string_bytes out.old
-        ++ flat_map (spec.thread_line (names_view names.now) memory.now part kernel.now) threads.now) }
+        ++ flat_map (spec.part_thread_line (names_view names.now) memory.now part kernel.now) threads.now) }
 {
     for thread in threads {
         add_thread::<P, S, W>(out, names, kernel, memory, part, *thread)?;
@@ -156,6 +159,56 @@ fn add_uses(out: &mut String, part: u64, uses: &[PartUse]) -> Result<(), AllocEr
     Ok(())
 }
 
+fn add_held_use(out: &mut String, held: &PartUse) -> Result<(), AllocError>
+    ensures { OnOk result (string_bytes out.new ≡ string_bytes out.old ++ spec.held_line held.now) }
+{
+    let endpoint = held.endpoint;
+    let badge = held.badge.0;
+    let rights = RightsText(held.rights);
+    writeln!(out, "  use {endpoint} badge {badge} rights {rights}")
+}
+
+fn add_held_uses(out: &mut String, held: &[PartUse]) -> Result<(), AllocError>
+    ensures { OnOk result (string_bytes out.new ≡ string_bytes out.old ++ flat_map spec.held_line held.now) }
+{
+    for u in held {
+        add_held_use(out, u)?;
+    }
+    Ok(())
+}
+
+fn add_held(
+    alloc: Global,
+    out: &mut String,
+    part_slots: &[PartSlot],
+    part: u64,
+) -> Result<(), AllocError>
+    ensures { OnOk result (string_bytes out.new ≡ string_bytes out.old ++ spec.held_lines part_slots.now part) }
+{
+    let held = uses_held(alloc, part_slots, part)?;
+    writeln!(out, "  only messages")?;
+    add_held_uses(out, held.as_slice())
+}
+
+/// Adds the uses of a part; of one that only passes messages what it has, below a line that says so.
+fn add_uses_told(
+    alloc: Global,
+    out: &mut String,
+    part_slots: &[PartSlot],
+    alone: &[u64],
+    uses: &[PartUse],
+    part: u64,
+) -> Result<(), AllocError>
+    ensures { OnOk result (string_bytes out.new ≡ string_bytes out.old
+        ++ spec.use_lines part_slots.now alone.now uses.now part) }
+{
+    if is_in(alone, part) {
+        add_held(alloc, out, part_slots, part)
+    } else {
+        add_uses(out, part, uses)
+    }
+}
+
 fn add_number(out: &mut String, part: u64) -> Result<(), AllocError>
     ensures { OnOk result (string_bytes out.new ≡ string_bytes out.old ++ terminated (codes "part " ++ decimal part)) }
 {
@@ -163,21 +216,24 @@ fn add_number(out: &mut String, part: u64) -> Result<(), AllocError>
 }
 
 fn add_part<P: Profile, S: CapStore<P> + Drop, W: Waiters<P> + Drop>(
+    alloc: Global,
     out: &mut String,
     names: &[Name],
     kernel: &Kernel<P, S, W>,
     threads: &[u64],
     parts: &Parts,
+    part_slots: &[PartSlot],
+    alone: &[u64],
     part: u64,
 ) -> Result<(), AllocError>
     requires { threads.now ≡ threads_of P.profile kernel.now }
     ensures { OnOk result (string_bytes out.new ≡ string_bytes out.old
-        ++ spec.part_lines P.profile (names_view names.now) parts.now.memory.items parts.now.uses.items kernel.now part) }
+        ++ spec.part_lines P.profile (names_view names.now) parts.now.memory.items parts.now.uses.items kernel.now part_slots.now alone.now part) }
 {
     add_number(out, part)?;
     add_threads::<P, S, W>(out, names, kernel, parts.memory.as_slice(), part, threads)?;
     add_memory(out, part, parts.memory.as_slice())?;
-    add_uses(out, part, parts.uses.as_slice())
+    add_uses_told(alloc, out, part_slots, alone, parts.uses.as_slice(), part)
 }
 
 /// Adds the lines of parts, by their numbers.
@@ -186,19 +242,24 @@ fn add_part<P: Profile, S: CapStore<P> + Drop, W: Waiters<P> + Drop>(
 ///
 /// Memory was refused.
 pub fn add_parts<P: Profile, S: CapStore<P> + Drop, W: Waiters<P> + Drop>(
+    alloc: Global,
     out: &mut String,
     names: &[Name],
     kernel: &Kernel<P, S, W>,
     threads: &[u64],
     parts: &Parts,
+    part_slots: &[PartSlot],
+    alone: &[u64],
     numbers: &[u64],
 ) -> Result<(), AllocError>
     requires { threads.now ≡ threads_of P.profile kernel.now }
     ensures { OnOk result (string_bytes out.new ≡ string_bytes out.old
-        ++ flat_map (spec.part_lines P.profile (names_view names.now) parts.now.memory.items parts.now.uses.items kernel.now) numbers.now) }
+        ++ flat_map (spec.part_lines P.profile (names_view names.now) parts.now.memory.items parts.now.uses.items kernel.now part_slots.now alone.now) numbers.now) }
 {
     for part in numbers {
-        add_part::<P, S, W>(out, names, kernel, threads, parts, *part)?;
+        add_part::<P, S, W>(
+            alloc, out, names, kernel, threads, parts, part_slots, alone, *part,
+        )?;
     }
     Ok(())
 }

@@ -4,14 +4,17 @@ ghost use Rattle.std.specs.List.{flat_map};
 ghost use Rattle.kernel_abstract.specs.Memory.{IsInMemory};
 ghost use Rattle.setup_values.specs.Names.{names_view};
 ghost use Rattle.setup_report.specs.State as state;
+ghost use Rattle.command_parts.specs.Takes.{takes as spec_takes};
 ghost use Rattle.command_parts.specs.Text as spec;
-ghost use Rattle.command_parts.specs.Ever.{AreRightParts, IsTextOf};
+ghost use Rattle.command_parts.specs.Ever.{AreRightParts, IsPartsText};
 
 use crate::head::{Heading, add_heading};
+use crate::messages::messengers;
 use crate::parts::add_parts;
 use crate::sets::listed;
+use crate::takes::{PartSlot, add_takes, part_slots, takes};
 use crate::threads::callers;
-use crate::ways::{Passing, add_ways, parts_of, ways_by};
+use crate::ways::{Passing, add_messages, add_ways, message_ways, parts_of, ways_by};
 use cap_core::Profile;
 use ipc_core::Waiters;
 use kernel_core::Kernel;
@@ -95,12 +98,13 @@ fn add_count(
     ways: usize,
     grants: usize,
     replies: usize,
+    takes: usize,
 ) -> Result<(), AllocError>
-    ensures { OnOk result (string_bytes out.new ≡ string_bytes out.old ++ spec.count_line parts ways grants replies) }
+    ensures { OnOk result (string_bytes out.new ≡ string_bytes out.old ++ spec.parts_count_line parts ways grants replies takes) }
 {
     writeln!(
         out,
-        "parts {parts} ways {ways} grants {grants} replies {replies}"
+        "parts {parts} ways {ways} grants {grants} replies {replies} takes {takes}"
     )
 }
 
@@ -123,7 +127,74 @@ fn add_passing<P: Profile>(
     Ok(ways.len())
 }
 
-/// Adds the lines of parts, of the ways between them, and of the sends that wait.
+/// Adds the lines of the ways by which messages pass, and tells how many there are.
+fn add_message_passing<P: Profile>(
+    alloc: Global,
+    out: &mut String,
+    parts: &Parts,
+    numbers: &[u64],
+    part_slots: &[PartSlot],
+    alone: &[u64],
+) -> Result<usize, AllocError>
+    requires { numbers.now ≡ spec.parts_of parts.now.memory.items }
+    ensures lines { OnOk result (string_bytes out.new ≡ string_bytes out.old
+        ++ flat_map (spec.message_line alone.now) (spec.message_ways P.profile parts.now.memory.items parts.now.uses.items part_slots.now alone.now)) }
+    ensures count { IfOk result (λ n. n ≡ length (spec.message_ways P.profile parts.now.memory.items parts.now.uses.items part_slots.now alone.now)) }
+{
+    let memory = parts.memory.as_slice();
+    let uses = parts.uses.as_slice();
+    let ways = message_ways::<P>(alloc, memory, uses, numbers, part_slots, alone)?;
+    add_messages(out, alone, ways.as_slice())?;
+    Ok(ways.len())
+}
+
+/// Adds the lines of the parts from which others may take slots, and tells how many there are.
+fn add_taken(
+    alloc: Global,
+    out: &mut String,
+    part_slots: &[PartSlot],
+    numbers: &[u64],
+) -> Result<usize, AllocError>
+    ensures lines { OnOk result (string_bytes out.new ≡ string_bytes out.old ++ flat_map spec.take_line (spec_takes part_slots.now numbers.now)) }
+    ensures count { IfOk result (λ n. n ≡ length (spec_takes part_slots.now numbers.now)) }
+{
+    let taken = takes(alloc, part_slots, numbers)?;
+    add_takes(out, taken.as_slice())?;
+    Ok(taken.len())
+}
+
+/// Adds the lines by the full slots, and the parts that only pass messages.
+#[tactic(auto, unfolding(crate::specs::Text::lines_by_slots))]
+fn add_lines_by_slots<P: Profile, S: DerivationStore<P> + Drop, W: Waiters<P> + Drop>(
+    alloc: Global,
+    out: &mut String,
+    names: &[Name],
+    kernel: &Kernel<P, S, W>,
+    threads: &[u64],
+    endpoints: &[u64],
+    parts: &Parts,
+    numbers: &[u64],
+    part_slots: &[PartSlot],
+    alone: &[u64],
+) -> Result<(), AllocError>
+    requires threads { threads.now ≡ state.threads P.profile kernel.now }
+    requires endpoints { endpoints.now ≡ state.endpoints P.profile kernel.now }
+    requires numbers { numbers.now ≡ spec.parts_of parts.now.memory.items }
+    ensures { OnOk result (string_bytes out.new ≡ string_bytes out.old
+        ++ spec.lines_by_slots P.profile (names_view names.now) parts.now.memory.items parts.now.uses.items kernel.now part_slots.now alone.now) }
+{
+    add_parts::<P, S, W>(
+        alloc, out, names, kernel, threads, parts, part_slots, alone, numbers,
+    )?;
+    let ways = add_message_passing::<P>(alloc, out, parts, numbers, part_slots, alone)?;
+    let grants = add_passing::<P>(alloc, out, parts, numbers, Passing::Grant)?;
+    let replies = add_passing::<P>(alloc, out, parts, numbers, Passing::Answer)?;
+    let taken = add_taken(alloc, out, part_slots, numbers)?;
+    add_waiting::<P, S, W>(alloc, out, names, kernel, endpoints)?;
+    add_count(out, numbers.len(), ways, grants, replies, taken)
+}
+
+/// Adds the lines of parts, of the ways between them, of who may take slots from whom, and of the sends that wait.
 #[tactic(auto, unfolding(crate::specs::Text::ever_lines))]
 fn add_lines<P: Profile, S: DerivationStore<P> + Drop, W: Waiters<P> + Drop>(
     alloc: Global,
@@ -139,13 +210,16 @@ fn add_lines<P: Profile, S: DerivationStore<P> + Drop, W: Waiters<P> + Drop>(
     ensures { OnOk result (string_bytes out.new ≡ string_bytes out.old
         ++ spec.ever_lines P.profile (names_view names.now) parts.now.memory.items parts.now.uses.items kernel.now) }
 {
-    let numbers = parts_of(alloc, parts.memory.as_slice())?;
-    add_parts::<P, S, W>(out, names, kernel, threads, parts, numbers.as_slice())?;
-    let ways = add_passing::<P>(alloc, out, parts, numbers.as_slice(), Passing::Message)?;
-    let grants = add_passing::<P>(alloc, out, parts, numbers.as_slice(), Passing::Grant)?;
-    let replies = add_passing::<P>(alloc, out, parts, numbers.as_slice(), Passing::Answer)?;
-    add_waiting::<P, S, W>(alloc, out, names, kernel, endpoints)?;
-    add_count(out, numbers.len(), ways, grants, replies)
+    let memory = parts.memory.as_slice();
+    let numbers = parts_of(alloc, memory)?;
+    let numbers = numbers.as_slice();
+    let slots = part_slots::<P, S, W>(alloc, memory, kernel)?;
+    let slots = slots.as_slice();
+    let alone = messengers::<P>(alloc, slots, numbers)?;
+    let alone = alone.as_slice();
+    add_lines_by_slots::<P, S, W>(
+        alloc, out, names, kernel, threads, endpoints, parts, numbers, slots, alone,
+    )
 }
 
 /// The text of parts that are given.
@@ -226,7 +300,7 @@ pub fn ever<P: Profile, S: DerivationStore<P> + Drop, W: Waiters<P> + Drop>(
     heading: &Heading<'_>,
     kernel: &Kernel<P, S, W>,
 ) -> Result<Vec<u8>, PartsFault>
-    ensures text { IfOk result (λ text. IsTextOf P.profile (names_view names.now) heading.now.setup.now heading.now.made heading.now.refused heading.now.without.now heading.now.messages.now kernel.now text.items) }
+    ensures text { IfOk result (λ text. IsPartsText P.profile (names_view names.now) heading.now.setup.now heading.now.made heading.now.refused heading.now.without.now heading.now.messages.now kernel.now text.items) }
     ensures fault { IfErr result (λ fault. fault ≡ PartsFault.Block → (memory : ℕ) → IsInMemory P.profile memory kernel.now → ⊥) }
 {
     let rows = state_rows::<P, S, W>(alloc, kernel)?;

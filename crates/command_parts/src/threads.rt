@@ -92,7 +92,7 @@ pub fn named<P: Profile, S: CapStore<P> + Drop, W: Waiters<P> + Drop>(
     words: &[&str],
 ) -> Result<Vec<u64>, AllocError>
     requires { IsWithinLimits P.profile setup.now.plan }
-    ensures { IfOk result (λ v. v.items ≡ spec.named kind P.profile (names_view names.now) setup.now.plan kernel.now (map (λ w. w.now) words.now)) }
+    ensures { IfOk result (λ v. v.items ≡ spec.objects_named kind P.profile (names_view names.now) setup.now.plan kernel.now (map (λ w. w.now) words.now)) }
 {
     let objects = objects_meant::<P, S, W>(alloc, names, setup, kernel, kind, words)?;
     rising(alloc, objects.as_slice())

@@ -6,8 +6,10 @@ ghost use Rattle.query_parts.specs.Keyed.{AreByKey};
 ghost use Rattle.query_parts.specs.declared.keyed.UseKey.TheVariants.{Endpoint};
 ghost use Rattle.command_parts.specs.Text as spec;
 
+use crate::messages::uses_held;
 use crate::parts::BadgeText;
-use crate::sets::rising;
+use crate::sets::{is_in, rising};
+use crate::takes::PartSlot;
 use bitflags::Flags;
 use cap_core::{Profile, Rights};
 use query_parts::{PartMemory, PartUse, UseKey, owns_endpoint, uses_at, uses_by_key};
@@ -92,7 +94,7 @@ fn may_receive<P: Profile>(
     endpoint: u64,
     part: u64,
 ) -> bool
-    ensures { result ≡ spec.may_receive P.profile memory.now uses.now endpoint part }
+    ensures { result ≡ spec.may_part_receive P.profile memory.now uses.now endpoint part }
 {
     owns_endpoint::<P>(memory, part, endpoint) || has_use_to_receive(uses, part, endpoint)
 }
@@ -156,7 +158,7 @@ fn may_be_answered(allowed: &PartUse, part: u64, endpoint: u64) -> bool
 
 /// Whether it passes by a use, which is of the part and of the endpoint.
 fn passes(allowed: &PartUse, passing: Passing, part: u64, endpoint: u64) -> bool
-    ensures { result ≡ spec.passes passing part endpoint allowed.now }
+    ensures { result ≡ spec.passes_by passing part endpoint allowed.now }
 {
     match passing {
         Passing::Message => may_send(allowed, part, endpoint),
@@ -166,7 +168,7 @@ fn passes(allowed: &PartUse, passing: Passing, part: u64, endpoint: u64) -> bool
 }
 
 fn has_use_that_passes(uses: &[PartUse], passing: Passing, part: u64, endpoint: u64) -> bool
-    ensures { result ≡ list_any (spec.passes passing part endpoint) uses.now }
+    ensures { result ≡ list_any (spec.passes_by passing part endpoint) uses.now }
 {
     uses.iter().any(|u| passes(u, passing, part, endpoint))
 }
@@ -228,7 +230,7 @@ fn uses_of(alloc: Global, uses: &[PartUse], part: u64) -> Result<Vec<PartUse>, A
 }
 
 /// The uses of an endpoint, of uses by rising endpoint.
-fn uses_on(uses: &[PartUse], endpoint: u64) -> &[PartUse]
+pub fn uses_on(uses: &[PartUse], endpoint: u64) -> &[PartUse]
     requires { AreByKey Endpoint uses.now }
     ensures { result.now ≡ filter (spec.is_of_endpoint endpoint) uses.entry.now }
 {
@@ -243,7 +245,7 @@ fn parts_that_receive<P: Profile>(
     parts: &[u64],
     endpoint: u64,
 ) -> Result<Vec<u64>, AllocError>
-    ensures { IfOk result (λ v. v.items ≡ filter (spec.may_receive P.profile memory.now uses.now endpoint) parts.now) }
+    ensures { IfOk result (λ v. v.items ≡ filter (spec.may_part_receive P.profile memory.now uses.now endpoint) parts.now) }
 {
     parts
         .iter()
@@ -287,7 +289,11 @@ fn all_receivers<P: Profile>(
 }
 
 /// The others of some parts.
-fn others(alloc: Global, parts: &[u64], from: u64) -> Result<Vec<u64>, AllocError>
+///
+/// # Errors
+///
+/// Memory was refused.
+pub fn others(alloc: Global, parts: &[u64], from: u64) -> Result<Vec<u64>, AllocError>
     ensures { IfOk result (λ v. v.items ≡ filter (λ other. not (other == from)) parts.now) }
 {
     parts
@@ -434,6 +440,178 @@ pub fn ways_by<P: Profile>(
         alloc, &mut ways, memory, uses, parts, endpoints, receivers, passing,
     )?;
     Ok(ways)
+}
+
+/// The badges with which a part that only passes messages may send to an endpoint, by the capabilities that it has.
+fn badges_held(
+    alloc: Global,
+    held: &[PartUse],
+    part: u64,
+    endpoint: u64,
+) -> Result<Vec<u64>, AllocError>
+    ensures { IfOk result (λ v. v.items ≡ spec.badges_held held.now part endpoint) }
+{
+    let own = own_badges(alloc, held, part, endpoint)?;
+    rising(alloc, own.as_slice())
+}
+
+fn add_held_ways_on(
+    alloc: Global,
+    ways: &mut Vec<Way>,
+    held: &[PartUse],
+    receivers: &[u64],
+    from: u64,
+    endpoint: u64,
+) -> Result<(), AllocError>
+    ensures { OnOk result (ways.new.items ≡ ways.old.items
+        ++ flat_map (λ badge. map (spec.way from endpoint badge) (filter (λ other. not (other == from)) receivers.now))
+        (spec.badges_held held.now from endpoint)) }
+{
+    let badges = badges_held(alloc, held, from, endpoint)?;
+    let receivers = others(alloc, receivers, from)?;
+    add_ways_with(
+        ways,
+        badges.as_slice(),
+        receivers.as_slice(),
+        from,
+        endpoint,
+    )
+}
+
+/// Adds the ways of messages from a part that has only these uses, by the parts that may receive on each endpoint that is used.
+/// Only the clauses speak of `_memory` and `_uses`.
+fn add_held_ways<P: Profile>(
+    alloc: Global,
+    ways: &mut Vec<Way>,
+    _memory: &[PartMemory],
+    _uses: &[PartUse],
+    held: &[PartUse],
+    endpoints: &[u64],
+    receivers: &[Vec<u64>],
+    from: u64,
+) -> Result<(), AllocError>
+    requires endpoints { endpoints.now ≡ spec.endpoints_used _uses.now }
+    requires receivers { map (λ v. v.items) receivers.now ≡ map (spec.receivers_on P.profile _memory.now _uses.now) endpoints.now }
+    ensures { OnOk result (ways.new.items ≡ ways.old.items ++ spec.held_ways_from P.profile _memory.now _uses.now held.now from) }
+{
+    for (place, endpoint) in endpoints.iter().enumerate() {
+        let heard = receivers[place].as_slice();
+        add_held_ways_on(alloc, ways, held, heard, from, *endpoint)?;
+    }
+    Ok(())
+}
+
+fn add_message_ways_from<P: Profile>(
+    alloc: Global,
+    ways: &mut Vec<Way>,
+    memory: &[PartMemory],
+    uses: &[PartUse],
+    endpoints: &[u64],
+    receivers: &[Vec<u64>],
+    part_slots: &[PartSlot],
+    alone: &[u64],
+    from: u64,
+) -> Result<(), AllocError>
+    requires endpoints { endpoints.now ≡ spec.endpoints_used uses.now }
+    requires receivers { map (λ v. v.items) receivers.now ≡ map (spec.receivers_on P.profile memory.now uses.now) endpoints.now }
+    ensures { OnOk result (ways.new.items ≡ ways.old.items
+        ++ spec.message_ways_from P.profile memory.now uses.now part_slots.now alone.now from) }
+{
+    if is_in(alone, from) {
+        let held = uses_held(alloc, part_slots, from)?;
+        let held = held.as_slice();
+        return add_held_ways::<P>(alloc, ways, memory, uses, held, endpoints, receivers, from);
+    }
+    let passing = Passing::Message;
+    add_ways_from::<P>(
+        alloc, ways, memory, uses, endpoints, receivers, passing, from,
+    )
+}
+
+fn add_message_ways<P: Profile>(
+    alloc: Global,
+    ways: &mut Vec<Way>,
+    memory: &[PartMemory],
+    uses: &[PartUse],
+    parts: &[u64],
+    endpoints: &[u64],
+    receivers: &[Vec<u64>],
+    part_slots: &[PartSlot],
+    alone: &[u64],
+) -> Result<(), AllocError>
+    requires parts { parts.now ≡ spec.parts_of memory.now }
+    requires endpoints { endpoints.now ≡ spec.endpoints_used uses.now }
+    requires receivers { map (λ v. v.items) receivers.now ≡ map (spec.receivers_on P.profile memory.now uses.now) endpoints.now }
+    ensures { OnOk result (ways.new.items ≡ ways.old.items
+        ++ spec.message_ways P.profile memory.now uses.now part_slots.now alone.now) }
+{
+    for from in parts {
+        add_message_ways_from::<P>(
+            alloc, ways, memory, uses, endpoints, receivers, part_slots, alone, *from,
+        )?;
+    }
+    Ok(())
+}
+
+/// The ways between parts by which messages pass, where some parts only pass messages: these send by what they have.
+///
+/// # Errors
+///
+/// Memory was refused.
+pub fn message_ways<P: Profile>(
+    alloc: Global,
+    memory: &[PartMemory],
+    uses: &[PartUse],
+    parts: &[u64],
+    part_slots: &[PartSlot],
+    alone: &[u64],
+) -> Result<Vec<Way>, AllocError>
+    requires { parts.now ≡ spec.parts_of memory.now }
+    ensures { IfOk result (λ v. v.items ≡ spec.message_ways P.profile memory.now uses.now part_slots.now alone.now) }
+{
+    let mut ways = Vec::new(alloc);
+    let endpoints = endpoints_used(alloc, uses)?;
+    let endpoints = endpoints.as_slice();
+    let receivers = all_receivers::<P>(alloc, memory, uses, parts, endpoints)?;
+    let receivers = receivers.as_slice();
+    add_message_ways::<P>(
+        alloc, &mut ways, memory, uses, parts, endpoints, receivers, part_slots, alone,
+    )?;
+    Ok(ways)
+}
+
+fn add_held_way(out: &mut String, way: &Way) -> Result<(), AllocError>
+    ensures { OnOk result (string_bytes out.new ≡ string_bytes out.old ++ spec.held_way_line way.now) }
+{
+    let from = way.from;
+    let endpoint = way.endpoint;
+    let badge = way.badge;
+    let to = way.to;
+    writeln!(out, "way {from} -> {endpoint} badge {badge} -> {to}")
+}
+
+fn add_message_told(out: &mut String, alone: &[u64], way: &Way) -> Result<(), AllocError>
+    ensures { OnOk result (string_bytes out.new ≡ string_bytes out.old ++ spec.message_line alone.now way.now) }
+{
+    if is_in(alone, way.from) {
+        add_held_way(out, way)
+    } else {
+        add_message(out, way)
+    }
+}
+
+/// Adds a line for each way by which messages pass, where some parts only pass messages.
+///
+/// # Errors
+///
+/// Memory was refused.
+pub fn add_messages(out: &mut String, alone: &[u64], ways: &[Way]) -> Result<(), AllocError>
+    ensures { OnOk result (string_bytes out.new ≡ string_bytes out.old ++ flat_map (spec.message_line alone.now) ways.now) }
+{
+    for way in ways {
+        add_message_told(out, alone, way)?;
+    }
+    Ok(())
 }
 
 fn add_message(out: &mut String, way: &Way) -> Result<(), AllocError>

@@ -5,7 +5,7 @@ use Rattle.kernel_abstract.specs.Boot.{boot}
 use Rattle.kernel_abstract.specs.State.{shown}
 use Rattle.kernel_abstract.specs.Step.{state_after, replies_of}
 use Rattle.setup_report.proofs.Runs.{boot_reached}
-use Rattle.command_parts.specs.Behind.{is_refused}
+use Rattle.command_parts.specs.Behind.{is_refused_reply}
 use Rattle.command_parts.proofs.behind.kernel_behind.Goals as goal
 
 pub returns : goal.returns
@@ -17,7 +17,7 @@ returns g c =
       shows = c.run.ensures.stands (boot p plan) (boot_reached p plan c.requires.plan) booted
           ∙ ap (λ l. shown (state_after p (boot p plan) l)) c.first_calls.ensures.calls;
       refused = c.count_refused.ensures
-          ∙ ap (count_by is_refused) (c.as_slice.ensures.value
+          ∙ ap (count_by is_refused_reply) (c.as_slice.ensures.value
           ∙ (c.run.ensures.replies (boot p plan) (boot_reached p plan c.requires.plan) booted
           ∙ (ap (λ (l : List Reply). l ++ replies_of p (boot p plan) c.first_calls.result.now) c.in_ok-replies.ensures.items
           ∙ ap (replies_of p (boot p plan)) c.first_calls.ensures.calls)));

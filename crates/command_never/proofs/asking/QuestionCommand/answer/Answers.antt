@@ -8,7 +8,7 @@ use Rattle.setup_values.specs.Names.{names_view}
 use Rattle.setup_report.specs.Behind.{state_behind}
 use Rattle.command_check.specs.Commands.{IsAnswerAfter}
 use Rattle.command_parts.specs.Behind.{refused_behind}
-use Rattle.command_never.specs.Never.{asked_of, IsNeverBy, IsNever}
+use Rattle.command_never.specs.Never.{asked_never, IsNeverBy, IsNever}
 use Rattle.command_never.proofs.asking.QuestionCommand.answer.Goals as goal
 
 pub returns : goal.returns
@@ -16,7 +16,7 @@ returns g c =
     let p = g.P.Profile.profile in
     let setup = c.args.read.setup in
     let made = c.in-Some.made in
-    let asked = asked_of c.args.self.now in
+    let asked = asked_never c.args.self.now in
     let v = shown (state_behind p setup made) in
     let refused = refused_behind p setup made in
     subst (λ (o : Option ℕ). IfOk c.answer_by.result (λ answer. IsAnswerAfter (IsNever asked p (names_view c.args.read.names.items) setup) p setup o answer.text.items answer.verdict)) c.in-Some.ensures

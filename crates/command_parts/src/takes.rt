@@ -1,0 +1,235 @@
+//! Which parts may take slots from which: a revoke clears what stands below a slot, whoever has it.
+ghost use Rattle.std.specs.Prelude.{◌≡◌, ◌++◌, ◌∷◌, ◌||◌, [], ℕ, IfOk, List, OnOk, cond, map, string_bytes};
+ghost use Rattle.std.specs.List.{flat_map};
+ghost use Rattle.slot_core.specs.Calls.{derivation_view};
+ghost use Rattle.setup_report.specs.State.{rising as rising_of};
+ghost use Rattle.command_parts.specs.Takes as spec;
+ghost use Rattle.command_parts.specs.Text as text;
+
+use crate::sets::{is_in, rising};
+use crate::ways::others;
+use cap_core::{Cap, Profile};
+use ipc_core::Waiters;
+use kernel_core::Kernel;
+use query_parts::{PartMemory, part_at};
+use slot_core::{Derivation, DerivationStore};
+use std::alloc::{AllocError, Global};
+use std::collections::BTreeSet;
+use std::fmt::Write;
+
+/// A full slot: its address, what it holds, the address of the slot that it stands right below, and the part in which it lies.
+#[derive(Clone, Copy)]
+pub struct PartSlot {
+    pub slot: u64,
+    pub cap: Cap,
+    pub above: Option<u64>,
+    pub part: Option<u64>,
+}
+
+/// A part, and another from which it may take slots.
+#[derive(Clone, Copy)]
+pub struct Take {
+    pub by: u64,
+    pub of: u64,
+}
+
+fn part_slot<P: Profile>(memory: &[PartMemory], derivation: &Derivation) -> PartSlot
+    ensures { result ≡ spec.part_slot memory.now (derivation_view P.profile derivation.now) }
+{
+    let slot = derivation.slot.address::<P>();
+    let above = match derivation.parent {
+        Some(parent) => Some(parent.address::<P>()),
+        None => None,
+    };
+    let part = part_at(memory, slot);
+    let cap = derivation.cap;
+    PartSlot {
+        slot,
+        cap,
+        above,
+        part,
+    }
+}
+
+fn part_slots_of<P: Profile>(
+    alloc: Global,
+    memory: &[PartMemory],
+    derivations: &[Derivation],
+) -> Result<Vec<PartSlot>, AllocError>
+    ensures { IfOk result (λ v. v.items ≡ map (λ d. spec.part_slot memory.now (derivation_view P.profile d)) derivations.now) }
+{
+    derivations
+        .iter()
+        .map(|d| part_slot::<P>(memory, d))
+        .collect(alloc)
+}
+
+/// The full slots of a kernel, each before those below it.
+///
+/// # Errors
+///
+/// Memory was refused.
+pub fn part_slots<P: Profile, S: DerivationStore<P> + Drop, W: Waiters<P> + Drop>(
+    alloc: Global,
+    memory: &[PartMemory],
+    kernel: &Kernel<P, S, W>,
+) -> Result<Vec<PartSlot>, AllocError>
+    ensures { IfOk result (λ v. v.items ≡ spec.part_slots memory.now kernel.now.derivations) }
+{
+    let derivations = kernel.derivations(alloc)?;
+    part_slots_of::<P>(alloc, memory, derivations.as_slice())
+}
+
+/// Whether a slot stands right below one of some.
+#[tactic(auto, using(crate::proofs::Walked::contained))]
+fn is_beneath(slots: &BTreeSet<u64>, above: Option<u64>) -> bool
+    ensures { (all : List ℕ) → slots.now.keys ≡ rising_of all → result ≡ spec.is_beneath all above }
+{
+    match above {
+        Some(slot) => slots.contains(&slot),
+        None => false,
+    }
+}
+
+/// Whether a part is the one with a number.
+pub fn is_number(of: Option<u64>, part: u64) -> bool
+    ensures { result ≡ spec.is_part part of }
+{
+    match of {
+        Some(number) => number == part,
+        None => false,
+    }
+}
+
+/// Whether a slot is of a part, or stands below one that is.
+fn is_kept(under: bool, part: u64, of: Option<u64>) -> bool
+    ensures { result ≡ (under || spec.is_part part of) }
+{
+    under || is_number(of, part)
+}
+
+/// Adds a slot to a set, where it is to be kept.
+fn keep_slot(slots: &mut BTreeSet<u64>, slot: u64, keeps: bool) -> Result<(), AllocError>
+    ensures { OnOk result ((all : List ℕ) → slots.old.keys ≡ rising_of all → slots.new.keys ≡ rising_of (cond keeps (slot ∷ all) all)) }
+{
+    if keeps {
+        slots.insert(slot)?;
+    }
+    Ok(())
+}
+
+fn keep_part(below: &mut Vec<u64>, part: Option<u64>, keeps: bool) -> Result<(), AllocError>
+    ensures { OnOk result (below.new.items ≡ below.old.items ++ cond keeps (spec.part_or_none part) []) }
+{
+    match part {
+        Some(number) if keeps => {
+            below.push(number)?;
+            Ok(())
+        }
+        _ => Ok(()),
+    }
+}
+
+/// Looks at one slot more: `slots` has those so far that are of a part or stand below one that is.
+fn look_at(
+    slots: &mut BTreeSet<u64>,
+    below: &mut Vec<u64>,
+    part: u64,
+    part_slot: &PartSlot,
+) -> Result<(), AllocError>
+    ensures slots { OnOk result ((all : List ℕ) → slots.old.keys ≡ rising_of all → slots.new.keys ≡ rising_of (spec.with_slot part all part_slot.now)) }
+    ensures below { OnOk result ((all : List ℕ) → slots.old.keys ≡ rising_of all → below.new.items ≡ below.old.items ++ spec.part_below all part_slot.now) }
+{
+    let under = is_beneath(slots, part_slot.above);
+    let keeps = is_kept(under, part, part_slot.part);
+    keep_slot(slots, part_slot.slot, keeps)?;
+    keep_part(below, part_slot.part, under)
+}
+
+/// The parts of the slots below those of a part.
+fn parts_below(alloc: Global, part_slots: &[PartSlot], part: u64) -> Result<Vec<u64>, AllocError>
+    ensures { IfOk result (λ v. v.items ≡ spec.parts_below part [] part_slots.now) }
+{
+    let mut slots = BTreeSet::new(alloc);
+    let mut below = Vec::new(alloc);
+    for part_slot in part_slots {
+        look_at(&mut slots, &mut below, part, part_slot)?;
+    }
+    Ok(below)
+}
+
+/// The other parts that have a slot below one of a part, rising.
+fn taken_by(alloc: Global, part_slots: &[PartSlot], part: u64) -> Result<Vec<u64>, AllocError>
+    ensures { IfOk result (λ v. v.items ≡ spec.taken_by part_slots.now part) }
+{
+    let below = parts_below(alloc, part_slots, part)?;
+    let each = rising(alloc, below.as_slice())?;
+    others(alloc, each.as_slice(), part)
+}
+
+fn add_takes_by(takes: &mut Vec<Take>, by: u64, taken: &[u64]) -> Result<(), AllocError>
+    ensures { OnOk result (takes.new.items ≡ takes.old.items ++ map (spec.taking by) taken.now) }
+{
+    for of in taken {
+        takes.push(Take { by, of: *of })?;
+    }
+    Ok(())
+}
+
+/// Of each of some parts, the parts from which it may take slots.
+///
+/// # Errors
+///
+/// Memory was refused.
+pub fn takes(alloc: Global, part_slots: &[PartSlot], parts: &[u64]) -> Result<Vec<Take>, AllocError>
+    ensures { IfOk result (λ v. v.items ≡ spec.takes part_slots.now parts.now) }
+{
+    let mut takes = Vec::new(alloc);
+    for part in parts {
+        let taken = taken_by(alloc, part_slots, *part)?;
+        add_takes_by(&mut takes, *part, taken.as_slice())?;
+    }
+    Ok(takes)
+}
+
+fn add_take(out: &mut String, by: u64, of: u64) -> Result<(), AllocError>
+    ensures { OnOk result (string_bytes out.new ≡ string_bytes out.old ++ text.take_line (spec.taking by of)) }
+{
+    writeln!(out, "take {by} -> {of}")
+}
+
+/// Adds a line for each of some parts, and a part from which it may take slots.
+///
+/// # Errors
+///
+/// Memory was refused.
+pub fn add_takes(out: &mut String, takes: &[Take]) -> Result<(), AllocError>
+    ensures { OnOk result (string_bytes out.new ≡ string_bytes out.old ++ flat_map text.take_line takes.now) }
+{
+    for take in takes {
+        add_take(out, take.by, take.of)?;
+    }
+    Ok(())
+}
+
+/// Adds a line where a part may take slots from another.
+///
+/// # Errors
+///
+/// Memory was refused.
+pub fn add_take_of(
+    alloc: Global,
+    out: &mut String,
+    part_slots: &[PartSlot],
+    by: u64,
+    of: u64,
+) -> Result<(), AllocError>
+    ensures { OnOk result (string_bytes out.new ≡ string_bytes out.old ++ text.take_of_two part_slots.now by of) }
+{
+    let taken = taken_by(alloc, part_slots, by)?;
+    if is_in(taken.as_slice(), of) {
+        add_take(out, by, of)
+    } else {
+        Ok(())
+    }
+}
