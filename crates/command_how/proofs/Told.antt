@@ -7,11 +7,11 @@ use Rattle.query_parts.specs.declared.listed.PartUse.{PartUse}
 use Rattle.setup_values.specs.Names.{Names}
 use Rattle.setup_format.specs.Views.{SetupView}
 use Rattle.setup_objects.specs.declared.meant.ObjectKind.TheVariants.{Thread, Endpoint}
-use Rattle.command_parts.specs.Threads.{named}
+use Rattle.command_parts.specs.Threads.{objects_named}
 use Rattle.command_parts.specs.Ever.{AreRightParts}
 use Rattle.command_core.specs.declared.fault.Verdict.{Verdict}
 use Rattle.command_how_witness.specs.Witness.{Asking}
-use Rattle.command_how.specs.How.{Words, IsToldOf, IsToldByParts}
+use Rattle.command_how.specs.How.{Words, IsHowTold, IsToldByParts}
 
 abbrev asking_with : Words → ℕ → ℕ → List PartMemory → List ℕ → List ℕ → Asking
 asking_with w from to memory by without = record {
@@ -26,15 +26,15 @@ asking_with w from to memory by without = record {
 
 pub told_by_parts : (p : ProfileName) (w : Words) (names : Names) (setup : SetupView) (made : ℕ) (v : Shown) (from to : ℕ) (text : List ℕ) (verdict : Verdict)
     (without by : List ℕ) (memory : List PartMemory) (uses : List PartUse) →
-    without ≡ named Thread p names setup.plan v w.without → by ≡ named Endpoint p names setup.plan v w.by →
+    without ≡ objects_named Thread p names setup.plan v w.without → by ≡ objects_named Endpoint p names setup.plan v w.by →
     AreRightParts p v without memory uses →
-    IsToldOf p names (asking_with w from to memory by without) uses v setup made text verdict →
+    IsHowTold p names (asking_with w from to memory by without) uses v setup made text verdict →
     IsToldByParts p w names setup made v from to text verdict
 told_by_parts p w names setup made v from to text verdict without by memory uses without_is by_is right told = record {
   memory = memory;
   uses = uses;
   right = subst (λ (l : List ℕ). AreRightParts p v l memory uses) without_is right;
   told =
-      subst (λ (l : List ℕ). IsToldOf p names (asking_with w from to memory (named Endpoint p names setup.plan v w.by) l) uses v setup made text verdict) without_is
-      (subst (λ (l : List ℕ). IsToldOf p names (asking_with w from to memory l without) uses v setup made text verdict) by_is told);
+      subst (λ (l : List ℕ). IsHowTold p names (asking_with w from to memory (objects_named Endpoint p names setup.plan v w.by) l) uses v setup made text verdict) without_is
+      (subst (λ (l : List ℕ). IsHowTold p names (asking_with w from to memory l without) uses v setup made text verdict) by_is told);
 }

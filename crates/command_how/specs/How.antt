@@ -11,13 +11,13 @@ use Rattle.setup_values.specs.Names.{Names}
 use Rattle.setup_format.specs.Views.{SetupView}
 use Rattle.setup_objects.specs.declared.meant.ObjectKind.TheVariants.{Thread, Endpoint}
 use Rattle.setup_objects.specs.Meant.{object_meant, are_meant}
-use Rattle.command_parts.specs.Threads.{named}
+use Rattle.command_parts.specs.Threads.{objects_named}
 use Rattle.command_parts.specs.Ever.{AreRightParts}
 use Rattle.command_core.specs.declared.fault.Verdict.{Verdict}
 use Rattle.command_core.specs.declared.fault.Verdict.TheVariants.{AllMet, NotMet, Absent}
 use Rattle.command_how_witness.specs.declared.asked.Happening.{Happening}
 use Rattle.command_how_witness.specs.Witness.{Asking}
-use Rattle.command_how_witness.specs.Excluded.{IsExcluded}
+use Rattle.command_how_witness.specs.Excluded.{IsExcluded, IsRuledOut, IsInside}
 use Rattle.command_how_witness.specs.Text.{IsWitnessText}
 use Rattle.command_how.specs.declared.asking.How.{How}
 use Rattle.command_how.specs.declared.line.NoWitness.{NoWitness}
@@ -34,8 +34,8 @@ pub record Words : Type 0 where
   pub without : List (List ℕ)
 
 -- a question, with its words as lists of characters
-abbrev pub words_of : How → Words
-words_of h = record {
+abbrev pub how_words : How → Words
+how_words h = record {
   what = h.what;
   from = h.from.now;
   to = h.to.now;
@@ -50,10 +50,10 @@ asking p names plan v w from to memory = record {
   what = w.what;
   from = from;
   to = to;
-  by = named Endpoint p names plan v w.by;
+  by = objects_named Endpoint p names plan v w.by;
   badge = w.badge;
   memory = memory;
-  without = named Thread p names plan v w.without;
+  without = objects_named Thread p names plan v w.without;
 }
 
 -- nothing is written
@@ -70,17 +70,18 @@ IsSought p names q setup made text verdict =
     ((verdict ≡ AllMet) × IsWitnessText p q setup made text)
     ⊎ ((answer : NoWitness) × ((says_excluded answer ≡ false) × IsLine names q answer text verdict))
 
--- the line that it is excluded, where it is; or what was looked for
-abbrev pub IsToldOf : ProfileName → Names → Asking → List PartUse → Shown → SetupView → ℕ → List ℕ → Verdict → Type 0
-IsToldOf p names q uses v setup made text verdict =
-    (IsExcluded p q uses v × IsLine names q Excluded text verdict) ⊎ IsSought p names q setup made text verdict
+-- the line that it is excluded, where it is and is ruled out; where it is not, what was looked for
+abbrev pub IsHowTold : ProfileName → Names → Asking → List PartUse → Shown → SetupView → ℕ → List ℕ → Verdict → Type 0
+IsHowTold p names q uses v setup made text verdict =
+    (IsExcluded p q uses v × (IsRuledOut p q uses v q.what × IsLine names q Excluded text verdict))
+    ⊎ (IsInside p q v q.what × IsSought p names q setup made text verdict)
 
 -- the same by parts that may be told
 pub record IsToldByParts (p : ProfileName) (w : Words) (names : Names) (setup : SetupView) (made : ℕ) (v : Shown) (from to : ℕ) (text : List ℕ) (verdict : Verdict) : Type 0 where
   pub memory : List PartMemory
   pub uses : List PartUse
-  pub right : AreRightParts p v (named Thread p names setup.plan v w.without) memory uses
-  pub told : IsToldOf p names (asking p names setup.plan v w from to memory) uses v setup made text verdict
+  pub right : AreRightParts p v (objects_named Thread p names setup.plan v w.without) memory uses
+  pub told : IsHowTold p names (asking p names setup.plan v w from to memory) uses v setup made text verdict
 
 -- two threads, and both are live
 abbrev pub are_two_live : Shown → ℕ → ℕ → Bool
@@ -97,13 +98,13 @@ IsToldOfMeant p w names setup made v (Some from) None text verdict = IsNothing t
 IsToldOfMeant p w names setup made v (Some from) (Some to) text verdict = IsToldOfThreads p w names setup made v from to text verdict
 
 -- each text for a trusted thread stands for a thread, and each for an endpoint that is allowed for an endpoint
-abbrev pub has_asked : ProfileName → Names → Plan → Shown → Words → Bool
-has_asked p names plan v w = are_meant Thread p names plan v w.without && are_meant Endpoint p names plan v w.by
+abbrev pub has_asked_how : ProfileName → Names → Plan → Shown → Words → Bool
+has_asked_how p names plan v w = are_meant Thread p names plan v w.without && are_meant Endpoint p names plan v w.by
 
 -- the text and the verdict of what is shown behind so many calls: nothing, where a word stands for nothing
 abbrev pub IsHowBy : Words → ProfileName → Names → SetupView → ℕ → Shown → List ℕ → Verdict → Type 0
 IsHowBy w p names setup made v text verdict =
-    MatchBool (has_asked p names setup.plan v w)
+    MatchBool (has_asked_how p names setup.plan v w)
     (IsToldOfMeant p w names setup made v (object_meant Thread p names setup.plan v w.from) (object_meant Thread p names setup.plan v w.to) text verdict)
     (IsNothing text verdict)
 

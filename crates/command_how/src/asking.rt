@@ -103,7 +103,7 @@ impl How<'_> {
         requires plan { IsPlan P.profile behind.now.setup.now.plan }
         requires made { behind.now.made ≤ length behind.now.setup.now.calls }
         requires memory { (memory : ℕ) × IsInMemory P.profile memory kernel.now }
-        ensures { IfOk result (λ answer. spec.IsToldByParts P.profile (spec.words_of self.now) (names_view behind.now.names.now) behind.now.setup.now behind.now.made
+        ensures { IfOk result (λ answer. spec.IsToldByParts P.profile (spec.how_words self.now) (names_view behind.now.names.now) behind.now.setup.now behind.now.made
             kernel.now from to answer.text.items answer.verdict) }
     {
         let (names, setup) = (behind.names, behind.setup);
@@ -156,7 +156,7 @@ impl How<'_> {
         requires plan { IsPlan P.profile behind.now.setup.now.plan }
         requires made { behind.now.made ≤ length behind.now.setup.now.calls }
         requires memory { (memory : ℕ) × IsInMemory P.profile memory kernel.now }
-        ensures { IfOk result (λ answer. spec.IsToldOfThreads P.profile (spec.words_of self.now) (names_view behind.now.names.now) behind.now.setup.now behind.now.made
+        ensures { IfOk result (λ answer. spec.IsToldOfThreads P.profile (spec.how_words self.now) (names_view behind.now.names.now) behind.now.setup.now behind.now.made
             kernel.now from to answer.text.items answer.verdict) }
     {
         if are_two_live::<P, S, W>(kernel, from, to) {
@@ -175,7 +175,7 @@ impl How<'_> {
         kernel: &Kernel<P, S, W>,
     ) -> bool
         requires { IsWithinLimits P.profile setup.now.plan }
-        ensures { result ≡ spec.has_asked P.profile (names_view names.now) setup.now.plan kernel.now (spec.words_of self.now) }
+        ensures { result ≡ spec.has_asked_how P.profile (names_view names.now) setup.now.plan kernel.now (spec.how_words self.now) }
     {
         are_meant::<P, S, W>(names, setup, kernel, ObjectKind::Thread, self.without)
             && are_meant::<P, S, W>(names, setup, kernel, ObjectKind::Endpoint, self.by)
@@ -227,7 +227,7 @@ impl How<'_> {
         requires plan { IsPlan P.profile behind.now.setup.now.plan }
         requires made { behind.now.made ≤ length behind.now.setup.now.calls }
         requires memory { (memory : ℕ) × IsInMemory P.profile memory kernel.now }
-        ensures { IfOk result (λ answer. spec.IsToldOfMeant P.profile (spec.words_of self.now) (names_view behind.now.names.now) behind.now.setup.now behind.now.made kernel.now
+        ensures { IfOk result (λ answer. spec.IsToldOfMeant P.profile (spec.how_words self.now) (names_view behind.now.names.now) behind.now.setup.now behind.now.made kernel.now
             (words.object_meant objects.Thread P.profile (names_view behind.now.names.now) behind.now.setup.now.plan kernel.now self.now.from.now)
             (words.object_meant objects.Thread P.profile (names_view behind.now.names.now) behind.now.setup.now.plan kernel.now self.now.to.now) answer.text.items answer.verdict) }
     {
@@ -253,7 +253,7 @@ impl How<'_> {
         requires plan { IsPlan P.profile behind.now.setup.now.plan }
         requires made { behind.now.made ≤ length behind.now.setup.now.calls }
         requires memory { (memory : ℕ) × IsInMemory P.profile memory kernel.now }
-        ensures { IfOk result (λ answer. spec.IsHowBy (spec.words_of self.now) P.profile (names_view behind.now.names.now) behind.now.setup.now behind.now.made
+        ensures { IfOk result (λ answer. spec.IsHowBy (spec.how_words self.now) P.profile (names_view behind.now.names.now) behind.now.setup.now behind.now.made
             kernel.now answer.text.items answer.verdict) }
     {
         let (names, setup) = (behind.names, behind.setup);
@@ -267,9 +267,9 @@ impl How<'_> {
 
 impl Command for How<'_> {
     ghost use Rattle.command_check.specs.Commands.{IsStateAnswer};
-    ghost use Rattle.command_how.specs.How.{IsHow, words_of};
+    ghost use Rattle.command_how.specs.How.{IsHow, how_words};
 
-    ghost answers = { λ how. IsStateAnswer (IsHow (words_of how)) how.after };
+    ghost answers = { λ how. IsStateAnswer (IsHow (how_words how)) how.after };
 
     fn answer<P: Profile, S: MakeStore<P> + DerivationStore<P>, W: MakeWaiters<P>>(
         &self,

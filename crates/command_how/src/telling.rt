@@ -1,11 +1,12 @@
 //! What is told of two threads: calls that were found, as a set-up, or a line.
-ghost use Rattle.std.specs.Prelude.{◌≡◌, ◌≤◌, ◌++◌, ℕ, false, IfOk, List, OnOk, length, string_bytes};
+ghost use Rattle.std.specs.Prelude.{◌≡◌, ◌≤◌, ◌++◌, ℕ, true, false, IfOk, List, OnOk, length, string_bytes};
 ghost use Rattle.kernel_abstract.specs.Memory.{IsInMemory};
 ghost use Rattle.kernel_abstract.specs.Plan.{IsPlan};
 ghost use Rattle.query_parts.specs.declared.listed.PartUse.{PartUse as PartUseOf};
 ghost use Rattle.setup_values.specs.Names.{names_view};
 ghost use Rattle.command_parts.specs.Ever.{AreRightParts};
 ghost use Rattle.command_how_witness.specs.Witness.{asking_of};
+ghost use Rattle.command_how_witness.specs.Excluded.{IsOutside, IsRuledOut, IsInside};
 ghost use Rattle.command_how.specs.How as spec;
 ghost use Rattle.command_how.specs.Line.{how_line, says_excluded};
 
@@ -18,7 +19,7 @@ use command_how_search::{Found, find, shortened};
 use command_how_witness::{Asked, is_excluded, is_witness_text};
 use ipc_core::MakeWaiters;
 use kernel_core::{Call, Kernel};
-use query_parts::part_at;
+use query_parts::{PartsFault, part_at};
 use setup_format::Setup;
 use setup_values::{Name, thread_name};
 use slot_core::{DerivationStore, MakeStore};
@@ -150,6 +151,25 @@ fn sought<P: Profile, S: MakeStore<P> + DerivationStore<P>, W: MakeWaiters<P>>(
     }
 }
 
+/// Whether it is excluded, in a kernel whose objects lie in its memory.
+fn excludes<P: Profile, S: MakeStore<P> + DerivationStore<P>, W: MakeWaiters<P>>(
+    alloc: Global,
+    setup: &Setup,
+    kernel: &Kernel<P, S, W>,
+    asked: &Asked<'_>,
+) -> Result<bool, AllocError>
+    requires { (memory : ℕ) × IsInMemory P.profile memory kernel.now }
+    ensures outside { IfOk result (λ is. is ≡ true → (uses : List PartUseOf) → IsOutside P.profile (asking_of asked.now) uses kernel.now asked.now.what) }
+    ensures ruled { IfOk result (λ is. is ≡ true → (uses : List PartUseOf) → IsRuledOut P.profile (asking_of asked.now) uses kernel.now asked.now.what) }
+    ensures inside { IfOk result (λ is. is ≡ false → IsInside P.profile (asking_of asked.now) kernel.now asked.now.what) }
+{
+    match is_excluded::<P, S, W>(alloc, setup, kernel, asked) {
+        Ok(is) => Ok(is),
+        Err(PartsFault::Memory) => Err(AllocError),
+        Err(PartsFault::Block) => unreachable!(),
+    }
+}
+
 /// What is told of two threads, by so many copies of the kernel at most.
 pub fn told<P: Profile, S: MakeStore<P> + DerivationStore<P>, W: MakeWaiters<P>>(
     alloc: Global,
@@ -162,9 +182,9 @@ pub fn told<P: Profile, S: MakeStore<P> + DerivationStore<P>, W: MakeWaiters<P>>
     requires made { behind.now.made ≤ length behind.now.setup.now.calls }
     requires memory { (memory : ℕ) × IsInMemory P.profile memory kernel.now }
     ensures { IfOk result (λ answer. (uses : List PartUseOf) → AreRightParts P.profile kernel.now asked.now.without.now asked.now.memory.now uses
-        → spec.IsToldOf P.profile (names_view behind.now.names.now) (asking_of asked.now) uses kernel.now behind.now.setup.now behind.now.made answer.0.items answer.1) }
+        → spec.IsHowTold P.profile (names_view behind.now.names.now) (asking_of asked.now) uses kernel.now behind.now.setup.now behind.now.made answer.0.items answer.1) }
 {
-    if is_excluded::<P, S, W>(alloc, behind.setup, kernel, asked)? {
+    if excludes::<P, S, W>(alloc, behind.setup, kernel, asked)? {
         let made = line(alloc, behind.names, asked, NoWitness::Excluded)?;
         return Ok(made);
     }

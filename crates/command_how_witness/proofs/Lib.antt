@@ -1,5 +1,7 @@
 pub mod Runs
 pub mod Never
 pub mod Below
+pub mod Decided
 pub mod Listed
 pub mod Shows
+pub mod Still

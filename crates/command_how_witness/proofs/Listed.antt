@@ -14,9 +14,9 @@ use Rattle.query_reach.specs.declared.reached.Reached.{Reached}
 use Rattle.query_reach.specs.Lists.{AreReached}
 use Rattle.query_reach.specs.Reaching.{Reaches}
 use Rattle.command_how_witness.specs.Witness.{Asking, Holds, Takes}
-use Rattle.command_how_witness.specs.Private.{is_thread, is_held, is_emptied}
+use Rattle.command_how_witness.specs.Private.{is_control_block_of, is_held, is_emptied}
 
-thread_is : (cap : Cap) (t : ℕ) → is_thread cap t ≡ true → cap ≡ Tcb t
+thread_is : (cap : Cap) (t : ℕ) → is_control_block_of cap t ≡ true → cap ≡ Tcb t
 thread_is (Tcb base) t h = ap Tcb (eqb-true base t h)
 thread_is Null t h = absurd (false≢true h)
 thread_is (Untyped base bits free) t h = absurd (false≢true h)

@@ -32,7 +32,7 @@ use Rattle.setup_report.specs.State.{is_in}
 use Rattle.command_never_text.specs.Kept.{TellsKept, AreThreadsKept}
 use Rattle.command_how_witness.specs.declared.asked.Happening.{Happening}
 use Rattle.command_how_witness.specs.declared.asked.Happening.TheVariants.{Message, Hold, Loss}
-use Rattle.command_how_witness.specs.Witness.{Asking, may_call, is_caller, is_message, is_message_last, ShowsMessage, ShowsHold, ShowsLoss, ShowsIt}
+use Rattle.command_how_witness.specs.Witness.{Asking, may_thread_call, is_caller, is_message, is_message_last, ShowsMessage, ShowsHold, ShowsLoss, ShowsIt}
 use Rattle.command_how_witness.specs.Excluded.{IsKept, IsOutside, LiesElsewhere, StandsApart, HasNoWitness}
 
 -- ---- the callers lie in parts

@@ -1,6 +1,9 @@
--- What the laws exclude: of no calls of threads of the parts it is shown.
-use Rattle.std.specs.Prelude.{◌≡◌, ◌⊎◌, ℕ, List, Some, None}
+-- What the laws exclude: of no calls of threads of the parts it is shown; and what they do not exclude.
+use Rattle.std.specs.Prelude.{◌≡◌, ◌⊎◌, ⊤, ℕ, List, Option, Some, None}
+use Rattle.std.specs.List.{Contains}
 use Rattle.cap_core.specs.declared.profile.ProfileName.{ProfileName}
+use Rattle.kernel_forest.specs.Forest.{Forest, descendants}
+use Rattle.kernel_forest.specs.Entries.{Entry, is_at}
 use Rattle.kernel_abstract.specs.declared.call.Call.{Call}
 use Rattle.kernel_abstract.specs.Shown.{Shown}
 use Rattle.kernel_abstract.specs.State.{State, shown}
@@ -10,6 +13,10 @@ use Rattle.query_parts.specs.declared.listed.PartUse.{PartUse}
 use Rattle.query_parts.specs.Listed.{part_at, parts_listed}
 use Rattle.command_parts.specs.Ever.{AreRightParts}
 use Rattle.query_parts.specs.Below.{StandsNoneBelow}
+use Rattle.command_never_text.specs.declared.never.Never.{Never}
+use Rattle.command_never_text.specs.declared.never.Never.TheVariants.{Excluded, Possible}
+use Rattle.command_never_text.specs.Waits.{waits}
+use Rattle.command_never_text.specs.Never.{never}
 use Rattle.command_never_text.specs.Kept.{AreThreadsKept}
 use Rattle.command_how_witness.specs.declared.asked.Happening.{Happening}
 use Rattle.command_how_witness.specs.declared.asked.Happening.TheVariants.{Message, Hold, Loss}
@@ -49,6 +56,57 @@ pub record IsExcluded (p : ProfileName) (q : Asking) (uses : List PartUse) (v : 
   pub right : AreRightParts p v q.without q.memory uses
   pub outside : IsOutside p q uses v q.what
 
+-- ---- where the line says so, and where it does not
+
+-- what `--never` answers of the two threads, by parts that may be told
+pub record IsNeverSaid (p : ProfileName) (q : Asking) (v : Shown) (answer : Never) : Type 0 where
+  pub memory : List PartMemory
+  pub uses : List PartUse
+  pub right : AreRightParts p v q.without memory uses
+  pub answered : answer ≡ never p memory uses (waits p v) q.by q.from q.to
+
+-- it is ruled out: of a message where `--never` says so; of a hold and of a loss as above
+abbrev pub IsRuledOut : ProfileName → Asking → List PartUse → Shown → Happening → Type 0
+IsRuledOut p q uses v Message = IsNeverSaid p q v Excluded
+IsRuledOut p q uses v Hold = IsOutside p q uses v Hold
+IsRuledOut p q uses v Loss = IsOutside p q uses v Loss
+
+-- two threads lie in one part
+pub record SharesPart (memory : List PartMemory) (from to : ℕ) : Type 0 where
+  pub part : ℕ
+  pub from_in : part_at memory from ≡ Some part
+  pub to_in : part_at memory to ≡ Some part
+
+-- a full slot of part j stands below a slot of part i
+pub record StandsOneBelow (memory : List PartMemory) (i j : ℕ) (f : Forest Entry) : Type 0 where
+  pub slot : ℕ
+  pub under : Entry
+  pub slot_in : part_at memory slot ≡ Some i
+  pub below : Contains (descendants (is_at slot) f) under
+  pub under_in : part_at memory under.slot ≡ Some j
+
+-- a thread in no part may lose something to each part; one of part j to this part, and to one below a slot of which a slot of j stands
+abbrev pub MayLose : List PartMemory → Shown → ℕ → Option ℕ → Type 0
+MayLose memory v i None = ⊤
+MayLose memory v i (Some j) = (i ≡ j) ⊎ StandsOneBelow memory i j v.derivations
+
+-- the one thread lies in a part, to which the other may lose something
+pub record TakesFrom (memory : List PartMemory) (v : Shown) (from to : ℕ) : Type 0 where
+  pub part : ℕ
+  pub from_in : part_at memory from ≡ Some part
+  pub lost : MayLose memory v part (part_at memory to)
+
+-- it is not ruled out: of a message where `--never` says that it is possible; of a hold where both lie in one part; of a loss where the one lies in a part,
+-- and the other in none, in this one, or in one of which a full slot stands below one of this one's
+abbrev pub IsInside : ProfileName → Asking → Shown → Happening → Type 0
+IsInside p q v Message = IsNeverSaid p q v Possible
+IsInside p q v Hold = SharesPart q.memory q.from q.to
+IsInside p q v Loss = TakesFrom q.memory v q.from q.to
+
 -- never both: what is excluded of a state no calls from it show
 abbrev pub HasNoWitness : ProfileName → Asking → List PartUse → State → List Call → Type 0
 HasNoWitness p q uses A calls = IsReached p A → IsExcluded p q uses (shown A) → IsShown p q A calls → ⊥
+
+-- nor is it both ruled out and not: parts that may be told give one answer, however they are written
+abbrev pub IsOnlyOne : ProfileName → Asking → List PartUse → State → Type 0
+IsOnlyOne p q uses A = IsReached p A → IsRuledOut p q uses (shown A) q.what → IsInside p q (shown A) q.what → ⊥

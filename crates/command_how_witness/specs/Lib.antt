@@ -1,5 +1,7 @@
--- How it could happen: Witness has what calls show, Text what a text is that is a witness, and Excluded what the laws exclude.
+-- How it could happen: Witness has what calls show, Text what a text is that is a witness, Excluded what the laws exclude, and
+-- Still which parts change no slot.
 pub mod Witness
 pub mod Text
 pub mod Excluded
+pub mod Still
 pub mod Private

@@ -1,5 +1,5 @@
 -- These serve the proofs of private functions, no public contract cites them.
-use Rattle.std.specs.Prelude.{◌≡◌, ◌⊎◌, ℕ, ◌==◌, ◌&&◌, ◌||◌, Bool, true, false, not, List, Option, Some, None}
+use Rattle.std.specs.Prelude.{◌≡◌, ◌⊎◌, ℕ, ◌==◌, ◌&&◌, ◌||◌, Bool, true, false, not, cond, List, [], ◌∷◌, ◌++◌, Option, Some, None}
 use Rattle.std.specs.List.{list_all}
 use Rattle.cap_core.specs.declared.capability.Cap.{Cap}
 use Rattle.cap_core.specs.declared.capability.Cap.TheVariants.{Tcb}
@@ -34,11 +34,14 @@ abbrev pub is_parent_above : List PartMemory → ℕ → List ℕ → Option ℕ
 is_parent_above memory part below None = false
 is_parent_above memory part below (Some parent) = is_above memory part below parent
 
--- what stands below such a slot is listed, and what is listed is none of the other part
-abbrev pub is_apart : List PartMemory → List ℕ → ℕ → ℕ → Entry × Option ℕ → Bool
-is_apart memory below part other e =
-    (is_in e.0.slot below || not (is_parent_above memory part below e.1))
-    && not (is_in e.0.slot below && is_part other (part_at memory e.0.slot))
+-- the slots of those whose parent is of the part, or was listed before
+abbrev pub slots_listed : List PartMemory → ℕ → List ℕ → List (Entry × Option ℕ) → List ℕ
+slots_listed memory part below [] = below
+slots_listed memory part below (d ∷ ds) =
+    slots_listed memory part (cond (is_parent_above memory part below d.1) (below ++ d.0.slot ∷ []) below) ds
+
+abbrev pub is_slot_within : List PartMemory → ℕ → ℕ → Bool
+is_slot_within memory part slot = is_part part (part_at memory slot)
 
 abbrev pub AreTwoApart : List PartMemory → List PartUse → Shown → ℕ → ℕ → Type 0
 AreTwoApart memory uses v i j = (i ≡ j → ⊥) × StandsNoneBelow (parts_listed memory uses) i j v.derivations
@@ -47,13 +50,13 @@ abbrev pub IsLossOutside : List PartMemory → List PartUse → Shown → ℕ �
 IsLossOutside memory uses v from to = (part_at memory from ≡ None) ⊎ StandsApart memory uses v from to
 
 -- a capability is to a thread's control block
-abbrev pub is_thread : Cap → ℕ → Bool
-is_thread (Tcb base) thread = base == thread
-is_thread cap thread = false
+abbrev pub is_control_block_of : Cap → ℕ → Bool
+is_control_block_of (Tcb base) thread = base == thread
+is_control_block_of cap thread = false
 
 -- a slot is reached by a word, and holds such a capability
 abbrev pub is_held : Forest Entry → ℕ → ℕ → Reached → Bool
-is_held f word thread r = (r.word == word) && is_thread (cap_at f r.slot) thread
+is_held f word thread r = (r.word == word) && is_control_block_of (cap_at f r.slot) thread
 
 -- a slot is full in one forest, and empty in another
 abbrev pub is_emptied : Forest Entry → Forest Entry → ℕ → Bool

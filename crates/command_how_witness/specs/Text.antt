@@ -11,24 +11,24 @@ use Rattle.setup_report.specs.Behind.{state_behind}
 use Rattle.setup_report.specs.Report.{met_count, expectation_count}
 use Rattle.command_how_witness.specs.Witness.{Asking, IsShown}
 
-abbrev pub calls_of : SetupView → List Call
-calls_of setup = map (λ (c : CallView). c.call) setup.calls
+abbrev pub witness_calls : SetupView → List Call
+witness_calls setup = map (λ (c : CallView). c.call) setup.calls
 
-abbrev pub first_calls : ℕ → SetupView → List Call
-first_calls made setup = take made (calls_of setup)
+abbrev pub first_witness_calls : ℕ → SetupView → List Call
+first_witness_calls made setup = take made (witness_calls setup)
 
 abbrev pub later_calls : ℕ → SetupView → List Call
-later_calls made setup = drop made (calls_of setup)
+later_calls made setup = drop made (witness_calls setup)
 
-abbrev pub replies_to : ProfileName → SetupView → List Reply
-replies_to p setup = replies_of p (boot p setup.plan) (calls_of setup)
+abbrev pub witness_replies : ProfileName → SetupView → List Reply
+witness_replies p setup = replies_of p (boot p setup.plan) (witness_calls setup)
 
 -- a set-up has the machine, the boot and the first calls of another
 pub record BeginsAs (setup other : SetupView) (made : ℕ) : Type 0 where
   pub count : made ≤ length setup.calls
   pub profile : setup.profile ≡ other.profile
   pub plan : setup.plan ≡ other.plan
-  pub calls : first_calls made setup ≡ first_calls made other
+  pub calls : first_witness_calls made setup ≡ first_witness_calls made other
 
 -- the calls behind the first ones have an expectation, and no others
 abbrev pub ExpectLater : ℕ → SetupView → Type 0
@@ -36,7 +36,7 @@ ExpectLater made setup = (i : ℕ) (call : CallView) → slice_get setup.calls i
 
 -- all that its calls expect is met
 abbrev pub AreMet : ProfileName → SetupView → Type 0
-AreMet p setup = met_count setup.calls (replies_to p setup) ≡ expectation_count setup.calls (replies_to p setup)
+AreMet p setup = met_count setup.calls (witness_replies p setup) ≡ expectation_count setup.calls (witness_replies p setup)
 
 -- a set-up goes on where another stands behind so many calls; from there its calls show what is asked, and it meets all that it expects
 pub record IsWitness (p : ProfileName) (q : Asking) (other : SetupView) (made : ℕ) (setup : SetupView) : Type 0 where

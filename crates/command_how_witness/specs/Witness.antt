@@ -44,19 +44,19 @@ asking_of q = record {
 }
 
 -- a thread lies in a part, and is not trusted to make no more calls
-abbrev pub may_call : List PartMemory → List ℕ → ℕ → Bool
-may_call memory without thread = is_some (part_at memory thread) && not (is_in thread without)
+abbrev pub may_thread_call : List PartMemory → List ℕ → ℕ → Bool
+may_thread_call memory without thread = is_some (part_at memory thread) && not (is_in thread without)
 
 abbrev pub is_caller : Asking → Call → Bool
-is_caller q call = may_call q.memory q.without call.thread
+is_caller q call = may_thread_call q.memory q.without call.thread
 
 -- both threads are live
-abbrev pub are_live : Asking → Shown → Bool
-are_live q v = is_some (state_at v q.from) && is_some (state_at v q.to)
+abbrev pub are_both_live : Asking → Shown → Bool
+are_both_live q v = is_some (state_at v q.from) && is_some (state_at v q.to)
 
 -- both are live after each of the calls
 abbrev pub StayLive : ProfileName → Asking → State → List Call → Type 0
-StayLive p q A calls = (n : ℕ) → n ≤ length calls → are_live q (shown (state_after p A (take n calls))) ≡ true
+StayLive p q A calls = (n : ℕ) → n ≤ length calls → are_both_live q (shown (state_after p A (take n calls))) ≡ true
 
 abbrev pub is_badge : Option ℕ → ℕ → Bool
 is_badge None badge = true

@@ -1,16 +1,16 @@
 //! What the laws exclude.
-ghost use Rattle.std.specs.Prelude.{◌≡◌, ℕ, true, IfOk, List, map};
-ghost use Rattle.std.specs.List.{list_all};
+ghost use Rattle.std.specs.Prelude.{◌≡◌, ◌==◌, ◌⊎◌, ℕ, true, false, [], IfErr, IfOk, List, map};
+ghost use Rattle.std.specs.List.{list_any, IsDistinct};
 ghost use Rattle.kernel_forest.specs.Forest.{Forest};
-ghost use Rattle.kernel_forest.specs.Entries.{Entry, derivations_of};
+ghost use Rattle.kernel_forest.specs.Entries.{Entry, derivations_of, slots};
 ghost use Rattle.slot_core.specs.Calls.{derivation_view};
 ghost use Rattle.query_parts.specs.declared.listed.PartUse.{PartUse as PartUseOf};
 ghost use Rattle.query_parts.specs.Listed.{parts_listed};
 ghost use Rattle.query_parts.specs.Below.{StandsNoneBelow};
 ghost use Rattle.kernel_abstract.specs.Memory.{IsInMemory};
-ghost use Rattle.command_never_text.specs.declared.never.Never.TheVariants.{Excluded as ExcludedOf};
+ghost use Rattle.command_never_text.specs.declared.never.Never.TheVariants.{Excluded as ExcludedOf, Possible as PossibleOf};
 ghost use Rattle.command_how_witness.specs.Witness.{asking_of};
-ghost use Rattle.command_how_witness.specs.Excluded.{IsKept, IsOutside};
+ghost use Rattle.command_how_witness.specs.Excluded.{IsKept, IsNeverSaid, IsOutside, IsRuledOut, IsInside, StandsOneBelow, TakesFrom};
 ghost use Rattle.command_how_witness.specs.Private as spec;
 
 use crate::asked::{Asked, Happening};
@@ -25,7 +25,8 @@ use slot_core::{Derivation, DerivationStore, MakeStore};
 use std::alloc::{AllocError, Global};
 
 fn is_excluded_by(answer: Never) -> bool
-    ensures { result ≡ true → answer ≡ ExcludedOf }
+    ensures excluded { result ≡ true → answer ≡ ExcludedOf }
+    ensures possible { result ≡ false → answer ≡ PossibleOf }
 {
     match answer {
         Never::Excluded => true,
@@ -39,9 +40,11 @@ fn is_kept<P: Profile, S: MakeStore<P> + DerivationStore<P>, W: MakeWaiters<P>>(
     setup: &Setup,
     kernel: &Kernel<P, S, W>,
     asked: &Asked<'_>,
-) -> Result<bool, AllocError>
-    requires { (memory : ℕ) × IsInMemory P.profile memory kernel.now }
-    ensures { IfOk result (λ is. is ≡ true → IsKept P.profile (asking_of asked.now) kernel.now) }
+) -> Result<bool, PartsFault>
+    ensures kept { IfOk result (λ is. is ≡ true → IsKept P.profile (asking_of asked.now) kernel.now) }
+    ensures excluded { IfOk result (λ is. is ≡ true → IsNeverSaid P.profile (asking_of asked.now) kernel.now ExcludedOf) }
+    ensures possible { IfOk result (λ is. is ≡ false → IsNeverSaid P.profile (asking_of asked.now) kernel.now PossibleOf) }
+    ensures fault { IfErr result (λ fault. fault ≡ PartsFault.Block → (memory : ℕ) → IsInMemory P.profile memory kernel.now → ⊥) }
 {
     let heading = Heading {
         setup,
@@ -52,8 +55,7 @@ fn is_kept<P: Profile, S: MakeStore<P> + DerivationStore<P>, W: MakeWaiters<P>>(
     };
     match never_gets::<P, S, W>(alloc, &[], &heading, asked.from, asked.to, asked.by, kernel) {
         Ok((_, answer)) => Ok(is_excluded_by(answer)),
-        Err(PartsFault::Memory) => Err(AllocError),
-        Err(PartsFault::Block) => unreachable!(),
+        Err(fault) => Err(fault),
     }
 }
 
@@ -88,13 +90,15 @@ fn is_parent_above<P: Profile>(
     }
 }
 
-/// The full slots that stand below slots of a part.
+/// The full slots that stand below slots of a part, for derivations each of which comes behind that of its parent.
 fn slots_below<P: Profile>(
     alloc: Global,
     memory: &[PartMemory],
     derivations: &[Derivation],
     part: u64,
-) -> Result<Vec<u64>, AllocError> {
+) -> Result<Vec<u64>, AllocError>
+    ensures { IfOk result (λ below. below.items ≡ spec.slots_listed memory.now part [] (map (derivation_view P.profile) derivations.now)) }
+{
     let mut below = Vec::new(alloc);
     for derivation in derivations {
         if is_parent_above::<P>(memory, part, below.as_slice(), derivation) {
@@ -104,35 +108,11 @@ fn slots_below<P: Profile>(
     Ok(below)
 }
 
-/// Whether a full slot is listed where it stands below one of the part or one that is listed, and is none of the other part's where
-/// it is listed.
-fn is_apart<P: Profile>(
-    memory: &[PartMemory],
-    below: &[u64],
-    part: u64,
-    other: u64,
-    derivation: &Derivation,
-) -> bool
-    ensures { result ≡ spec.is_apart memory.now below.now part other (derivation_view P.profile derivation.now) }
+/// Whether one of some slots is of a part.
+fn has_one_of(memory: &[PartMemory], part: u64, slots: &[u64]) -> bool
+    ensures { result ≡ list_any (spec.is_slot_within memory.now part) slots.now }
 {
-    let slot = derivation.slot.address::<P>();
-    let is_listed = is_in(below, slot);
-    (is_listed || !is_parent_above::<P>(memory, part, below, derivation))
-        && !(is_listed && is_of_part(memory, other, slot))
-}
-
-fn are_apart<P: Profile>(
-    memory: &[PartMemory],
-    below: &[u64],
-    derivations: &[Derivation],
-    part: u64,
-    other: u64,
-) -> bool
-    ensures { result ≡ list_all (λ d. spec.is_apart memory.now below.now part other (derivation_view P.profile d)) derivations.now }
-{
-    derivations
-        .iter()
-        .all(|d| is_apart::<P>(memory, below, part, other, d))
+    slots.iter().any(|slot| is_of_part(memory, part, *slot))
 }
 
 /// Whether no full slot of one part stands below a slot of another, for derivations as a kernel tells them.
@@ -143,11 +123,13 @@ fn stands_none_below<P: Profile>(
     part: u64,
     other: u64,
 ) -> Result<bool, AllocError>
-    ensures { IfOk result (λ is. is ≡ true → (uses : List PartUseOf) (f : Forest Entry) → map (derivation_view P.profile) derivations.now ≡ derivations_of f
-        → StandsNoneBelow (parts_listed memory.now uses) part other f) }
+    ensures none { IfOk result (λ is. is ≡ true → (uses : List PartUseOf) (f : Forest Entry) → map (derivation_view P.profile) derivations.now ≡ derivations_of f
+        → IsDistinct (λ (a b : ℕ). a == b) (slots f) → StandsNoneBelow (parts_listed memory.now uses) part other f) }
+    ensures one { IfOk result (λ is. is ≡ false → (f : Forest Entry) → map (derivation_view P.profile) derivations.now ≡ derivations_of f
+        → IsDistinct (λ (a b : ℕ). a == b) (slots f) → StandsOneBelow memory.now part other f) }
 {
     let below = slots_below::<P>(alloc, memory, derivations, part)?;
-    Ok(are_apart::<P>(memory, below.as_slice(), derivations, part, other))
+    Ok(!has_one_of(memory, other, below.as_slice()))
 }
 
 /// Whether two parts are two, and no slot of the other stands below one of the one.
@@ -158,7 +140,8 @@ fn are_two_apart<P: Profile, S: MakeStore<P> + DerivationStore<P>, W: MakeWaiter
     part: u64,
     other: u64,
 ) -> Result<bool, AllocError>
-    ensures { IfOk result (λ is. is ≡ true → (uses : List PartUseOf) → spec.AreTwoApart memory.now uses kernel.now part other) }
+    ensures apart { IfOk result (λ is. is ≡ true → (uses : List PartUseOf) → spec.AreTwoApart memory.now uses kernel.now part other) }
+    ensures below { IfOk result (λ is. is ≡ false → (part ≡ other) ⊎ StandsOneBelow memory.now part other kernel.now.derivations) }
 {
     if part == other {
         return Ok(false);
@@ -173,7 +156,8 @@ fn is_loss_excluded<P: Profile, S: MakeStore<P> + DerivationStore<P>, W: MakeWai
     kernel: &Kernel<P, S, W>,
     asked: &Asked<'_>,
 ) -> Result<bool, AllocError>
-    ensures { IfOk result (λ is. is ≡ true → (uses : List PartUseOf) → spec.IsLossOutside asked.now.memory.now uses kernel.now asked.now.from asked.now.to) }
+    ensures outside { IfOk result (λ is. is ≡ true → (uses : List PartUseOf) → spec.IsLossOutside asked.now.memory.now uses kernel.now asked.now.from asked.now.to) }
+    ensures inside { IfOk result (λ is. is ≡ false → TakesFrom asked.now.memory.now kernel.now asked.now.from asked.now.to) }
 {
     match (
         part_at(asked.memory, asked.from),
@@ -191,19 +175,22 @@ fn is_loss_excluded<P: Profile, S: MakeStore<P> + DerivationStore<P>, W: MakeWai
 ///
 /// # Errors
 ///
-/// Memory was refused.
+/// `Memory` where memory was refused; `Block` where the control block of a live thread would end past the last address. No kernel
+/// whose objects lie in its memory has such a thread (`fault`).
 pub fn is_excluded<P: Profile, S: MakeStore<P> + DerivationStore<P>, W: MakeWaiters<P>>(
     alloc: Global,
     setup: &Setup,
     kernel: &Kernel<P, S, W>,
     asked: &Asked<'_>,
-) -> Result<bool, AllocError>
-    requires { (memory : ℕ) × IsInMemory P.profile memory kernel.now }
-    ensures { IfOk result (λ is. is ≡ true → (uses : List PartUseOf) → IsOutside P.profile (asking_of asked.now) uses kernel.now asked.now.what) }
+) -> Result<bool, PartsFault>
+    ensures outside { IfOk result (λ is. is ≡ true → (uses : List PartUseOf) → IsOutside P.profile (asking_of asked.now) uses kernel.now asked.now.what) }
+    ensures ruled { IfOk result (λ is. is ≡ true → (uses : List PartUseOf) → IsRuledOut P.profile (asking_of asked.now) uses kernel.now asked.now.what) }
+    ensures inside { IfOk result (λ is. is ≡ false → IsInside P.profile (asking_of asked.now) kernel.now asked.now.what) }
+    ensures fault { IfErr result (λ fault. fault ≡ PartsFault.Block → (memory : ℕ) → IsInMemory P.profile memory kernel.now → ⊥) }
 {
     match asked.what {
         Happening::Message => is_kept::<P, S, W>(alloc, setup, kernel, asked),
         Happening::Hold => Ok(is_hold_excluded(asked)),
-        Happening::Loss => is_loss_excluded::<P, S, W>(alloc, kernel, asked),
+        Happening::Loss => Ok(is_loss_excluded::<P, S, W>(alloc, kernel, asked)?),
     }
 }

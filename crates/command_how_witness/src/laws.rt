@@ -4,10 +4,22 @@ ghost use Rattle.cap_core.specs.declared.profile.ProfileName.{ProfileName};
 ghost use Rattle.kernel_abstract.specs.declared.call.Call.{Call};
 ghost use Rattle.kernel_abstract.specs.State.{State};
 ghost use Rattle.query_parts.specs.declared.listed.PartUse.{PartUse};
+ghost use Rattle.query_parts.specs.Parts.{Parts};
 ghost use Rattle.command_how_witness.specs.Witness.{Asking};
-ghost use Rattle.command_how_witness.specs.Excluded.{HasNoWitness};
+ghost use Rattle.command_how_witness.specs.Excluded.{HasNoWitness, IsOnlyOne};
+ghost use Rattle.command_how_witness.specs.Still.{ChangesNoSlot};
 
 /// Where it is excluded, no calls show it: there is never a witness and *excluded* of one question.
 pub fn what_is_excluded_has_no_witness()
     ensures { (p : ProfileName) (q : Asking) (uses : List PartUse) (A : State) (calls : List Call) → HasNoWitness p q uses A calls }
+{}
+
+/// What is excluded is never not excluded as well, of whatever parts that may be told: so a line says *excluded* exactly where it is.
+pub fn what_is_excluded_is_decided()
+    ensures { (p : ProfileName) (q : Asking) (uses : List PartUse) (A : State) → IsOnlyOne p q uses A }
+{}
+
+/// Whatever calls the threads of still parts make, every slot stays as it is: they can do nothing but send and receive.
+pub fn still_parts_change_no_slot()
+    ensures { (p : ProfileName) (parts : Parts) (A : State) (calls : List Call) → ChangesNoSlot p parts A calls }
 {}

@@ -72,7 +72,7 @@ fn are_live<P: Profile, S: MakeStore<P>, W: MakeWaiters<P>>(
     kernel: &Kernel<P, S, W>,
     asked: &Asked<'_>,
 ) -> bool
-    ensures { result ≡ spec.are_live (spec.asking_of asked.now) kernel.now }
+    ensures { result ≡ spec.are_both_live (spec.asking_of asked.now) kernel.now }
 {
     kernel.thread_state(asked.from).is_some() && kernel.thread_state(asked.to).is_some()
 }
@@ -175,7 +175,7 @@ fn reached<P: Profile, S: MakeStore<P> + DerivationStore<P>, W: MakeWaiters<P>>(
 }
 
 fn is_thread(cap: Cap, thread: u64) -> bool
-    ensures { result ≡ private.is_thread cap thread }
+    ensures { result ≡ private.is_control_block_of cap thread }
 {
     match cap {
         Cap::Tcb { base } => base == thread,

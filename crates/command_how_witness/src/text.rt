@@ -36,7 +36,7 @@ fn are_plans_alike(plan: &BootPlan, other: &BootPlan) -> bool
 /// The first calls of a set-up.
 fn first_calls(setup: &Setup, made: usize) -> &[Call]
     requires { made ≤ length setup.now.calls }
-    ensures { result.now ≡ spec.first_calls made setup.entry.now }
+    ensures { result.now ≡ spec.first_witness_calls made setup.entry.now }
 {
     &setup.calls()[..made]
 }
@@ -77,7 +77,7 @@ fn replies_to<P: Profile, S: MakeStore<P>, W: MakeWaiters<P>>(
     setup: &Setup,
 ) -> Result<Vec<Reply>, AllocError>
     requires { IsPlan P.profile setup.now.plan }
-    ensures { IfOk result (λ replies. replies.items ≡ spec.replies_to P.profile setup.now) }
+    ensures { IfOk result (λ replies. replies.items ≡ spec.witness_replies P.profile setup.now) }
 {
     let mut kernel = boot::<P, S, W>(alloc, setup.plan())?;
     let calls = setup.calls();

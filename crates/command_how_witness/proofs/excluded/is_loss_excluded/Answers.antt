@@ -1,12 +1,13 @@
--- Both threads lie in parts, and these are apart.
-use Rattle.std.proofs.Common.{◌≡◌, Bool, true, List, inr, sym, ◌∙◌}
+-- Both threads lie in parts, and these are apart, or are not.
+use Rattle.std.proofs.Common.{◌≡◌, ◌⊎◌, Bool, true, false, List, inr, sym, subst, ◌∙◌}
 use Rattle.std.proofs.lemmas.Result.{IfOk-weaker}
 use Rattle.query_parts.specs.declared.listed.PartUse.{PartUse}
+use Rattle.command_how_witness.specs.Excluded.{StandsOneBelow, MayLose, TakesFrom}
 use Rattle.command_how_witness.specs.Private.{AreTwoApart, IsLossOutside}
 use Rattle.command_how_witness.proofs.excluded.is_loss_excluded.Goals as goal
 
-pub returns-in-Some-Some : goal.returns-in-Some-Some
-returns-in-Some-Some g c =
+pub returns-in-Some-Some-clause-outside : goal.returns-in-Some-Some-clause-outside
+returns-in-Some-Some-clause-outside g c =
     let memory = c.args.asked.now.memory.now in
     let part = c.in-Some-Some.part in
     let other = c.in-Some-Some.other in
@@ -21,4 +22,20 @@ returns-in-Some-Some g c =
       two = (told yes uses).0;
       none = (told yes uses).1;
     }))
-    c.are_two_apart.ensures
+    c.are_two_apart.ensures.apart
+
+pub returns-in-Some-Some-clause-inside : goal.returns-in-Some-Some-clause-inside
+returns-in-Some-Some-clause-inside g c =
+    let memory = c.args.asked.now.memory.now in
+    let v = c.args.kernel.now in
+    let part = c.in-Some-Some.part in
+    let other = c.in-Some-Some.other in
+    IfOk-weaker c.are_two_apart.result
+    (λ (is : Bool). is ≡ false → (part ≡ other) ⊎ StandsOneBelow memory part other v.derivations)
+    (λ (is : Bool). is ≡ false → TakesFrom memory v c.args.asked.now.from c.args.asked.now.to)
+    (λ is told differs. record {
+      part = part;
+      from_in = sym c.part_at.ensures ∙ c.in-Some-Some.is-0;
+      lost = subst (MayLose memory v part) (sym (sym c.part_at-2.ensures ∙ c.in-Some-Some.is-1)) (told differs);
+    })
+    c.are_two_apart.ensures.below

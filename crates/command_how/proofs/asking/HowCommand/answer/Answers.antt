@@ -7,7 +7,7 @@ use Rattle.setup_values.specs.declared.names.Name.{Name}
 use Rattle.setup_values.specs.Names.{names_view}
 use Rattle.setup_report.specs.Behind.{state_behind}
 use Rattle.command_check.specs.Commands.{IsAnswerAfter}
-use Rattle.command_how.specs.How.{words_of, IsHowBy, IsHow}
+use Rattle.command_how.specs.How.{how_words, IsHowBy, IsHow}
 use Rattle.command_how.proofs.asking.HowCommand.answer.Goals as goal
 
 pub returns : goal.returns
@@ -15,7 +15,7 @@ returns g c =
     let p = g.P.Profile.profile in
     let setup = c.args.read.setup in
     let made = c.in-Some.made in
-    let w = words_of c.args.self.now in
+    let w = how_words c.args.self.now in
     let v = shown (state_behind p setup made) in
     subst (λ (o : Option ℕ). IfOk c.answer_by.result (λ answer. IsAnswerAfter (IsHow w p (names_view c.args.read.names.items) setup) p setup o answer.text.items answer.verdict)) c.in-Some.ensures
     (subst (λ (names : List Name). IfOk c.answer_by.result (λ answer. IsHowBy w p (names_view names) setup made v answer.text.items answer.verdict)) c.as_slice-names.ensures.value
