@@ -3,17 +3,17 @@ use Rattle.std.proofs.Common.{◌≡◌, ℕ, List, ap, ◌∙◌}
 use Rattle.kernel_abstract.specs.declared.call.Reply.{Reply}
 use Rattle.setup_format.specs.Views.{SetupView}
 use Rattle.command_policy_breaches.specs.declared.joining.Join.{Join}
-use Rattle.command_policy_breaches.specs.declared.policy.Block.{Block}
+use Rattle.command_policy_breaches.specs.declared.policy.Home.{Home}
 use Rattle.command_policy_breaches.specs.declared.policy.Labels.{Labels}
 use Rattle.command_policy_breaches.specs.declared.policy.Layout.{Layout}
 use Rattle.command_policy_breaches.specs.declared.policy.Policy.{Policy}
 use Rattle.command_policy_breaches.specs.declared.ways.Passage.{Passage}
-use Rattle.command_policy_text.specs.Texts.{told}
+use Rattle.command_policy_text.specs.Texts.{text_and_verdict}
 use Rattle.command_policy.specs.declared.judging.Judged.{Judged}
 use Rattle.command_policy.specs.Policies.{told_of}
 
 -- what is told of the pieces of what is judged is told of it
-pub told_as : (j : Judged) (setup : SetupView) (c : Policy) (l : Layout) (n : Labels) (bs : List Block) (js : List Join) (ws : List Passage) (rs : List Reply) →
-    c ≡ j.policy → l ≡ j.layout → n ≡ j.labels → bs ≡ j.blocks.items → js ≡ j.joins.items → ws ≡ j.passages.items → rs ≡ j.replies.items →
-    told c l n bs js ws setup rs ≡ told_of j setup
-told_as j setup c l n bs js ws rs policy layout labels blocks joins passages replies = cc
+pub told_as : (j : Judged) (setup : SetupView) (c : Policy) (l : Layout) (n : Labels) (hs : List Home) (js : List Join) (ws : List Passage) (rs : List Reply) →
+    c ≡ j.policy → l ≡ j.layout → n ≡ j.labels → hs ≡ j.homes.items → js ≡ j.joins.items → ws ≡ j.passages.items → rs ≡ j.replies.items →
+    text_and_verdict c l n hs js ws setup rs ≡ told_of j setup
+told_as j setup c l n hs js ws rs policy layout labels homes joins passages replies = cc

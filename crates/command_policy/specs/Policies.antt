@@ -13,9 +13,9 @@ use Rattle.setup_report.specs.Behind.{state_behind, calls_made}
 use Rattle.command_core.specs.declared.fault.Verdict.{Verdict}
 use Rattle.command_core.specs.declared.fault.Verdict.TheVariants.{Refused, Absent}
 use Rattle.command_policy_text.specs.declared.told.Held.{Held}
-use Rattle.command_policy_breaches.specs.Joins.{blocks, joins}
+use Rattle.command_policy_breaches.specs.Joins.{blocks, homes_joined, joins}
 use Rattle.command_policy_breaches.specs.Layouts.{IsLayoutOf}
-use Rattle.command_policy_text.specs.Texts.{told}
+use Rattle.command_policy_text.specs.Texts.{text_and_verdict}
 use Rattle.command_policy_breaches.specs.Ways.{passages}
 use Rattle.command_policy.specs.declared.judging.Judged.{Judged}
 
@@ -23,19 +23,19 @@ use Rattle.command_policy.specs.declared.judging.Judged.{Judged}
 abbrev pub replies_behind : ProfileName → SetupView → ℕ → List Reply
 replies_behind p setup made = replies_of p (boot p setup.plan) (take made (map (λ (c : CallView). c.call) setup.calls))
 
--- what lines are told of is the policy, its layout, the names and the joined parts
+-- what lines are told of is the policy, its layout, the names and the groups of the joined parts
 pub record IsHeldOf (j : Judged) (h : Held) : Type 0 where
   pub policy : h.policy.now ≡ j.policy
   pub layout : h.layout.now ≡ j.layout
   pub labels : h.labels.now ≡ j.labels
-  pub blocks : h.blocks.now ≡ j.blocks.items
+  pub homes : h.homes.now ≡ j.homes.items
 
 -- the layout is that of a state, Grant joins its parts as the policy says, and what can pass is what can pass between these
 pub record IsJudgedOf (p : ProfileName) (v : Shown) (replies : List Reply) (j : Judged) : Type 0 where
   pub layout : IsLayoutOf p j.policy v j.layout
   pub joins_are : j.joins.items ≡ joins j.policy j.layout
-  pub blocks_are : j.blocks.items ≡ blocks j.policy j.layout
-  pub passages_are : j.passages.items ≡ passages j.policy j.layout j.blocks.items
+  pub homes_are : j.homes.items ≡ homes_joined j.policy j.layout (blocks j.policy j.layout)
+  pub passages_are : j.passages.items ≡ passages j.policy j.layout (blocks j.policy j.layout)
   pub answered : j.replies.items ≡ replies
 
 -- of the state behind the first calls of a set-up
@@ -44,13 +44,13 @@ IsJudged p setup made j = IsJudgedOf p (shown (state_behind p setup made)) (repl
 
 -- the text, and the verdict
 abbrev pub told_of : Judged → SetupView → List ℕ × Verdict
-told_of j setup = told j.policy j.layout j.labels j.blocks.items j.joins.items j.passages.items setup j.replies.items
+told_of j setup = text_and_verdict j.policy j.layout j.labels j.homes.items j.joins.items j.passages.items setup j.replies.items
 
 -- a policy is refused: the line has the number of the fault, and its place
 abbrev pub refused_line : ℕ → List ℕ → List ℕ
 refused_line code place = codes "policy refused " ++ (decimal code ++ (codes " at " ++ (place ++ codes "\n")))
 
-pub record IsRefused (text : List ℕ) (verdict : Verdict) : Type 0 where
+pub record IsPolicyRefused (text : List ℕ) (verdict : Verdict) : Type 0 where
   pub code : ℕ
   pub place : List ℕ
   pub told : text ≡ refused_line code place
@@ -75,4 +75,4 @@ pub record IsHeldText (p : ProfileName) (setup : SetupView) (after : Option ℕ)
 -- the policy is refused; or the set-up has fewer calls than are asked for; or it is held to the policy
 abbrev pub IsPolicyOf : Option ℕ → ProfileName → ReadView → List ℕ → Verdict → Type 0
 IsPolicyOf after p read text verdict =
-    IsRefused text verdict ⊎ (IsPast read.setup after text verdict ⊎ IsHeldText p read.setup after text verdict)
+    IsPolicyRefused text verdict ⊎ (IsPast read.setup after text verdict ⊎ IsHeldText p read.setup after text verdict)

@@ -4,7 +4,7 @@ ghost use Rattle.std.specs.Option.{option_or};
 ghost use Rattle.kernel_abstract.specs.Plan.{IsPlan};
 ghost use Rattle.setup_format.specs.Read.{read_view};
 ghost use Rattle.setup_report.specs.Behind.{calls_made as calls_made_of};
-ghost use Rattle.command_policy.specs.Policies.{IsPolicyOf, IsRefused, refused_line};
+ghost use Rattle.command_policy.specs.Policies.{IsPolicyOf, IsPolicyRefused, refused_line};
 
 use crate::judging::judge;
 use cap_core::Profile;
@@ -40,7 +40,7 @@ fn refused_at(alloc: Global, code: u32, place: &str) -> Result<Answer, AllocErro
 
 /// The answer for a policy that is refused.
 fn refused(alloc: Global, refusal: &Refusal) -> Result<Answer, AllocError>
-    ensures { IfOk result (λ made. IsRefused made.text.items made.verdict) }
+    ensures { IfOk result (λ made. IsPolicyRefused made.text.items made.verdict) }
 {
     match refusal {
         Refusal::Memory => Err(AllocError),

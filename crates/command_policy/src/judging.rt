@@ -16,7 +16,7 @@ use cap_core::Profile;
 use command_core::Answer;
 use command_parts::parts_of_callers;
 use command_policy_breaches::{
-    Block, Join, Labels, Layout, Passage, Policy, blocks, joins, layout_of, passages,
+    Home, Join, Labels, Layout, Passage, Policy, blocks, homes_joined, joins, layout_of, passages,
     trusted_threads,
 };
 use command_policy_text::{Held, policy_text};
@@ -37,7 +37,7 @@ pub struct Judged {
     pub layout: Layout,
     pub labels: Labels,
     pub joins: Vec<Join>,
-    pub blocks: Vec<Block>,
+    pub homes: Vec<Home>,
     pub passages: Vec<Passage>,
     pub replies: Vec<Reply>,
 }
@@ -51,7 +51,7 @@ impl Judged {
             policy: &self.policy,
             layout: &self.layout,
             labels: &self.labels,
-            blocks: self.blocks.as_slice(),
+            homes: self.homes.as_slice(),
         }
     }
 
@@ -151,7 +151,6 @@ fn judged_by<P: Profile, S: DerivationStore<P> + Drop, W: Waiters<P> + Drop>(
     replies: Vec<Reply>,
 ) -> Result<Judged, PartsFault>
     requires threads { rows.now.threads.keys ≡ state.threads P.profile kernel.now }
-    requires endpoints { rows.now.endpoints.keys ≡ state.endpoints P.profile kernel.now }
     requires slots { map (derivation_view P.profile) rows.now.slots.items ≡ state.slot_rows kernel.now }
     ensures judged { IfOk result (spec.IsJudgedOf P.profile kernel.now replies.items) }
     ensures fault { IfErr result (λ fault. fault ≡ PartsFault.Block → (memory : ℕ) → IsInMemory P.profile memory kernel.now → ⊥) }
@@ -162,12 +161,13 @@ fn judged_by<P: Profile, S: DerivationStore<P> + Drop, W: Waiters<P> + Drop>(
     let joins = joins(alloc, &policy, &layout)?;
     let blocks = blocks(alloc, layout.parts.as_slice(), joins.as_slice())?;
     let passages = passages(alloc, &policy, &layout, blocks.as_slice())?;
+    let homes = homes_joined(alloc, &policy, &layout, blocks.as_slice())?;
     Ok(Judged {
         policy,
         layout,
         labels,
         joins,
-        blocks,
+        homes,
         passages,
         replies,
     })

@@ -5,11 +5,12 @@ ghost use Rattle.kernel_abstract.specs.Plan.{IsPlan};
 
 use crate::command::{text_of, too_many};
 use crate::judging::{Judged, judge};
+use crate::resolve::table_spot;
 use cap_core::{Narrow, Profile, ProfileName, Wide};
 use command_parts::BadgeText;
 use command_policy_breaches::{
-    Allowance, End, HeldRegion, Hold, Join, Passage, PolicyWay, Waiting, groups_of, is_entry,
-    is_in_part, is_way_between,
+    Allowance, End, HeldRegion, Hold, Join, Passage, PolicyWay, Waiting, groups_at, is_entry,
+    is_way_between,
 };
 use command_policy_text::{
     Held, Told, allowed_badges, allowed_rights, call_breaches, capability_text, end_label,
@@ -54,6 +55,31 @@ struct Teller<'a> {
 /// What is told, by its line.
 type ByLine = BTreeMap<String, Told>;
 
+/// The first lines of a kind, and how many more there are, of which no place is looked up.
+#[derive(Drop)]
+struct Lines {
+    first: Vec<String>,
+    more: usize,
+}
+
+impl Lines {
+    fn new(alloc: Global) -> Lines {
+        Lines {
+            first: Vec::new(alloc),
+            more: 0,
+        }
+    }
+
+    /// Whether a line more is shown; it is counted where it is not.
+    fn has_room(&mut self) -> bool {
+        let has_room = self.first.len() < MOST;
+        if !has_room {
+            self.more = self.more.saturating_add(1);
+        }
+        has_room
+    }
+}
+
 impl<'a> Teller<'a> {
     /// Where a group stands, or the thread that is trusted.
     fn group_spot(self, actor: Option<u64>) -> Spot<'static> {
@@ -61,38 +87,23 @@ impl<'a> Teller<'a> {
         match actor {
             None => Spot::Threads,
             Some(actor) => match groups.get(actor as usize) {
-                Some(group) => match group.place {
-                    Place::Alone(_) => Spot::Key(Place::Top, "alone"),
-                    place => Spot::Key(place, ""),
-                },
+                Some(group) => table_spot(group.place, ""),
                 None => Spot::Key(Place::Top, "silent"),
             },
         }
     }
 
-    fn first_group(self, part: u64) -> Result<Option<u64>, AllocError> {
-        let groups = groups_of(self.alloc, self.held.policy, self.held.layout, part)?;
-        Ok(groups.as_slice().first().copied())
-    }
-
     fn part_spot(self, part: u64) -> Result<Spot<'static>, AllocError> {
-        Ok(self.group_spot(self.first_group(part)?))
+        let groups = groups_at(self.alloc, self.held.layout.homes.as_slice(), part)?;
+        Ok(self.group_spot(groups.as_slice().first().copied()))
     }
 
     fn end_spot(self, end: End) -> Result<Spot<'static>, AllocError> {
         if !end.is_part {
             return Ok(self.group_spot(Some(end.number)));
         }
-        let mut first = None;
-        for group in self.held.policy.groups.as_slice() {
-            let is_there = self.judged.blocks.as_slice().iter().any(|block| {
-                block.block == end.number && is_in_part(self.held.layout, *group, block.part)
-            });
-            if is_there && first.is_none() {
-                first = Some(*group);
-            }
-        }
-        Ok(self.group_spot(first))
+        let groups = groups_at(self.alloc, self.held.homes, end.number)?;
+        Ok(self.group_spot(groups.as_slice().first().copied()))
     }
 
     /// Where an entry stands, by its place among those of ways and uses.
@@ -107,18 +118,17 @@ impl<'a> Teller<'a> {
         }
     }
 
-    fn is_meant(self, used: &PartUse, entry: &Allowance, by_badge: bool) -> bool {
-        if by_badge {
-            is_other_badge(self.held, used, entry)
-        } else {
-            is_entry(self.held.layout, used.part, used.endpoint, entry)
-        }
-    }
-
     /// The first entry of a use's endpoint, or, where its badge is amiss, the first with another that stands in its place.
     fn entry_at(self, used: &PartUse, by_badge: bool) -> Spot<'static> {
         let mut entries = self.held.policy.allowances.as_slice().iter();
-        match entries.position(|entry| self.is_meant(used, entry, by_badge)) {
+        let place = entries.position(|entry| {
+            if by_badge {
+                is_other_badge(self.held, used, entry)
+            } else {
+                is_entry(self.held.layout, used.part, used.endpoint, entry)
+            }
+        });
+        match place {
             Some(place) => self.entry_spot(place),
             None => Spot::Threads,
         }
@@ -127,9 +137,7 @@ impl<'a> Teller<'a> {
     fn way_spot(self, passage: &Passage) -> Result<Spot<'static>, AllocError> {
         let ways = self.held.policy.ways.as_slice();
         let mut ways = ways.iter();
-        let place = ways.position(|way| {
-            is_way_between(self.held.layout, self.held.blocks, passage, way)
-        });
+        let place = ways.position(|way| is_way_between(self.held.homes, passage, way));
         match place {
             Some(place) => Ok(self.entry_spot(place)),
             None => self.end_spot(passage.from),
@@ -294,17 +302,15 @@ impl<'a> Teller<'a> {
     }
 
     /// Adds a line for each of a kind.
-    fn add_kind(
-        self,
-        lines: &mut Vec<String>,
-        told: &[Told],
-        word: &str,
-    ) -> Result<(), AllocError> {
+    fn add_kind(self, lines: &mut Lines, told: &[Told], word: &str) -> Result<(), AllocError> {
         let by_line = self.by_line(told)?;
         for (line, one) in &by_line {
-            let (row, column) = line_and_column(self.alloc, self.text, self.spot(one)?)?;
-            let (name, words) = (self.files.policy_name, self.words(line.as_str(), one)?);
-            lines.push(format!(in self.alloc; "{name}:{row}:{column}: {word}: {words}")?)?;
+            if lines.has_room() {
+                let (row, column) = line_and_column(self.alloc, self.text, self.spot(one)?)?;
+                let (name, words) = (self.files.policy_name, self.words(line.as_str(), one)?);
+                let line = format!(in self.alloc; "{name}:{row}:{column}: {word}: {words}")?;
+                lines.first.push(line)?;
+            }
         }
         Ok(())
     }
@@ -316,7 +322,7 @@ impl<'a> Teller<'a> {
         number.parse::<usize>().unwrap_or(1)
     }
 
-    fn add_calls(self, lines: &mut Vec<String>, read: &ReadSetup) -> Result<(), AllocError> {
+    fn add_calls(self, lines: &mut Lines, read: &ReadSetup) -> Result<(), AllocError> {
         if !self.held.policy.calls {
             return Ok(());
         }
@@ -326,79 +332,62 @@ impl<'a> Teller<'a> {
             return Ok(());
         }
         for line in call_breaches(self.alloc, &read.setup, replies)? {
-            let array = Some(("call", self.call_of(line.as_str())));
-            let span = span_in(self.alloc, text, array, "", Part::Key)?;
-            let (row, column) = place_in(text, span.map_or(0, |span| span.start));
-            let name = self.files.setup_name;
-            let words = line.as_str().strip_prefix("breach ").unwrap_or("");
-            lines.push(format!(in self.alloc; "{name}:{row}:{column}: error: {words}")?)?;
+            if lines.has_room() {
+                let array = Some(("call", self.call_of(line.as_str())));
+                let span = span_in(self.alloc, text, array, "", Part::Key)?;
+                let (row, column) = place_in(text, span.map_or(0, |span| span.start));
+                let name = self.files.setup_name;
+                let words = line.as_str().strip_prefix("breach ").unwrap_or("");
+                let line = format!(in self.alloc; "{name}:{row}:{column}: error: {words}")?;
+                lines.first.push(line)?;
+            }
         }
         Ok(())
     }
 
     /// A line for each breach.
-    fn errors(self, read: &ReadSetup) -> Result<Vec<String>, AllocError> {
+    fn errors(self, read: &ReadSetup) -> Result<Lines, AllocError> {
         let (alloc, held) = (self.alloc, self.held);
-        let mut lines = Vec::new(alloc);
-        let joins = self.judged.joins.as_slice();
-        let passages = self.judged.passages.as_slice();
+        let mut lines = Lines::new(alloc);
         self.add_calls(&mut lines, read)?;
-        self.add_kind(&mut lines, kinds::joined(alloc, held)?.as_slice(), "error")?;
-        self.add_kind(
-            &mut lines,
-            kinds::grants(alloc, held, joins)?.as_slice(),
-            "error",
-        )?;
-        self.add_kind(&mut lines, kinds::threads(alloc, held)?.as_slice(), "error")?;
-        self.add_kind(&mut lines, kinds::regions(alloc, held)?.as_slice(), "error")?;
-        self.add_kind(&mut lines, kinds::uses(alloc, held)?.as_slice(), "error")?;
-        self.add_kind(&mut lines, kinds::badges(alloc, held)?.as_slice(), "error")?;
-        self.add_kind(&mut lines, kinds::rights(alloc, held)?.as_slice(), "error")?;
-        self.add_kind(
-            &mut lines,
-            kinds::ways(alloc, held, passages)?.as_slice(),
-            "error",
-        )?;
-        self.add_kind(&mut lines, kinds::waits(alloc, held)?.as_slice(), "error")?;
+        let told = [
+            kinds::joined(alloc, held)?,
+            kinds::grants(alloc, held, self.judged.joins.as_slice())?,
+            kinds::threads(alloc, held)?,
+            kinds::regions(alloc, held)?,
+            kinds::uses(alloc, held)?,
+            kinds::badges(alloc, held)?,
+            kinds::rights(alloc, held)?,
+            kinds::ways(alloc, held, self.judged.passages.as_slice())?,
+            kinds::waits(alloc, held)?,
+        ];
+        for kind in &told {
+            self.add_kind(&mut lines, kind.as_slice(), "error")?;
+        }
         Ok(lines)
     }
 
     /// A line for each allowance of which nothing is there.
-    fn warnings(self) -> Result<Vec<String>, AllocError> {
+    fn warnings(self) -> Result<Lines, AllocError> {
         let (alloc, held) = (self.alloc, self.held);
-        let mut lines = Vec::new(alloc);
-        self.add_kind(
-            &mut lines,
-            kinds::idle_ways(alloc, held)?.as_slice(),
-            "warning",
-        )?;
-        self.add_kind(
-            &mut lines,
-            kinds::idle_uses(alloc, held)?.as_slice(),
-            "warning",
-        )?;
-        self.add_kind(
-            &mut lines,
-            kinds::idle_rights(alloc, held)?.as_slice(),
-            "warning",
-        )?;
-        self.add_kind(
-            &mut lines,
-            kinds::idle_regions(alloc, held)?.as_slice(),
-            "warning",
-        )?;
-        self.add_kind(
-            &mut lines,
-            kinds::idle_groups(alloc, held)?.as_slice(),
-            "warning",
-        )?;
+        let mut lines = Lines::new(alloc);
+        let told = [
+            kinds::idle_ways(alloc, held)?,
+            kinds::idle_uses(alloc, held)?,
+            kinds::idle_rights(alloc, held)?,
+            kinds::idle_regions(alloc, held)?,
+            kinds::idle_groups(alloc, held)?,
+        ];
+        for kind in &told {
+            self.add_kind(&mut lines, kind.as_slice(), "warning")?;
+        }
         Ok(lines)
     }
 
     fn told(self, read: &ReadSetup) -> Result<String, AllocError> {
         let mut out = String::new(self.alloc);
-        add_lines(&mut out, self.errors(read)?.as_slice())?;
-        add_lines(&mut out, self.warnings()?.as_slice())?;
+        add_lines(&mut out, &self.errors(read)?)?;
+        add_lines(&mut out, &self.warnings()?)?;
         Ok(out)
     }
 }
@@ -414,14 +403,15 @@ fn place_in(text: &str, at: usize) -> (usize, usize) {
 }
 
 /// Adds the first lines of some, and how many more there are.
-fn add_lines(out: &mut String, lines: &[String]) -> Result<(), AllocError> {
-    for line in lines.iter().take(MOST) {
+fn add_lines(out: &mut String, lines: &Lines) -> Result<(), AllocError> {
+    for line in lines.first.as_slice() {
         writeln!(out, "{line}")?;
     }
-    match lines.len().checked_sub(MOST) {
-        Some(more) if more > 0 => writeln!(out, "sel4sim: {more} more"),
-        _ => Ok(()),
+    let more = lines.more;
+    if more > 0 {
+        writeln!(out, "sel4sim: {more} more")?;
     }
+    Ok(())
 }
 
 /// Why a policy is refused, with its place.

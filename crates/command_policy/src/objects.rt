@@ -176,11 +176,6 @@ impl From<AllocError> for Unmeant {
 }
 
 impl<'a> Objects<'a> {
-    /// Whether an object is live.
-    fn is_live(self, object: Object) -> bool {
-        self.live.iter().any(|live| live.kind == object.kind && live.base == object.base)
-    }
-
     /// Whether a number is a slot of the root CNode, and not an address.
     fn is_slot(self, number: u64) -> bool {
         number < self.slots.len() as u64
@@ -298,8 +293,8 @@ impl<'a> Objects<'a> {
         kind: Kind,
         object: Object,
     ) -> Result<(), AllocError> {
-        if let Some(name) = self.name(object)
-            && object.kind == kind
+        if object.kind == kind
+            && let Some(name) = self.name(object)
         {
             labels.push(Label {
                 base: object.base,

@@ -1,7 +1,7 @@
 //! The words of a policy are given their meaning.
 use crate::objects::{Kind, Meaning, Object, Unmeant};
 use cap_core::{Profile, Rights};
-use command_policy_breaches::{Allowance, Member, OwnRegion, Policy, PolicyWay};
+use command_policy_breaches::{Allowance, Member, OwnRegion, Policy, PolicyWay, sender_entry};
 use ipc_core::Waiters;
 use setup_policy::{
     Fault, GroupEntry, Place, PolicyFile, Refusal, Spot, UseEntry, WayEntry, Word, did_you_mean,
@@ -17,19 +17,11 @@ pub struct Resolver<'a, P: Profile, S: CapStore<P> + Drop, W: Waiters<P> + Drop>
     pub meaning: Meaning<'a, P, S, W>,
 }
 
-/// Where in the policy a table begins, or its key, where it has no key of its own.
-fn table_spot(place: Place) -> Spot<'static> {
+/// Where in the policy a key of a table stands, or its beginning where the key is empty; `alone` for a group that has no table.
+pub fn table_spot(place: Place, key: &'static str) -> Spot<'static> {
     match place {
         Place::Alone(_) => Spot::Key(Place::Top, "alone"),
-        other => Spot::Key(other, ""),
-    }
-}
-
-/// Where the threads of a group stand.
-fn threads_spot(place: Place) -> Spot<'static> {
-    match place {
-        Place::Alone(_) => Spot::Key(Place::Top, "alone"),
-        other => Spot::Key(other, "threads"),
+        other => Spot::Key(other, key),
     }
 }
 
@@ -81,7 +73,7 @@ impl<P: Profile, S: CapStore<P> + Drop, W: Waiters<P> + Drop> Resolver<'_, P, S,
             "{name} is a trusted thread; give the group another name, or don't trust it"
         )?;
         let spot = Spot::Key(group.place, "name");
-        let at = table_spot(group.place);
+        let at = table_spot(group.place, "");
         Err(Refusal::at(self.alloc(), self.text, Fault::Twice, spot, at, words))
     }
 
@@ -92,7 +84,7 @@ impl<P: Profile, S: CapStore<P> + Drop, W: Waiters<P> + Drop> Resolver<'_, P, S,
         actor: u64,
         place: Place,
     ) -> Result<(), Refusal> {
-        let spot = threads_spot(place);
+        let spot = table_spot(place, "threads");
         let thread = self.meant(Kind::Thread, word, spot)?.base;
         let mut members = policy.members.as_slice().iter();
         if let Some(member) = members.find(|member| member.thread == thread) {
@@ -138,7 +130,10 @@ impl<P: Profile, S: CapStore<P> + Drop, W: Waiters<P> + Drop> Resolver<'_, P, S,
             let Object { kind, base, .. } = *object;
             let is_known = has_thread(policy.members.as_slice(), base) || is_trusted(policy, base);
             if kind == Kind::Thread && !is_known {
-                let name = self.shown(*object)?;
+                let name = match self.meaning.objects.name(*object) {
+                    Some(name) => format!(in self.alloc(); "@{name}")?,
+                    None => format!(in self.alloc(); "{base}")?,
+                };
                 let words = format!(in self.alloc();
                     "the live thread {name} is in no group; add it to a group, to alone, to silent or to messages"
                 )?;
@@ -146,13 +141,6 @@ impl<P: Profile, S: CapStore<P> + Drop, W: Waiters<P> + Drop> Resolver<'_, P, S,
             }
         }
         Ok(())
-    }
-
-    fn shown(&self, object: Object) -> Result<String, AllocError> {
-        match self.meaning.objects.name(object) {
-            Some(name) => format!(in self.alloc(); "@{name}"),
-            None => format!(in self.alloc(); "{}", object.base),
-        }
     }
 
     /// The number of a group or of a trusted thread.
@@ -285,23 +273,15 @@ fn allowances(
     ways: &[PolicyWay],
     uses: &[Allowance],
 ) -> Result<Vec<Allowance>, AllocError> {
-    let mut all = Vec::new(alloc);
-    for way in ways {
-        all.push(Allowance {
-            actor: way.from,
-            endpoint: way.endpoint,
-            badge: way.badge,
-            rights: way.rights,
-        })?;
-    }
-    for way in ways {
-        all.push(Allowance {
-            actor: way.to,
-            endpoint: way.endpoint,
-            badge: 0,
-            rights: Rights::READ,
-        })?;
-    }
+    let mut all: Vec<Allowance> = ways.iter().map(|way| sender_entry(way)).collect(alloc)?;
+    let receivers = ways.iter().map(|way| Allowance {
+        actor: way.to,
+        endpoint: way.endpoint,
+        badge: 0,
+        rights: Rights::READ,
+    });
+    let receivers: Vec<Allowance> = receivers.collect(alloc)?;
+    all.extend_from_slice(receivers.as_slice())?;
     all.extend_from_slice(uses)?;
     Ok(all)
 }

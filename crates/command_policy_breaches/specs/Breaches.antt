@@ -13,7 +13,6 @@ use Rattle.command_policy_breaches.specs.declared.policy.Member.{Member}
 use Rattle.command_policy_breaches.specs.declared.policy.OwnRegion.{OwnRegion}
 use Rattle.command_policy_breaches.specs.declared.policy.Policy.{Policy}
 use Rattle.command_policy_breaches.specs.declared.policy.Waiting.{Waiting}
-pub use Rattle.command_policy_breaches.specs.Joins.{have_two_groups}
 use Rattle.command_policy_breaches.specs.Sides.{is_in_part}
 
 -- ---- what is a group's own
@@ -24,11 +23,11 @@ ends_within (Some last) None begins = false
 ends_within (Some last) (Some end) begins = begins && nat_le last end
 
 -- 2^bits addresses lie among 2^most others
-abbrev pub lies_within : ℕ → ℕ → ℕ → ℕ → Bool
-lies_within base bits first most = ends_within (last_in base bits) (last_in first most) (nat_le first base)
+abbrev pub range_lies_within : ℕ → ℕ → ℕ → ℕ → Bool
+range_lies_within base bits first most = ends_within (last_in base bits) (last_in first most) (nat_le first base)
 
 abbrev pub has_region : Layout → ℕ → ℕ → ℕ → OwnRegion → Bool
-has_region l part base bits own = is_in_part l part own.group && lies_within base bits own.base own.bits
+has_region l part base bits own = range_lies_within base bits own.base own.bits && is_in_part l part own.group
 
 abbrev pub is_own : Policy → Layout → ℕ → ℕ → ℕ → Bool
 is_own c l part base bits = list_any (has_region l part base bits) c.regions.items
@@ -69,8 +68,8 @@ abbrev pub exceeds : Policy → Layout → PartUse → ℕ → Bool
 exceeds c l u right = has_right right u.rights && not (lets_ever c l u.part u.endpoint right)
 
 -- a right that entries have, and none of them with this badge
-abbrev pub strays : Policy → Layout → PartUse → ℕ → Bool
-strays c l u right =
+abbrev pub is_stray_right : Policy → Layout → PartUse → ℕ → Bool
+is_stray_right c l u right =
     has_right right u.rights && (lets_ever c l u.part u.endpoint right && not (lets_with c l u.part u.endpoint u.badge.0 right))
 
 abbrev pub needs_entry : Policy → Layout → PartUse → Bool
@@ -88,11 +87,16 @@ abbrev pub has_right_too_much : Policy → Layout → PartUse → Bool
 has_right_too_much c l u =
     is_listed c l u && (exceeds c l u write_bit || (exceeds c l u read_bit || (exceeds c l u grant_bit || exceeds c l u grant_reply_bit)))
 
+abbrev pub has_no_right : PartUse → Bool
+has_no_right u =
+    not (has_right write_bit u.rights) && (not (has_right read_bit u.rights)
+    && (not (has_right grant_bit u.rights) && not (has_right grant_reply_bit u.rights)))
+
 -- without any right: no entry has the badge
 abbrev pub strays_somehow : Policy → Layout → PartUse → Bool
 strays_somehow c l u =
-    strays c l u write_bit || (strays c l u read_bit || (strays c l u grant_bit || (strays c l u grant_reply_bit
-    || (u.rights.0 == 0 && not (lets_badge c l u.part u.endpoint u.badge.0)))))
+    is_stray_right c l u write_bit || (is_stray_right c l u read_bit || (is_stray_right c l u grant_bit || (is_stray_right c l u grant_reply_bit
+    || (has_no_right u && not (lets_badge c l u.part u.endpoint u.badge.0)))))
 
 -- entries are of the endpoint, and of those with a right of the use none has its badge
 abbrev pub has_other_badge : Policy → Layout → PartUse → Bool
@@ -114,7 +118,7 @@ is_region_own c l r = is_own c l r.part r.base r.bits
 
 abbrev pub is_in_larger : Policy → Layout → HeldRegion → Bool
 is_in_larger c l r =
-    list_any (λ (o : HeldRegion). o.part == r.part && (nat_lt r.bits o.bits && (lies_within r.base r.bits o.base o.bits && not (is_region_own c l o)))) l.regions.items
+    list_any (λ (o : HeldRegion). o.part == r.part && (nat_lt r.bits o.bits && (range_lies_within r.base r.bits o.base o.bits && not (is_region_own c l o)))) l.regions.items
 
 -- the region lies in none of the part's own, and in no larger one that is to be told
 abbrev pub is_region_amiss : Policy → Layout → HeldRegion → Bool

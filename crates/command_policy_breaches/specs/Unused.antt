@@ -1,12 +1,12 @@
 -- What a policy allows and of which nothing is there.
-use Rattle.std.specs.Prelude.{ℕ, ◌==◌, ◌&&◌, ◌||◌, Bool, not, List, map, filter, length}
+use Rattle.std.specs.Prelude.{ℕ, ◌==◌, ◌&&◌, ◌||◌, Bool, not, List, count_by}
 use Rattle.std.specs.List.{list_any}
 use Rattle.cap_core.specs.Rights.{write_bit, read_bit, grant_bit, grant_reply_bit}
 use Rattle.kernel_abstract.specs.Decode.{has_right}
 use Rattle.query_parts.specs.declared.listed.PartUse.{PartUse}
-use Rattle.setup_report.specs.State.{rising}
+use Rattle.query_parts.specs.Listed.{part_at}
 use Rattle.command_policy_breaches.specs.declared.policy.Allowance.{Allowance}
-use Rattle.command_policy_breaches.specs.declared.policy.Block.{Block}
+use Rattle.command_policy_breaches.specs.declared.policy.Home.{Home}
 use Rattle.command_policy_breaches.specs.declared.policy.HeldRegion.{HeldRegion}
 use Rattle.command_policy_breaches.specs.declared.policy.Layout.{Layout}
 use Rattle.command_policy_breaches.specs.declared.policy.Member.{Member}
@@ -14,10 +14,9 @@ use Rattle.command_policy_breaches.specs.declared.policy.OwnRegion.{OwnRegion}
 use Rattle.command_policy_breaches.specs.declared.policy.Policy.{Policy}
 use Rattle.command_policy_breaches.specs.declared.policy.PolicyWay.{PolicyWay}
 use Rattle.command_policy_breaches.specs.declared.policy.Waiting.{Waiting}
-use Rattle.command_policy_breaches.specs.Breaches.{lies_within}
-pub use Rattle.command_policy_breaches.specs.Joins.{block_of}
+use Rattle.command_policy_breaches.specs.Breaches.{range_lies_within}
 pub use Rattle.command_policy_breaches.specs.Sides.{is_in_part}
-use Rattle.command_policy_breaches.specs.Sides.{may_hear, may_send_any, owns, sends, waits_to_send}
+use Rattle.command_policy_breaches.specs.Sides.{is_found_home}
 use Rattle.command_policy_breaches.specs.Ways.{is_receive_of, is_send_of}
 
 -- two badges have one in common, where 0 is any
@@ -26,29 +25,44 @@ cross one other = one == 0 || (other == 0 || one == other)
 
 -- ---- ways
 
-abbrev pub sends_by_use : Layout → ℕ → ℕ → ℕ → Bool
-sends_by_use l endpoint badge part = list_any (λ (u : PartUse). sends part endpoint u && cross badge u.badge.0) l.uses.items
+-- the endpoint lies in the memory of a part of the group
+abbrev pub group_owns : Layout → ℕ → ℕ → Bool
+group_owns l actor endpoint = is_found_home l.homes.items actor (part_at l.memory.items endpoint)
+
+abbrev pub is_use_of_entry : Layout → ℕ → ℕ → ℕ → PartUse → Bool
+is_use_of_entry l actor endpoint badge u = u.endpoint == endpoint && (cross badge u.badge.0 && is_in_part l u.part actor)
+
+-- a use of the group has the right
+abbrev pub is_used : Layout → ℕ → ℕ → ℕ → ℕ → Bool
+is_used l actor endpoint badge right =
+    list_any (λ (u : PartUse). is_use_of_entry l actor endpoint badge u && has_right right u.rights) l.uses.items
+
+-- a thread in a part of the group waits there
+abbrev pub is_wait_of : Layout → ℕ → ℕ → Waiting → Bool
+is_wait_of l actor endpoint w = w.endpoint == endpoint && is_found_home l.homes.items actor (part_at l.memory.items w.thread)
 
 abbrev pub sends_by_wait : Layout → ℕ → ℕ → ℕ → Bool
-sends_by_wait l endpoint badge part = list_any (λ (w : Waiting). waits_to_send l part endpoint w && cross badge w.badge) l.waits.items
+sends_by_wait l actor endpoint badge =
+    list_any (λ (w : Waiting). w.sends && (cross badge w.badge && is_wait_of l actor endpoint w)) l.waits.items
 
-abbrev pub part_sends : Layout → ℕ → ℕ → ℕ → Bool
-part_sends l endpoint badge part = may_send_any l part endpoint || (sends_by_use l endpoint badge part || sends_by_wait l endpoint badge part)
+abbrev pub hears_by_wait : Layout → ℕ → ℕ → Bool
+hears_by_wait l actor endpoint = list_any (λ (w : Waiting). not w.sends && is_wait_of l actor endpoint w) l.waits.items
 
 abbrev pub group_sends : Layout → ℕ → ℕ → ℕ → Bool
-group_sends l actor endpoint badge = list_any (λ part. is_in_part l part actor && part_sends l endpoint badge part) l.parts.items
+group_sends l actor endpoint badge =
+    group_owns l actor endpoint || (is_used l actor endpoint badge write_bit || sends_by_wait l actor endpoint badge)
 
 abbrev pub group_hears : Layout → ℕ → ℕ → Bool
-group_hears l actor endpoint = list_any (λ part. is_in_part l part actor && may_hear l part endpoint) l.parts.items
+group_hears l actor endpoint = group_owns l actor endpoint || (is_used l actor endpoint 0 read_bit || hears_by_wait l actor endpoint)
 
-abbrev pub is_one_of : List Member → ℕ → Bool
-is_one_of trusted actor = list_any (λ (m : Member). m.actor == actor) trusted
+abbrev pub is_trusted_actor : List Member → ℕ → Bool
+is_trusted_actor trusted actor = list_any (λ (m : Member). m.actor == actor) trusted
 
-abbrev pub waits_with : Layout → ℕ → ℕ → ℕ → Bool
-waits_with l thread endpoint badge = list_any (λ (w : Waiting). is_send_of thread endpoint w && cross badge w.badge) l.waits.items
+abbrev pub waits_with_badge : Layout → ℕ → ℕ → ℕ → Bool
+waits_with_badge l thread endpoint badge = list_any (λ (w : Waiting). is_send_of thread endpoint w && cross badge w.badge) l.waits.items
 
 abbrev pub member_sends : Layout → ℕ → ℕ → ℕ → Member → Bool
-member_sends l actor endpoint badge m = m.actor == actor && waits_with l m.thread endpoint badge
+member_sends l actor endpoint badge m = m.actor == actor && waits_with_badge l m.thread endpoint badge
 
 abbrev pub member_hears : Layout → ℕ → ℕ → Member → Bool
 member_hears l actor endpoint m = m.actor == actor && list_any (is_receive_of m.thread endpoint) l.waits.items
@@ -56,10 +70,10 @@ member_hears l actor endpoint m = m.actor == actor && list_any (is_receive_of m.
 -- a thread that is trusted to send may send; of another that is trusted, a send waits
 abbrev pub thread_sends : Policy → Layout → ℕ → ℕ → ℕ → Bool
 thread_sends c l actor endpoint badge =
-    is_one_of c.messages.items actor || list_any (member_sends l actor endpoint badge) c.silent.items
+    is_trusted_actor c.messages.items actor || list_any (member_sends l actor endpoint badge) c.silent.items
 
 abbrev pub thread_hears : Policy → Layout → ℕ → ℕ → Bool
-thread_hears c l actor endpoint = is_one_of c.messages.items actor || list_any (member_hears l actor endpoint) c.silent.items
+thread_hears c l actor endpoint = is_trusted_actor c.messages.items actor || list_any (member_hears l actor endpoint) c.silent.items
 
 -- something of the sender may be sent by the endpoint with the badge, and the receiver may receive there
 abbrev pub is_way_used : Policy → Layout → PolicyWay → Bool
@@ -69,16 +83,9 @@ is_way_used c l w =
 
 -- ---- rights that nothing has
 
-abbrev pub is_use_of : Layout → ℕ → ℕ → ℕ → PartUse → Bool
-is_use_of l actor endpoint badge u = u.endpoint == endpoint && (cross badge u.badge.0 && is_in_part l u.part actor)
-
-abbrev pub has : Layout → ℕ → ℕ → ℕ → ℕ → Bool
-has l actor endpoint badge right =
-    list_any (λ (u : PartUse). is_use_of l actor endpoint badge u && has_right right u.rights) l.uses.items
-
 -- an entry has a right that nothing of its group has
 abbrev pub is_idle : Layout → Allowance → ℕ → Bool
-is_idle l a right = has_right right a.rights && not (has l a.actor a.endpoint a.badge right)
+is_idle l a right = has_right right a.rights && not (is_used l a.actor a.endpoint a.badge right)
 
 abbrev pub has_idle_behind_write : Layout → Allowance → Bool
 has_idle_behind_write l a = is_idle l a read_bit || (is_idle l a grant_bit || is_idle l a grant_reply_bit)
@@ -86,9 +93,6 @@ has_idle_behind_write l a = is_idle l a read_bit || (is_idle l a grant_bit || is
 -- what a way lets its sender hold
 abbrev pub sender_entry : PolicyWay → Allowance
 sender_entry w = record { actor = w.from; endpoint = w.endpoint; badge = w.badge; rights = w.rights }
-
-abbrev pub group_owns : Layout → ℕ → ℕ → Bool
-group_owns l actor endpoint = list_any (λ part. is_in_part l part actor && owns l part endpoint) l.parts.items
 
 abbrev pub is_group : Policy → ℕ → Bool
 is_group c actor = list_any (λ g. g == actor) c.groups.items
@@ -102,7 +106,7 @@ has_way_idle_right c l w =
 
 -- a part of the entry's group has a use of the endpoint, with a badge that the entry lets
 abbrev pub is_entry_used : Layout → Allowance → Bool
-is_entry_used l a = list_any (is_use_of l a.actor a.endpoint a.badge) l.uses.items
+is_entry_used l a = list_any (is_use_of_entry l a.actor a.endpoint a.badge) l.uses.items
 
 -- an entry that is used has a right that nothing of its group has
 abbrev pub has_use_idle_right : Layout → Allowance → Bool
@@ -111,12 +115,12 @@ has_use_idle_right l a = is_entry_used l a && (is_idle l a write_bit || has_idle
 -- ---- regions and groups
 
 abbrev pub is_region_of : Layout → OwnRegion → HeldRegion → Bool
-is_region_of l own r = is_in_part l r.part own.group && lies_within r.base r.bits own.base own.bits
+is_region_of l own r = range_lies_within r.base r.bits own.base own.bits && is_in_part l r.part own.group
 
 -- a slot of the group's parts holds a region that lies in this one
 abbrev pub is_region_used : Layout → OwnRegion → Bool
 is_region_used l own = list_any (is_region_of l own) l.regions.items
 
--- how many parts the threads of a group are, where those that Grant joins count as one
-abbrev pub count_of_parts : Layout → List Block → ℕ → ℕ
-count_of_parts l bs group = length (rising (map (block_of bs) (filter (λ part. is_in_part l part group) l.parts.items)))
+-- how many parts the threads of a group are, where those that Grant joins count as one; `homes` are those of the joined parts
+abbrev pub count_of_parts : List Home → ℕ → ℕ
+count_of_parts homes group = count_by (λ (h : Home). h.group == group) homes

@@ -7,6 +7,7 @@ use Rattle.query_parts.specs.Listed.{part_at}
 use Rattle.setup_report.specs.State.{rising}
 use Rattle.command_parts.specs.Text.{is_part}
 use Rattle.command_policy_breaches.specs.declared.policy.Block.{Block}
+use Rattle.command_policy_breaches.specs.declared.policy.Home.{Home}
 use Rattle.command_policy_breaches.specs.declared.policy.Layout.{Layout}
 use Rattle.command_policy_breaches.specs.declared.policy.Member.{Member}
 use Rattle.command_policy_breaches.specs.declared.policy.Policy.{Policy}
@@ -16,9 +17,8 @@ use Rattle.command_policy_breaches.specs.declared.ways.End.{End}
 use Rattle.command_policy_breaches.specs.declared.ways.Sending.{Sending}
 use Rattle.command_policy_breaches.specs.declared.ways.Passage.{Passage}
 use Rattle.command_policy_breaches.specs.Breaches.{meets}
-pub use Rattle.command_policy_breaches.specs.Joins.{block_of}
-use Rattle.command_policy_breaches.specs.Joins.{is_in_block}
-use Rattle.command_policy_breaches.specs.Sides.{badges, may_hear}
+pub use Rattle.command_policy_breaches.specs.Joins.{block_of_part}
+use Rattle.command_policy_breaches.specs.Sides.{sent_badges, is_at_home, may_hear}
 
 -- ---- who may send to an endpoint, with which badges
 
@@ -31,12 +31,12 @@ thread_end number = record { is_part = false; number = number }
 abbrev pub sending : End → ℕ → ℕ → Sending
 sending end part badge = record { end = end; part = part; badge = badge }
 
-abbrev pub part_sends : Layout → List Block → ℕ → ℕ → List Sending
-part_sends l bs endpoint part = map (sending (part_end (block_of bs part)) part) (badges l part endpoint)
+abbrev pub part_sendings : Layout → List Block → ℕ → ℕ → List Sending
+part_sendings l bs endpoint part = map (sending (part_end (block_of_part bs part)) part) (sent_badges l part endpoint)
 
 -- a trusted thread is in no part
-abbrev pub is_outside : Layout → Member → Bool
-is_outside l m = not (is_some (part_at l.memory.items m.thread))
+abbrev pub is_in_no_part : Layout → Member → Bool
+is_in_no_part l m = not (is_some (part_at l.memory.items m.thread))
 
 abbrev pub is_send_of : ℕ → ℕ → Waiting → Bool
 is_send_of thread endpoint w = w.sends && (w.endpoint == endpoint && w.thread == thread)
@@ -45,11 +45,11 @@ abbrev pub waiting_send : ℕ → Waiting → Sending
 waiting_send actor w = sending (thread_end actor) 0 w.badge
 
 -- what a thread that is trusted to make no more calls sends, where it waits to
-abbrev pub thread_sends : Layout → ℕ → Member → List Sending
-thread_sends l endpoint m = cond (is_outside l m) (map (waiting_send m.actor) (filter (is_send_of m.thread endpoint) l.waits.items)) []
+abbrev pub thread_sendings : Layout → ℕ → Member → List Sending
+thread_sendings l endpoint m = cond (is_in_no_part l m) (map (waiting_send m.actor) (filter (is_send_of m.thread endpoint) l.waits.items)) []
 
-abbrev pub sends_to : Policy → Layout → List Block → ℕ → List Sending
-sends_to c l bs endpoint = flat_map (part_sends l bs endpoint) l.parts.items ++ flat_map (thread_sends l endpoint) c.silent.items
+abbrev pub sendings_to : Policy → Layout → List Block → ℕ → List Sending
+sendings_to c l bs endpoint = flat_map (part_sendings l bs endpoint) l.parts.items ++ flat_map (thread_sendings l endpoint) c.silent.items
 
 -- ---- who may receive there
 
@@ -60,11 +60,11 @@ abbrev pub is_receive_of : ℕ → ℕ → Waiting → Bool
 is_receive_of thread endpoint w = not w.sends && (w.endpoint == endpoint && w.thread == thread)
 
 abbrev pub hears_as_thread : Layout → ℕ → Member → Bool
-hears_as_thread l endpoint m = is_outside l m && list_any (is_receive_of m.thread endpoint) l.waits.items
+hears_as_thread l endpoint m = is_in_no_part l m && list_any (is_receive_of m.thread endpoint) l.waits.items
 
 abbrev pub hearers_on : Policy → Layout → List Block → ℕ → List End
 hearers_on c l bs endpoint =
-    map part_end (rising (map (block_of bs) (filter (hears_on l endpoint) l.parts.items)))
+    map part_end (rising (map (block_of_part bs) (filter (hears_on l endpoint) l.parts.items)))
     ++ map (λ (m : Member). thread_end m.actor) (filter (hears_as_thread l endpoint) c.silent.items)
 
 -- ---- what can pass
@@ -80,7 +80,7 @@ abbrev pub passages_of : List End → ℕ → Sending → List Passage
 passages_of hearers endpoint s = map (passage s endpoint) (filter (is_apart s.end) hearers)
 
 abbrev pub passages_by : Policy → Layout → List Block → ℕ → List Passage
-passages_by c l bs endpoint = flat_map (passages_of (hearers_on c l bs endpoint) endpoint) (sends_to c l bs endpoint)
+passages_by c l bs endpoint = flat_map (passages_of (hearers_on c l bs endpoint) endpoint) (sendings_to c l bs endpoint)
 
 -- what can pass by each live endpoint: between parts of different numbers, or between a part and a trusted thread that waits
 abbrev pub passages : Policy → Layout → List Block → List Passage
@@ -90,31 +90,35 @@ passages c l bs = flat_map (passages_by c l bs) l.endpoints.items
 abbrev pub is_between_parts : Passage → Bool
 is_between_parts w = w.from.is_part && w.to.is_part
 
--- ---- what no way lets pass
+-- ---- what no way lets pass: `homes` are those of the joined parts
 
 -- a group has a thread in one of the parts, or the actor is the thread
-abbrev pub is_at : Layout → List Block → End → ℕ → Bool
-is_at l bs end actor = cond end.is_part (is_in_block l bs end.number actor) (end.number == actor)
+abbrev pub is_end_at : List Home → End → ℕ → Bool
+is_end_at homes end actor = cond end.is_part (is_at_home homes end.number actor) (end.number == actor)
 
-abbrev pub have_one_in_common : Policy → Layout → List Block → Passage → Bool
-have_one_in_common c l bs w = list_any (λ g. is_at l bs w.from g && is_at l bs w.to g) c.groups.items
+-- the home of a group at one end, which has a thread at the other, too
+abbrev pub is_home_of_both : List Home → Passage → Home → Bool
+is_home_of_both homes w h = w.from.is_part && (h.part == w.from.number && (w.to.is_part && is_at_home homes w.to.number h.group))
 
-abbrev pub begins_there : Layout → List Block → Passage → PolicyWay → Bool
-begins_there l bs w way = way.endpoint == w.endpoint && is_at l bs w.from way.from
+abbrev pub have_one_in_common : List Home → Passage → Bool
+have_one_in_common homes w = list_any (is_home_of_both homes w) homes
+
+abbrev pub begins_there : List Home → Passage → PolicyWay → Bool
+begins_there homes w way = way.endpoint == w.endpoint && is_end_at homes w.from way.from
 
 -- a way is between the ends of a passage, by its endpoint
-abbrev pub is_way_between : Layout → List Block → Passage → PolicyWay → Bool
-is_way_between l bs w way = begins_there l bs w way && is_at l bs w.to way.to
+abbrev pub is_way_between : List Home → Passage → PolicyWay → Bool
+is_way_between homes w way = begins_there homes w way && is_end_at homes w.to way.to
 
 -- a way says so, with this badge or any
-abbrev pub is_let : Policy → Layout → List Block → Passage → Bool
-is_let c l bs w = list_any (λ (way : PolicyWay). is_way_between l bs w way && meets way.badge w.badge) c.ways.items
+abbrev pub is_let : Policy → List Home → Passage → Bool
+is_let c homes w = list_any (λ (way : PolicyWay). is_way_between homes w way && meets way.badge w.badge) c.ways.items
 
-abbrev pub is_let_elsewhere : Policy → Layout → List Block → Passage → Bool
-is_let_elsewhere c l bs w = list_any (λ (way : PolicyWay). begins_there l bs w way && meets way.badge w.badge) c.ways.items
+abbrev pub is_let_elsewhere : Policy → List Home → Passage → Bool
+is_let_elsewhere c homes w = list_any (λ (way : PolicyWay). begins_there homes w way && meets way.badge w.badge) c.ways.items
 
-abbrev pub has_way : Policy → Layout → List Block → Passage → Bool
-has_way c l bs w = list_any (is_way_between l bs w) c.ways.items
+abbrev pub has_way : Policy → List Home → Passage → Bool
+has_way c homes w = list_any (is_way_between homes w) c.ways.items
 
 abbrev pub is_use_of_passage : Passage → PartUse → Bool
 is_use_of_passage w u = u.part == w.part && (u.endpoint == w.endpoint && u.badge.0 == w.badge)
@@ -124,14 +128,14 @@ is_wait_of_passage l w wait =
     wait.sends && (wait.endpoint == w.endpoint && (wait.badge == w.badge && is_part w.part (part_at l.memory.items wait.thread)))
 
 -- its badge is told already, of one of these uses or of these sends that wait
-abbrev pub is_told : Layout → List PartUse → List Waiting → Passage → Bool
-is_told l uses waits w = list_any (is_use_of_passage w) uses || list_any (is_wait_of_passage l w) waits
+abbrev pub is_passage_told : Layout → List PartUse → List Waiting → Passage → Bool
+is_passage_told l uses waits w = list_any (is_use_of_passage w) uses || list_any (is_wait_of_passage l w) waits
 
 -- the badge alone is amiss, and told already
-abbrev pub is_badge_told : Policy → Layout → List Block → List PartUse → List Waiting → Passage → Bool
-is_badge_told c l bs uses waits w = has_way c l bs w && (not (is_let_elsewhere c l bs w) && is_told l uses waits w)
+abbrev pub is_badge_told : Policy → Layout → List Home → List PartUse → List Waiting → Passage → Bool
+is_badge_told c l homes uses waits w = is_passage_told l uses waits w && (has_way c homes w && not (is_let_elsewhere c homes w))
 
 -- no way lets the passage be, its ends have no group in common, and its badge is not told already
-abbrev pub is_passage_amiss : Policy → Layout → List Block → List PartUse → List Waiting → Passage → Bool
-is_passage_amiss c l bs uses waits w =
-    not (have_one_in_common c l bs w) && (not (is_let c l bs w) && not (is_badge_told c l bs uses waits w))
+abbrev pub is_passage_amiss : Policy → Layout → List Home → List PartUse → List Waiting → Passage → Bool
+is_passage_amiss c l homes uses waits w =
+    not (have_one_in_common homes w) && (not (is_let c homes w) && not (is_badge_told c l homes uses waits w))

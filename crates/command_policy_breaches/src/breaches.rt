@@ -3,8 +3,9 @@ ghost use Rattle.std.specs.Prelude.{◌≡◌, ◌++◌, ◌&&◌, ◌||◌, ◌
 ghost use Rattle.std.specs.List.{filter_map, list_any};
 ghost use Rattle.query_parts.specs.Listed.{last_in};
 ghost use Rattle.command_policy_breaches.specs.Breaches as spec;
+ghost use Rattle.command_policy_breaches.specs.Joins.{have_one_group, have_two_groups};
 
-use crate::joining::{Join, have_two_groups};
+use crate::joining::{Join, have_one_group as one_group, have_two_groups as two_groups};
 use crate::policy::{Allowance, HeldRegion, Layout, Member, OwnRegion, Policy, Waiting};
 use crate::sides::is_in_part;
 use bitflags::Flags;
@@ -28,7 +29,7 @@ fn last_of(base: u64, bits: u32) -> Option<u64>
 
 /// Whether the addresses from `base` on, 2^`bits` of them, lie among those from `first` on, 2^`most` of them.
 pub fn lies_within(base: u64, bits: u32, first: u64, most: u32) -> bool
-    ensures { result ≡ spec.lies_within base bits first most }
+    ensures { result ≡ spec.range_lies_within base bits first most }
 {
     match (last_of(base, bits), last_of(first, most)) {
         (Some(last), Some(end)) => first <= base && last <= end,
@@ -36,20 +37,14 @@ pub fn lies_within(base: u64, bits: u32, first: u64, most: u32) -> bool
     }
 }
 
-fn has_region(layout: &Layout, part: u64, base: u64, bits: u32, own: &OwnRegion) -> bool
-    ensures { result ≡ spec.has_region layout.now part base bits own.now }
-{
-    is_in_part(layout, own.group, part) && lies_within(base, bits, own.base, own.bits)
-}
-
 /// Whether addresses lie in a region of a group that has threads in the part.
 pub fn is_own(policy: &Policy, layout: &Layout, part: u64, base: u64, bits: u32) -> bool
     ensures { result ≡ spec.is_own policy.now layout.now part base bits }
 {
-    let regions = policy.regions.as_slice();
-    regions
-        .iter()
-        .any(|own| has_region(layout, part, base, bits, own))
+    let mut regions = policy.regions.as_slice().iter();
+    regions.any(|own| {
+        lies_within(base, bits, own.base, own.bits) && is_in_part(layout, own.group, part)
+    })
 }
 
 /// Whether an endpoint lies in a region of a group that has threads in the part.
@@ -125,7 +120,7 @@ fn exceeds(policy: &Policy, layout: &Layout, used: &PartUse, right: Rights) -> b
 
 /// Whether a use has a right that entries of the endpoint have, and none of them with its badge.
 pub fn strays(policy: &Policy, layout: &Layout, used: &PartUse, right: Rights) -> bool
-    ensures { result ≡ spec.strays policy.now layout.now used.now right.0 }
+    ensures { result ≡ spec.is_stray_right policy.now layout.now used.now right.0 }
 {
     used.rights.contains(right)
         && lets_ever(policy, layout, used.part, used.endpoint, right)
@@ -139,23 +134,11 @@ pub fn strays(policy: &Policy, layout: &Layout, used: &PartUse, right: Rights) -
         )
 }
 
-/// Whether an entry is to be looked for: the endpoint is none of the part's own regions.
-fn needs_entry(policy: &Policy, layout: &Layout, used: &PartUse) -> bool
-    ensures { result ≡ spec.needs_entry policy.now layout.now used.now }
-{
-    !is_own_endpoint(policy, layout, used.part, used.endpoint)
-}
-
-fn is_unlisted(policy: &Policy, layout: &Layout, used: &PartUse) -> bool
-    ensures { result ≡ spec.is_unlisted policy.now layout.now used.now }
-{
-    needs_entry(policy, layout, used) && !has_entry(policy, layout, used.part, used.endpoint)
-}
-
 fn is_listed(policy: &Policy, layout: &Layout, used: &PartUse) -> bool
     ensures { result ≡ spec.is_listed policy.now layout.now used.now }
 {
-    needs_entry(policy, layout, used) && has_entry(policy, layout, used.part, used.endpoint)
+    !is_own_endpoint(policy, layout, used.part, used.endpoint)
+        && has_entry(policy, layout, used.part, used.endpoint)
 }
 
 fn has_right_too_much(policy: &Policy, layout: &Layout, used: &PartUse) -> bool
@@ -168,6 +151,15 @@ fn has_right_too_much(policy: &Policy, layout: &Layout, used: &PartUse) -> bool
             || exceeds(policy, layout, used, Rights::GRANT_REPLY))
 }
 
+fn has_no_right(used: &PartUse) -> bool
+    ensures { result ≡ spec.has_no_right used.now }
+{
+    !used.rights.contains(Rights::WRITE)
+        && !used.rights.contains(Rights::READ)
+        && !used.rights.contains(Rights::GRANT)
+        && !used.rights.contains(Rights::GRANT_REPLY)
+}
+
 fn strays_somehow(policy: &Policy, layout: &Layout, used: &PartUse) -> bool
     ensures { result ≡ spec.strays_somehow policy.now layout.now used.now }
 {
@@ -175,14 +167,8 @@ fn strays_somehow(policy: &Policy, layout: &Layout, used: &PartUse) -> bool
         || strays(policy, layout, used, Rights::READ)
         || strays(policy, layout, used, Rights::GRANT)
         || strays(policy, layout, used, Rights::GRANT_REPLY)
-        || (used.rights.0 == 0
+        || (has_no_right(used)
             && !lets_badge(policy, layout, used.part, used.endpoint, used.badge.0))
-}
-
-fn has_other_badge(policy: &Policy, layout: &Layout, used: &PartUse) -> bool
-    ensures { result ≡ spec.has_other_badge policy.now layout.now used.now }
-{
-    is_listed(policy, layout, used) && strays_somehow(policy, layout, used)
 }
 
 /// The uses of endpoints of which the part's groups have no entry.
@@ -191,7 +177,10 @@ pub fn unlisted(alloc: Global, policy: &Policy, layout: &Layout) -> Result<Vec<P
 {
     let uses = layout.uses.as_slice();
     uses.iter()
-        .filter(|used| is_unlisted(policy, layout, used))
+        .filter(|used| {
+            !is_own_endpoint(policy, layout, used.part, used.endpoint)
+                && !has_entry(policy, layout, used.part, used.endpoint)
+        })
         .copied()
         .collect(alloc)
 }
@@ -206,7 +195,7 @@ pub fn badges_amiss(
 {
     let uses = layout.uses.as_slice();
     uses.iter()
-        .filter(|used| has_other_badge(policy, layout, used))
+        .filter(|used| is_listed(policy, layout, used) && strays_somehow(policy, layout, used))
         .copied()
         .collect(alloc)
 }
@@ -227,33 +216,24 @@ pub fn rights_amiss(
 }
 
 /// The parts in which threads of two groups lie.
-pub fn parts_of_several(
-    alloc: Global,
-    policy: &Policy,
-    layout: &Layout,
-) -> Result<Vec<u64>, AllocError>
-    ensures { IfOk result (λ v. v.items ≡ filter (λ part. spec.have_two_groups policy.now layout.now part part) layout.now.parts.items) }
+pub fn parts_of_several(alloc: Global, layout: &Layout) -> Result<Vec<u64>, AllocError>
+    ensures { IfOk result (λ v. v.items ≡ filter (λ part. have_two_groups layout.now.homes.items part part) layout.now.parts.items) }
 {
     let parts = layout.parts.as_slice();
     parts
         .iter()
-        .filter(|part| have_two_groups(policy, layout, **part, **part))
+        .filter(|part| two_groups(layout.homes.as_slice(), **part, **part))
         .copied()
         .collect(alloc)
 }
 
-/// Those joins that are between parts of two groups.
-pub fn joins_amiss(
-    alloc: Global,
-    policy: &Policy,
-    layout: &Layout,
-    joins: &[Join],
-) -> Result<Vec<Join>, AllocError>
-    ensures { IfOk result (λ v. v.items ≡ filter (λ j. spec.have_two_groups policy.now layout.now j.from j.to) joins.now) }
+/// Those joins that are not between two parts of one group.
+pub fn joins_amiss(alloc: Global, layout: &Layout, joins: &[Join]) -> Result<Vec<Join>, AllocError>
+    ensures { IfOk result (λ v. v.items ≡ filter (λ j. not (have_one_group layout.now.homes.items j.from j.to)) joins.now) }
 {
     joins
         .iter()
-        .filter(|j| have_two_groups(policy, layout, j.from, j.to))
+        .filter(|j| !one_group(layout.homes.as_slice(), j.from, j.to))
         .copied()
         .collect(alloc)
 }
@@ -285,12 +265,6 @@ pub fn holds(alloc: Global, layout: &Layout, trusted: &[Member]) -> Result<Vec<H
         .collect(alloc)
 }
 
-fn is_region_own(policy: &Policy, layout: &Layout, region: &HeldRegion) -> bool
-    ensures { result ≡ spec.is_region_own policy.now layout.now region.now }
-{
-    is_own(policy, layout, region.part, region.base, region.bits)
-}
-
 /// Whether a region that is none of the part's own lies in another of these that is larger.
 fn is_in_larger(policy: &Policy, layout: &Layout, region: &HeldRegion) -> bool
     ensures { result ≡ spec.is_in_larger policy.now layout.now region.now }
@@ -300,14 +274,8 @@ fn is_in_larger(policy: &Policy, layout: &Layout, region: &HeldRegion) -> bool
         other.part == region.part
             && region.bits < other.bits
             && lies_within(region.base, region.bits, other.base, other.bits)
-            && !is_region_own(policy, layout, other)
+            && !is_own(policy, layout, other.part, other.base, other.bits)
     })
-}
-
-fn is_region_amiss(policy: &Policy, layout: &Layout, region: &HeldRegion) -> bool
-    ensures { result ≡ spec.is_region_amiss policy.now layout.now region.now }
-{
-    !is_region_own(policy, layout, region) && !is_in_larger(policy, layout, region)
 }
 
 /// The regions in slots of parts that lie in none of the part's own; of nested ones the outermost.
@@ -321,30 +289,25 @@ pub fn regions_amiss(
     let regions = layout.regions.as_slice();
     regions
         .iter()
-        .filter(|region| is_region_amiss(policy, layout, region))
+        .filter(|r| {
+            !is_own(policy, layout, r.part, r.base, r.bits) && !is_in_larger(policy, layout, r)
+        })
         .copied()
         .collect(alloc)
-}
-
-/// Whether an entry lets a part send with a badge.
-fn lets_send(policy: &Policy, layout: &Layout, part: u64, wait: &Waiting) -> bool
-    ensures { result ≡ spec.lets_send policy.now layout.now part wait.now }
-{
-    lets_with(
-        policy,
-        layout,
-        part,
-        wait.endpoint,
-        wait.badge,
-        Rights::WRITE,
-    )
 }
 
 fn lets_wait(policy: &Policy, layout: &Layout, part: u64, wait: &Waiting) -> bool
     ensures { result ≡ spec.lets_wait policy.now layout.now part wait.now }
 {
     if wait.sends {
-        lets_send(policy, layout, part, wait)
+        lets_with(
+            policy,
+            layout,
+            part,
+            wait.endpoint,
+            wait.badge,
+            Rights::WRITE,
+        )
     } else {
         lets_ever(policy, layout, part, wait.endpoint, Rights::READ)
     }

@@ -1,10 +1,11 @@
 //! Which parts Grant joins: one can hand capabilities to another, by a message or by its answer.
-ghost use Rattle.std.specs.Prelude.{◌≡◌, ◌++◌, ◌&&◌, ◌==◌, not, IfOk, OnOk, filter, find, map, option_copied};
+ghost use Rattle.std.specs.Prelude.{◌≡◌, ◌++◌, ◌&&◌, ◌||◌, ◌==◌, not, IfOk, OnOk, filter, find, map, option_copied};
 ghost use Rattle.std.specs.List.{flat_map, list_any};
 ghost use Rattle.command_policy_breaches.specs.Joins as spec;
 
-use crate::policy::{Block, Layout, Policy};
-use crate::sides::{is_in_part, may_answer, may_call, may_give, may_hear};
+use crate::layout::add_homes;
+use crate::policy::{Block, Home, Layout, Policy};
+use crate::sides::{is_at_home, may_answer, may_call, may_give, may_hear};
 use std::alloc::{AllocError, Global};
 
 /// That a part can hand capabilities to another, by an endpoint.
@@ -21,32 +22,12 @@ fn other_hearers(
     from: u64,
     endpoint: u64,
 ) -> Result<Vec<Join>, AllocError>
-    ensures { IfOk result (λ v. v.items ≡ map (spec.join from endpoint) (filter (spec.is_other_hearer layout.now from endpoint) layout.now.parts.items)) }
+    ensures { IfOk result (λ v. v.items ≡ map (spec.join_from from endpoint) (filter (spec.is_other_hearer layout.now from endpoint) layout.now.parts.items)) }
 {
     let parts = layout.parts.as_slice();
     parts
         .iter()
         .filter(|to| **to != from && may_hear(layout, **to, endpoint))
-        .map(|to| Join {
-            from,
-            endpoint,
-            to: *to,
-        })
-        .collect(alloc)
-}
-
-fn other_callers(
-    alloc: Global,
-    layout: &Layout,
-    from: u64,
-    endpoint: u64,
-) -> Result<Vec<Join>, AllocError>
-    ensures { IfOk result (λ v. v.items ≡ map (spec.join from endpoint) (filter (spec.is_other_caller layout.now from endpoint) layout.now.parts.items)) }
-{
-    let parts = layout.parts.as_slice();
-    parts
-        .iter()
-        .filter(|to| **to != from && may_call(layout, **to, endpoint))
         .map(|to| Join {
             from,
             endpoint,
@@ -65,10 +46,30 @@ fn add_given(
     ensures { OnOk result (joins.new.items ≡ joins.old.items ++ spec.given layout.now endpoint from) }
 {
     if may_give(layout, from, endpoint) {
-        let given = other_hearers(alloc, layout, from, endpoint)?;
-        joins.extend_from_slice(given.as_slice())?;
+        let others = other_hearers(alloc, layout, from, endpoint)?;
+        joins.extend_from_slice(others.as_slice())?;
     }
     Ok(())
+}
+
+fn other_callers(
+    alloc: Global,
+    layout: &Layout,
+    from: u64,
+    endpoint: u64,
+) -> Result<Vec<Join>, AllocError>
+    ensures { IfOk result (λ v. v.items ≡ map (spec.join_from from endpoint) (filter (spec.is_other_caller layout.now from endpoint) layout.now.parts.items)) }
+{
+    let parts = layout.parts.as_slice();
+    parts
+        .iter()
+        .filter(|to| **to != from && may_call(layout, **to, endpoint))
+        .map(|to| Join {
+            from,
+            endpoint,
+            to: *to,
+        })
+        .collect(alloc)
 }
 
 fn add_answered(
@@ -78,11 +79,11 @@ fn add_answered(
     from: u64,
     endpoint: u64,
 ) -> Result<(), AllocError>
-    ensures { OnOk result (joins.new.items ≡ joins.old.items ++ spec.answered layout.now endpoint from) }
+    ensures { OnOk result (joins.new.items ≡ joins.old.items ++ spec.answer_joins layout.now endpoint from) }
 {
     if may_answer(layout, from, endpoint) {
-        let answered = other_callers(alloc, layout, from, endpoint)?;
-        joins.extend_from_slice(answered.as_slice())?;
+        let others = other_callers(alloc, layout, from, endpoint)?;
+        joins.extend_from_slice(others.as_slice())?;
     }
     Ok(())
 }
@@ -114,15 +115,6 @@ fn add_joins_on(
     Ok(())
 }
 
-fn add_all_joins(alloc: Global, joins: &mut Vec<Join>, layout: &Layout) -> Result<(), AllocError>
-    ensures { OnOk result (joins.new.items ≡ joins.old.items ++ flat_map (spec.joins_on layout.now) layout.now.endpoints.items) }
-{
-    for endpoint in layout.endpoints.as_slice() {
-        add_joins_on(alloc, joins, layout, *endpoint)?;
-    }
-    Ok(())
-}
-
 /// The parts between which capabilities can be handed over, by each endpoint; none where Grant hands over nothing.
 ///
 /// # Errors
@@ -132,22 +124,13 @@ pub fn joins(alloc: Global, policy: &Policy, layout: &Layout) -> Result<Vec<Join
     ensures { IfOk result (λ v. v.items ≡ spec.joins policy.now layout.now) }
 {
     let mut joins = Vec::new(alloc);
-    if policy.grant {
-        add_all_joins(alloc, &mut joins, layout)?;
+    if !policy.grant {
+        return Ok(joins);
+    }
+    for endpoint in layout.endpoints.as_slice() {
+        add_joins_on(alloc, &mut joins, layout, *endpoint)?;
     }
     Ok(joins)
-}
-
-fn first_blocks(alloc: Global, parts: &[u64]) -> Result<Vec<Block>, AllocError>
-    ensures { IfOk result (λ v. v.items ≡ map spec.alone parts.now) }
-{
-    parts
-        .iter()
-        .map(|part| Block {
-            part: *part,
-            block: *part,
-        })
-        .collect(alloc)
 }
 
 fn found_block(blocks: &[Block], part: u64) -> Option<&Block>
@@ -158,7 +141,7 @@ fn found_block(blocks: &[Block], part: u64) -> Option<&Block>
 
 /// The number of the joined parts in which a part is.
 pub fn block_of(blocks: &[Block], part: u64) -> u64
-    ensures { result ≡ spec.block_of blocks.now part }
+    ensures { result ≡ spec.block_of_part blocks.now part }
 {
     match found_block(blocks, part) {
         Some(b) => b.block,
@@ -179,27 +162,29 @@ fn renumbered(block: Block, from: u64, to: u64) -> Block
     }
 }
 
-fn with_number(
-    alloc: Global,
-    blocks: &[Block],
-    from: u64,
-    to: u64,
-) -> Result<Vec<Block>, AllocError>
-    ensures { IfOk result (λ v. v.items ≡ map (spec.renumbered from to) blocks.now) }
-{
-    blocks
-        .iter()
-        .map(|b| renumbered(*b, from, to))
-        .collect(alloc)
-}
-
 /// The parts with their numbers, two of them joined.
 fn joined(alloc: Global, blocks: &[Block], join: &Join) -> Result<Vec<Block>, AllocError>
     ensures { IfOk result (λ v. v.items ≡ spec.joined blocks.now join.now) }
 {
     let from = block_of(blocks, join.from);
     let to = block_of(blocks, join.to);
-    with_number(alloc, blocks, from.max(to), from.min(to))
+    let (most, least) = (from.max(to), from.min(to));
+    blocks
+        .iter()
+        .map(|b| renumbered(*b, most, least))
+        .collect(alloc)
+}
+
+fn first_blocks(alloc: Global, parts: &[u64]) -> Result<Vec<Block>, AllocError>
+    ensures { IfOk result (λ v. v.items ≡ map spec.single_block parts.now) }
+{
+    parts
+        .iter()
+        .map(|part| Block {
+            part: *part,
+            block: *part,
+        })
+        .collect(alloc)
 }
 
 /// The number of each part: parts that are joined have one.
@@ -208,7 +193,7 @@ fn joined(alloc: Global, blocks: &[Block], join: &Join) -> Result<Vec<Block>, Al
 ///
 /// Memory was refused.
 pub fn blocks(alloc: Global, parts: &[u64], joins: &[Join]) -> Result<Vec<Block>, AllocError>
-    ensures { IfOk result (λ v. v.items ≡ spec.all_joined (map spec.alone parts.now) joins.now) }
+    ensures { IfOk result (λ v. v.items ≡ spec.all_joined (map spec.single_block parts.now) joins.now) }
 {
     let mut blocks = first_blocks(alloc, parts)?;
     for join in joins {
@@ -217,65 +202,65 @@ pub fn blocks(alloc: Global, parts: &[u64], joins: &[Join]) -> Result<Vec<Block>
     Ok(blocks)
 }
 
-fn is_block(block: &Block, number: u64) -> bool
-    ensures { result ≡ (block.now.block == number) }
+fn numbers_of_group(
+    alloc: Global,
+    homes: &[Home],
+    blocks: &[Block],
+    group: u64,
+) -> Result<Vec<u64>, AllocError>
+    ensures { IfOk result (λ v. v.items ≡ map (spec.number_at blocks.now) (filter (λ h. h.group == group) homes.now)) }
 {
-    block.block == number
+    homes
+        .iter()
+        .filter(|home| home.group == group)
+        .map(|home| block_of(blocks, home.part))
+        .collect(alloc)
 }
 
-/// Whether a group has a thread in one of the parts that have a number.
-pub fn is_in_block(layout: &Layout, blocks: &[Block], group: u64, number: u64) -> bool
-    ensures { result ≡ spec.is_in_block layout.now blocks.now number group }
-{
-    blocks.iter().any(|b| is_block(b, number) && is_in_part(layout, group, b.part))
-}
-
-/// The groups that have threads in the parts that have a number, in the order of the policy.
+/// In which joined parts groups have threads.
 ///
 /// # Errors
 ///
 /// Memory was refused.
-pub fn groups_of_block(
+pub fn homes_joined(
     alloc: Global,
     policy: &Policy,
     layout: &Layout,
     blocks: &[Block],
-    number: u64,
-) -> Result<Vec<u64>, AllocError>
-    ensures { IfOk result (λ v. v.items ≡ spec.groups_of_block policy.now layout.now blocks.now number) }
+) -> Result<Vec<Home>, AllocError>
+    ensures { IfOk result (λ v. v.items ≡ spec.homes_joined policy.now layout.now blocks.now) }
 {
-    let groups = policy.groups.as_slice();
-    groups
-        .iter()
-        .filter(|group| is_in_block(layout, blocks, **group, number))
-        .copied()
-        .collect(alloc)
+    let mut homes = Vec::new(alloc);
+    for group in policy.groups.as_slice() {
+        let numbers = numbers_of_group(alloc, layout.homes.as_slice(), blocks, *group)?;
+        add_homes(alloc, &mut homes, *group, numbers.as_slice())?;
+    }
+    Ok(homes)
 }
 
-fn is_in_either(layout: &Layout, one: u64, other: u64, group: u64) -> bool
-    ensures { result ≡ spec.is_in_either layout.now one other group }
+/// Whether a group but this one has a thread in one of two parts.
+fn has_another(homes: &[Home], one: u64, other: u64, group: u64) -> bool
+    ensures { result ≡ spec.has_another homes.now one other group }
 {
-    is_in_part(layout, group, one) || is_in_part(layout, group, other)
-}
-
-fn has_another(groups: &[u64], layout: &Layout, one: u64, other: u64, group: u64) -> bool
-    ensures { result ≡ spec.has_another groups.now layout.now one other group }
-{
-    groups
-        .iter()
-        .any(|h| *h != group && is_in_either(layout, one, other, *h))
-}
-
-fn are_two(groups: &[u64], layout: &Layout, one: u64, other: u64) -> bool
-    ensures { result ≡ spec.are_two groups.now layout.now one other }
-{
-    groups.iter().any(|g| is_in_either(layout, one, other, *g)
-        && has_another(groups, layout, one, other, *g))
+    homes.iter().any(|home| (home.part == one || home.part == other) && home.group != group)
 }
 
 /// Whether two groups have threads in these two parts, which may be the same.
-pub fn have_two_groups(policy: &Policy, layout: &Layout, one: u64, other: u64) -> bool
-    ensures { result ≡ spec.have_two_groups policy.now layout.now one other }
+pub fn have_two_groups(homes: &[Home], one: u64, other: u64) -> bool
+    ensures { result ≡ spec.have_two_groups homes.now one other }
 {
-    are_two(policy.groups.as_slice(), layout, one, other)
+    homes.iter().any(|home| {
+        (home.part == one || home.part == other) && has_another(homes, one, other, home.group)
+    })
+}
+
+/// Whether one group has threads in both of two parts, and no other has.
+pub fn have_one_group(homes: &[Home], one: u64, other: u64) -> bool
+    ensures { result ≡ spec.have_one_group homes.now one other }
+{
+    homes.iter().any(|home| {
+        home.part == one
+            && is_at_home(homes, home.group, other)
+            && !has_another(homes, one, other, home.group)
+    })
 }

@@ -1,10 +1,9 @@
 //! What of a kernel's state is held to a policy.
-ghost use Rattle.std.specs.Prelude.{◌≡◌, ◌++◌, IfOk, OnOk, filter, map, option_copied};
+ghost use Rattle.std.specs.Prelude.{◌≡◌, ◌==◌, ◌++◌, IfOk, OnOk, filter, map, option_copied};
 ghost use Rattle.std.specs.List.{filter_map, flat_map};
 ghost use Rattle.cap_core.specs.Numbers.{endpoint_bits as bits_of_endpoints};
 ghost use Rattle.kernel_abstract.specs.Shown.{state_at};
 ghost use Rattle.kernel_abstract.specs.Waiting.{offer_at};
-ghost use Rattle.query_parts.specs.Order.{owns_endpoint as owns_all};
 ghost use Rattle.setup_report.specs.State as state;
 ghost use Rattle.setup_report.specs.State.{rising as rising_of};
 ghost use Rattle.slot_core.specs.Calls.{derivation_view};
@@ -12,105 +11,94 @@ ghost use Rattle.command_parts.specs.Ever.{AreRightParts};
 ghost use Rattle.command_parts.specs.Text.{parts_of as numbers_of};
 ghost use Rattle.command_policy_breaches.specs.Layouts as spec;
 
-use crate::policy::{HeldRegion, Home, Layout, Member, Owned, Policy, Waiting};
+use crate::policy::{HeldRegion, Home, Layout, Member, Policy, Waiting};
 use cap_core::{Cap, Profile};
 use command_parts::{listed, rising};
 use ipc_core::{Offer, Waiters};
 use kernel_core::{Kernel, ThreadState};
-use query_parts::{PartMemory, Parts, owns_endpoint, part_at};
+use query_parts::{PartMemory, PartUse, Parts, part_at};
 use setup_report::StateRows;
 use slot_core::{CapStore, Derivation, DerivationStore};
 use std::alloc::{AllocError, Global};
 
-fn owners<P: Profile>(
+fn parts_of_group(
     alloc: Global,
     memory: &[PartMemory],
-    parts: &[u64],
-    endpoint: u64,
-) -> Result<Vec<Owned>, AllocError>
-    ensures { IfOk result (λ v. v.items ≡ spec.owners P.profile memory.now parts.now endpoint) }
-{
-    parts
-        .iter()
-        .filter(|part| owns_endpoint::<P>(memory, **part, endpoint))
-        .map(|part| Owned {
-            part: *part,
-            endpoint,
-        })
-        .collect(alloc)
-}
-
-fn owned<P: Profile>(
-    alloc: Global,
-    memory: &[PartMemory],
-    parts: &[u64],
-    endpoints: &[u64],
-) -> Result<Vec<Owned>, AllocError>
-    ensures { IfOk result (λ v. v.items ≡ flat_map (spec.owners P.profile memory.now parts.now) endpoints.now) }
-{
-    let mut owned = Vec::new(alloc);
-    for endpoint in endpoints {
-        let own = owners::<P>(alloc, memory, parts, *endpoint)?;
-        owned.extend_from_slice(own.as_slice())?;
-    }
-    Ok(owned)
-}
-
-fn home_of(memory: &[PartMemory], member: &Member) -> Option<Home>
-    ensures { result ≡ spec.home_of memory.now member.now }
-{
-    let part = part_at(memory, member.thread)?;
-    Some(Home {
-        group: member.actor,
-        part,
-    })
-}
-
-fn homes(alloc: Global, memory: &[PartMemory], members: &[Member]) -> Result<Vec<Home>, AllocError>
-    ensures { IfOk result (λ v. v.items ≡ filter_map (spec.home_of memory.now) members.now) }
+    members: &[Member],
+    group: u64,
+) -> Result<Vec<u64>, AllocError>
+    ensures { IfOk result (λ v. v.items ≡ filter_map (spec.part_of_member memory.now) (filter (λ m. m.actor == group) members.now)) }
 {
     members
         .iter()
-        .filter_map(|member| home_of(memory, member))
+        .filter(|member| member.actor == group)
+        .filter_map(|member| part_at(memory, member.thread))
         .collect(alloc)
 }
 
-fn badge_of(offer: Option<Offer>) -> u64
-    ensures { result ≡ spec.badge_of offer }
+fn homes_in(alloc: Global, group: u64, parts: &[u64]) -> Result<Vec<Home>, AllocError>
+    ensures { IfOk result (λ v. v.items ≡ map (spec.home group) parts.now) }
 {
-    match offer {
-        None => 0,
-        Some(offer) => offer.badge.0,
+    parts
+        .iter()
+        .map(|part| Home { group, part: *part })
+        .collect(alloc)
+}
+
+/// Adds that a group has threads in these parts, each part once.
+pub fn add_homes(
+    alloc: Global,
+    homes: &mut Vec<Home>,
+    group: u64,
+    parts: &[u64],
+) -> Result<(), AllocError>
+    ensures { OnOk result (homes.new.items ≡ homes.old.items ++ spec.homes_at group parts.now) }
+{
+    let parts = rising(alloc, parts)?;
+    let more = homes_in(alloc, group, parts.as_slice())?;
+    homes.extend_from_slice(more.as_slice())?;
+    Ok(())
+}
+
+fn homes(alloc: Global, memory: &[PartMemory], policy: &Policy) -> Result<Vec<Home>, AllocError>
+    ensures { IfOk result (λ v. v.items ≡ flat_map (spec.homes_of memory.now policy.now.members.items) policy.now.groups.items) }
+{
+    let mut homes = Vec::new(alloc);
+    for group in policy.groups.as_slice() {
+        let parts = parts_of_group(alloc, memory, policy.members.as_slice(), *group)?;
+        add_homes(alloc, &mut homes, *group, parts.as_slice())?;
     }
+    Ok(homes)
+}
+
+fn endpoints_to_check(
+    alloc: Global,
+    uses: &[PartUse],
+    waits: &[Waiting],
+) -> Result<Vec<u64>, AllocError>
+    ensures { IfOk result (λ v. v.items ≡ spec.endpoints_to_check uses.now waits.now) }
+{
+    let mut endpoints: Vec<u64> = uses.iter().map(|u| u.endpoint).collect(alloc)?;
+    let others: Vec<u64> = waits.iter().map(|w| w.endpoint).collect(alloc)?;
+    endpoints.extend_from_slice(others.as_slice())?;
+    rising(alloc, endpoints.as_slice())
 }
 
 fn wait_in(thread: u64, state: Option<ThreadState>, offer: Option<Offer>) -> Option<Waiting>
-    ensures { result ≡ spec.wait_in thread state offer }
+    ensures { result ≡ spec.waiting_in thread state offer }
 {
-    match state {
-        Some(ThreadState::Sending(endpoint)) => Some(Waiting {
-            thread,
-            endpoint,
-            badge: badge_of(offer),
-            sends: true,
-        }),
-        Some(ThreadState::Receiving(endpoint)) => Some(Waiting {
-            thread,
-            endpoint,
-            badge: 0,
-            sends: false,
-        }),
-        Some(ThreadState::Ready) | Some(ThreadState::Inactive) | None => None,
-    }
-}
-
-fn wait_of<P: Profile, S: CapStore<P> + Drop, W: Waiters<P> + Drop>(
-    kernel: &Kernel<P, S, W>,
-    thread: u64,
-) -> Option<Waiting>
-    ensures { result ≡ spec.wait_of kernel.now thread }
-{
-    wait_in(thread, kernel.thread_state(thread), kernel.offer(thread))
+    let (endpoint, badge, sends) = match (state, offer) {
+        (Some(ThreadState::Sending(endpoint)), Some(offer)) => (endpoint, offer.badge.0, true),
+        (Some(ThreadState::Sending(endpoint)), None) => (endpoint, 0, true),
+        (Some(ThreadState::Receiving(endpoint)), _) => (endpoint, 0, false),
+        (Some(ThreadState::Ready) | Some(ThreadState::Inactive) | None, _) => return None,
+    };
+    Some(Waiting {
+        thread,
+        endpoint,
+        badge,
+        sends,
+    })
 }
 
 fn waits<P: Profile, S: CapStore<P> + Drop, W: Waiters<P> + Drop>(
@@ -118,30 +106,24 @@ fn waits<P: Profile, S: CapStore<P> + Drop, W: Waiters<P> + Drop>(
     kernel: &Kernel<P, S, W>,
     threads: &[u64],
 ) -> Result<Vec<Waiting>, AllocError>
-    ensures { IfOk result (λ v. v.items ≡ filter_map (spec.wait_of kernel.now) threads.now) }
+    ensures { IfOk result (λ v. v.items ≡ filter_map (spec.waiting_of kernel.now) threads.now) }
 {
     threads
         .iter()
-        .filter_map(|thread| wait_of::<P, S, W>(kernel, *thread))
+        .filter_map(|thread| wait_in(*thread, kernel.thread_state(*thread), kernel.offer(*thread)))
         .collect(alloc)
-}
-
-fn region_in(memory: &[PartMemory], slot: u64, cap: Cap) -> Option<HeldRegion>
-    ensures { result ≡ spec.region_in memory.now slot cap }
-{
-    match cap {
-        Cap::Untyped { base, bits, .. } => match part_at(memory, slot) {
-            None => None,
-            Some(part) => Some(HeldRegion { part, base, bits }),
-        },
-        _ => None,
-    }
 }
 
 fn region_of<P: Profile>(memory: &[PartMemory], derivation: &Derivation) -> Option<HeldRegion>
     ensures { result ≡ spec.region_of memory.now (derivation_view P.profile derivation.now) }
 {
-    region_in(memory, derivation.slot.address::<P>(), derivation.cap)
+    match derivation.cap {
+        Cap::Untyped { base, bits, .. } => match part_at(memory, derivation.slot.address::<P>()) {
+            None => None,
+            Some(part) => Some(HeldRegion { part, base, bits }),
+        },
+        _ => None,
+    }
 }
 
 fn regions<P: Profile>(
@@ -194,23 +176,17 @@ pub fn layout_of<P: Profile, S: DerivationStore<P> + Drop, W: Waiters<P> + Drop>
     parts: Parts,
 ) -> Result<Layout, AllocError>
     requires threads { rows.now.threads.keys ≡ state.threads P.profile kernel.now }
-    requires endpoints { rows.now.endpoints.keys ≡ state.endpoints P.profile kernel.now }
     requires slots { map (derivation_view P.profile) rows.now.slots.items ≡ state.slot_rows kernel.now }
     requires parts { AreRightParts P.profile kernel.now (spec.trusted_threads policy.now) parts.memory.items parts.uses.items }
     ensures { IfOk result (spec.IsLayoutOf P.profile policy.now kernel.now) }
 {
     let Parts { memory, uses } = parts;
     let threads = listed(alloc, &rows.threads)?;
-    let endpoints = listed(alloc, &rows.endpoints)?;
     let numbers = part_numbers(alloc, memory.as_slice())?;
-    let owned = owned::<P>(
-        alloc,
-        memory.as_slice(),
-        numbers.as_slice(),
-        endpoints.as_slice(),
-    )?;
-    let homes = homes(alloc, memory.as_slice(), policy.members.as_slice())?;
+    let homes = homes(alloc, memory.as_slice(), policy)?;
+    let _agree = kernel.waiting(0, 0);
     let waits = waits::<P, S, W>(alloc, kernel, threads.as_slice())?;
+    let endpoints = endpoints_to_check(alloc, uses.as_slice(), waits.as_slice())?;
     let regions = regions::<P>(alloc, memory.as_slice(), rows.slots.as_slice())?;
     Ok(Layout {
         memory,
@@ -218,7 +194,6 @@ pub fn layout_of<P: Profile, S: DerivationStore<P> + Drop, W: Waiters<P> + Drop>
         parts: numbers,
         endpoints,
         endpoint_bits: P::ENDPOINT_BITS,
-        owned,
         homes,
         waits,
         regions,

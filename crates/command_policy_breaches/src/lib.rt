@@ -13,13 +13,13 @@ pub use breaches::{
     Hold, badges_amiss, holds, is_entry, joins_amiss, lets_ever, parts_of_several, regions_amiss,
     rights_amiss, strays, unlisted, waits_amiss,
 };
-pub use joining::{Join, blocks, groups_of_block, joins};
+pub use joining::{Join, blocks, homes_joined, joins};
 pub use layout::{layout_of, trusted_threads};
 pub use policy::{
-    Allowance, Block, HeldRegion, Home, Label, Labels, Layout, Member, OwnRegion, Owned, Policy,
+    Allowance, Block, HeldRegion, Home, Label, Labels, Layout, Member, OwnRegion, Policy,
     PolicyWay, Waiting,
 };
-pub use sides::{groups_of, is_in_part};
+pub use sides::groups_at;
 pub use unused::{
     count_of_parts, is_idle, sender_entry, unused_regions, unused_uses, unused_ways,
     uses_with_idle_rights, ways_with_idle_rights,

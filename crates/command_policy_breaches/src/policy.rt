@@ -75,18 +75,11 @@ pub struct Labels {
     pub regions: Vec<Label>,
 }
 
-/// That a group has a thread in a part.
+/// That a group has a thread in a part, or in one of the joined parts that have a number.
 #[derive(Clone, Copy)]
 pub struct Home {
     pub group: u64,
     pub part: u64,
-}
-
-/// That a part has all memory of an endpoint.
-#[derive(Clone, Copy)]
-pub struct Owned {
-    pub part: u64,
-    pub endpoint: u64,
 }
 
 /// A thread that waits on an endpoint: to send with a badge where `sends` is set, and else to receive.
@@ -120,11 +113,11 @@ pub struct Layout {
     pub uses: Vec<PartUse>,
     /// The numbers of the parts.
     pub parts: Vec<u64>,
-    /// The live endpoints.
+    /// The endpoints that parts may use, and those on which threads wait.
     pub endpoints: Vec<u64>,
     /// The bits of an endpoint's size.
     pub endpoint_bits: u32,
-    pub owned: Vec<Owned>,
+    /// In which parts groups have threads: by the groups in the order of the policy, and then by parts.
     pub homes: Vec<Home>,
     pub waits: Vec<Waiting>,
     pub regions: Vec<HeldRegion>,

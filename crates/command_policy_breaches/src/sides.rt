@@ -1,75 +1,41 @@
 //! Which part may send to an endpoint, receive on it, or hand over capabilities by it.
 ghost use Rattle.std.specs.Prelude.{◌≡◌, ◌++◌, ◌&&◌, ◌||◌, ◌==◌, IfOk, filter, map};
 ghost use Rattle.std.specs.List.{list_any};
+ghost use Rattle.query_parts.specs.Listed.{part_at as part_of};
 ghost use Rattle.command_policy_breaches.specs.Sides as spec;
 
-use crate::policy::{Home, Layout, Owned, Policy, Waiting};
+use crate::policy::{Home, Layout, Waiting};
 use bitflags::Flags;
 use cap_core::Rights;
 use command_parts::{is_of_part, rising};
-use query_parts::PartUse;
+use query_parts::{PartUse, part_at};
 use std::alloc::{AllocError, Global};
 
-fn is_use(allowed: &PartUse, part: u64, endpoint: u64) -> bool
-    ensures { result ≡ spec.is_of part endpoint allowed.now }
-{
-    allowed.part == part && allowed.endpoint == endpoint
-}
-
-fn is_owned(owned: &Owned, part: u64, endpoint: u64) -> bool
-    ensures { result ≡ spec.is_owned part endpoint owned.now }
-{
-    owned.part == part && owned.endpoint == endpoint
-}
-
-/// Whether a part has all memory of an endpoint, and so all rights to it, with any badge.
+/// Whether an endpoint lies in a part's memory, so that the part has all rights to it, with any badge.
 pub fn owns(layout: &Layout, part: u64, endpoint: u64) -> bool
-    ensures { result ≡ spec.owns layout.now part endpoint }
+    ensures { result ≡ spec.owns_in_layout layout.now part endpoint }
 {
-    layout
-        .owned
-        .as_slice()
-        .iter()
-        .any(|owned| is_owned(owned, part, endpoint))
+    is_of_part(layout.memory.as_slice(), part, endpoint)
 }
 
 /// Whether a use lets a part send to an endpoint.
 pub fn sends(allowed: &PartUse, part: u64, endpoint: u64) -> bool
     ensures { result ≡ spec.sends part endpoint allowed.now }
 {
-    is_use(allowed, part, endpoint) && allowed.rights.contains(Rights::WRITE)
-}
-
-fn gives(allowed: &PartUse, part: u64, endpoint: u64) -> bool
-    ensures { result ≡ spec.gives part endpoint allowed.now }
-{
-    sends(allowed, part, endpoint) && allowed.rights.contains(Rights::GRANT)
-}
-
-fn calls(allowed: &PartUse, part: u64, endpoint: u64) -> bool
-    ensures { result ≡ spec.calls part endpoint allowed.now }
-{
-    sends(allowed, part, endpoint)
-        && (allowed.rights.contains(Rights::GRANT) || allowed.rights.contains(Rights::GRANT_REPLY))
+    allowed.part == part && allowed.endpoint == endpoint && allowed.rights.contains(Rights::WRITE)
 }
 
 fn hears(allowed: &PartUse, part: u64, endpoint: u64) -> bool
     ensures { result ≡ spec.hears part endpoint allowed.now }
 {
-    is_use(allowed, part, endpoint) && allowed.rights.contains(Rights::READ)
-}
-
-fn answers(allowed: &PartUse, part: u64, endpoint: u64) -> bool
-    ensures { result ≡ spec.answers part endpoint allowed.now }
-{
-    hears(allowed, part, endpoint) && allowed.rights.contains(Rights::GRANT)
+    allowed.part == part && allowed.endpoint == endpoint && allowed.rights.contains(Rights::READ)
 }
 
 fn gives_by_use(layout: &Layout, part: u64, endpoint: u64) -> bool
-    ensures { result ≡ list_any (spec.gives part endpoint) layout.now.uses.items }
+    ensures { result ≡ list_any (spec.sends_with_grant part endpoint) layout.now.uses.items }
 {
-    let uses = layout.uses.as_slice();
-    uses.iter().any(|u| gives(u, part, endpoint))
+    let mut uses = layout.uses.as_slice().iter();
+    uses.any(|u| sends(u, part, endpoint) && u.rights.contains(Rights::GRANT))
 }
 
 /// Whether a part may send to an endpoint with Grant.
@@ -82,13 +48,16 @@ pub fn may_give(layout: &Layout, part: u64, endpoint: u64) -> bool
 fn calls_by_use(layout: &Layout, part: u64, endpoint: u64) -> bool
     ensures { result ≡ list_any (spec.calls part endpoint) layout.now.uses.items }
 {
-    let uses = layout.uses.as_slice();
-    uses.iter().any(|u| calls(u, part, endpoint))
+    let mut uses = layout.uses.as_slice().iter();
+    uses.any(|u| {
+        sends(u, part, endpoint)
+            && (u.rights.contains(Rights::GRANT) || u.rights.contains(Rights::GRANT_REPLY))
+    })
 }
 
 /// Whether a part may send to an endpoint with Grant or GrantReply, and so be answered with capabilities.
 pub fn may_call(layout: &Layout, part: u64, endpoint: u64) -> bool
-    ensures { result ≡ spec.may_call layout.now part endpoint }
+    ensures { result ≡ spec.may_part_call layout.now part endpoint }
 {
     owns(layout, part, endpoint) || calls_by_use(layout, part, endpoint)
 }
@@ -96,8 +65,8 @@ pub fn may_call(layout: &Layout, part: u64, endpoint: u64) -> bool
 fn answers_by_use(layout: &Layout, part: u64, endpoint: u64) -> bool
     ensures { result ≡ list_any (spec.answers part endpoint) layout.now.uses.items }
 {
-    let uses = layout.uses.as_slice();
-    uses.iter().any(|u| answers(u, part, endpoint))
+    let mut uses = layout.uses.as_slice().iter();
+    uses.any(|u| hears(u, part, endpoint) && u.rights.contains(Rights::GRANT))
 }
 
 /// Whether a part may receive on an endpoint with Grant, and so answer with capabilities.
@@ -107,37 +76,19 @@ pub fn may_answer(layout: &Layout, part: u64, endpoint: u64) -> bool
     owns(layout, part, endpoint) || answers_by_use(layout, part, endpoint)
 }
 
-fn waits_to_hear(layout: &Layout, wait: &Waiting, part: u64, endpoint: u64) -> bool
-    ensures { result ≡ spec.waits_to_hear layout.now part endpoint wait.now }
-{
-    !wait.sends
-        && wait.endpoint == endpoint
-        && is_of_part(layout.memory.as_slice(), part, wait.thread)
-}
-
-/// Whether a thread of a part waits to send to an endpoint.
-pub fn waits_to_send(layout: &Layout, wait: &Waiting, part: u64, endpoint: u64) -> bool
-    ensures { result ≡ spec.waits_to_send layout.now part endpoint wait.now }
-{
-    wait.sends
-        && wait.endpoint == endpoint
-        && is_of_part(layout.memory.as_slice(), part, wait.thread)
-}
-
 fn hears_by_use(layout: &Layout, part: u64, endpoint: u64) -> bool
     ensures { result ≡ list_any (spec.hears part endpoint) layout.now.uses.items }
 {
-    let uses = layout.uses.as_slice();
-    uses.iter().any(|u| hears(u, part, endpoint))
+    let mut uses = layout.uses.as_slice().iter();
+    uses.any(|u| hears(u, part, endpoint))
 }
 
 fn hears_by_wait(layout: &Layout, part: u64, endpoint: u64) -> bool
     ensures { result ≡ list_any (spec.waits_to_hear layout.now part endpoint) layout.now.waits.items }
 {
-    let waits = layout.waits.as_slice();
-    waits
-        .iter()
-        .any(|w| waits_to_hear(layout, w, part, endpoint))
+    let memory = layout.memory.as_slice();
+    let mut waits = layout.waits.as_slice().iter();
+    waits.any(|w| !w.sends && w.endpoint == endpoint && is_of_part(memory, part, w.thread))
 }
 
 /// Whether a part may receive on an endpoint.
@@ -152,14 +103,13 @@ pub fn may_hear(layout: &Layout, part: u64, endpoint: u64) -> bool
 fn sends_any(layout: &Layout, part: u64, endpoint: u64) -> bool
     ensures { result ≡ list_any (λ u. spec.sends part endpoint u && u.badge.0 == 0) layout.now.uses.items }
 {
-    let uses = layout.uses.as_slice();
-    uses.iter()
-        .any(|u| sends(u, part, endpoint) && u.badge.0 == 0)
+    let mut uses = layout.uses.as_slice().iter();
+    uses.any(|u| sends(u, part, endpoint) && u.badge.0 == 0)
 }
 
 /// Whether a part may send to an endpoint with any badge.
 pub fn may_send_any(layout: &Layout, part: u64, endpoint: u64) -> bool
-    ensures { result ≡ spec.may_send_any layout.now part endpoint }
+    ensures { result ≡ spec.sends_any layout.now part endpoint }
 {
     owns(layout, part, endpoint) || sends_any(layout, part, endpoint)
 }
@@ -187,10 +137,11 @@ fn wait_badges(
 ) -> Result<Vec<u64>, AllocError>
     ensures { IfOk result (λ v. v.items ≡ map (λ w. w.badge) (filter (spec.waits_to_send layout.now part endpoint) layout.now.waits.items)) }
 {
+    let memory = layout.memory.as_slice();
     let waits = layout.waits.as_slice();
     waits
         .iter()
-        .filter(|w| waits_to_send(layout, w, part, endpoint))
+        .filter(|w| w.sends && w.endpoint == endpoint && is_of_part(memory, part, w.thread))
         .map(|w| w.badge)
         .collect(alloc)
 }
@@ -220,7 +171,7 @@ pub fn badges(
     part: u64,
     endpoint: u64,
 ) -> Result<Vec<u64>, AllocError>
-    ensures { IfOk result (λ v. v.items ≡ spec.badges layout.now part endpoint) }
+    ensures { IfOk result (λ v. v.items ≡ spec.sent_badges layout.now part endpoint) }
 {
     if may_send_any(layout, part, endpoint) {
         let mut any = Vec::new(alloc);
@@ -230,37 +181,43 @@ pub fn badges(
     some_badges(alloc, layout, part, endpoint)
 }
 
-fn is_home(home: &Home, group: u64, part: u64) -> bool
-    ensures { result ≡ spec.is_home group part home.now }
+/// Whether a group has a thread in a part; or in one of the joined parts that have a number, where `homes` are those of joined parts.
+pub fn is_at_home(homes: &[Home], group: u64, part: u64) -> bool
+    ensures { result ≡ spec.is_at_home homes.now part group }
 {
-    home.group == group && home.part == part
+    homes
+        .iter()
+        .any(|home| home.group == group && home.part == part)
 }
 
 /// Whether a group has a thread in a part.
 pub fn is_in_part(layout: &Layout, group: u64, part: u64) -> bool
     ensures { result ≡ spec.is_in_part layout.now part group }
 {
-    let homes = layout.homes.as_slice();
-    homes.iter().any(|home| is_home(home, group, part))
+    is_at_home(layout.homes.as_slice(), group, part)
 }
 
-/// The groups that have threads in a part, in the order of the policy.
+/// Whether an address lies in a part where a group has a thread.
+pub fn is_of_group(layout: &Layout, group: u64, address: u64) -> bool
+    ensures { result ≡ spec.is_found_home layout.now.homes.items group (part_of layout.now.memory.items address) }
+{
+    match part_at(layout.memory.as_slice(), address) {
+        None => false,
+        Some(part) => is_at_home(layout.homes.as_slice(), group, part),
+    }
+}
+
+/// The groups that have threads in a part, or in the joined parts that have a number, in the order of the policy.
 ///
 /// # Errors
 ///
 /// Memory was refused.
-pub fn groups_of(
-    alloc: Global,
-    policy: &Policy,
-    layout: &Layout,
-    part: u64,
-) -> Result<Vec<u64>, AllocError>
-    ensures { IfOk result (λ v. v.items ≡ spec.groups_of policy.now layout.now part) }
+pub fn groups_at(alloc: Global, homes: &[Home], part: u64) -> Result<Vec<u64>, AllocError>
+    ensures { IfOk result (λ v. v.items ≡ spec.groups_at homes.now part) }
 {
-    let groups = policy.groups.as_slice();
-    groups
+    homes
         .iter()
-        .filter(|group| is_in_part(layout, **group, part))
-        .copied()
+        .filter(|home| home.part == part)
+        .map(|home| home.group)
         .collect(alloc)
 }

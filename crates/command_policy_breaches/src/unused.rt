@@ -1,17 +1,16 @@
 //! What a policy allows and of which nothing is there.
-ghost use Rattle.std.specs.Prelude.{◌≡◌, ◌++◌, ◌&&◌, ◌||◌, ◌==◌, not, IfOk, filter, map, length};
+ghost use Rattle.std.specs.Prelude.{◌≡◌, ◌++◌, ◌&&◌, ◌||◌, ◌==◌, not, IfOk, filter, count_by};
 ghost use Rattle.std.specs.List.{list_any};
-ghost use Rattle.setup_report.specs.State.{rising as rising_of};
 ghost use Rattle.command_policy_breaches.specs.Unused as spec;
 
 use crate::breaches::lies_within;
-use crate::joining::block_of;
-use crate::policy::{Allowance, Block, HeldRegion, Layout, Member, OwnRegion, Policy, PolicyWay};
-use crate::sides::{is_in_part, may_hear, may_send_any, owns, sends, waits_to_send};
+use crate::policy::{
+    Allowance, HeldRegion, Home, Layout, Member, OwnRegion, Policy, PolicyWay, Waiting,
+};
+use crate::sides::{is_in_part, is_of_group};
 use crate::ways::{hears, is_send_of};
 use bitflags::Flags;
 use cap_core::Rights;
-use command_parts::rising;
 use query_parts::PartUse;
 use std::alloc::{AllocError, Global};
 
@@ -22,71 +21,70 @@ fn cross(one: u64, other: u64) -> bool
     one == 0 || other == 0 || one == other
 }
 
-fn sends_by_use(layout: &Layout, part: u64, endpoint: u64, badge: u64) -> bool
-    ensures { result ≡ spec.sends_by_use layout.now endpoint badge part }
+fn is_use_of(layout: &Layout, used: &PartUse, actor: u64, endpoint: u64, badge: u64) -> bool
+    ensures { result ≡ spec.is_use_of_entry layout.now actor endpoint badge used.now }
+{
+    used.endpoint == endpoint && cross(badge, used.badge.0) && is_in_part(layout, actor, used.part)
+}
+
+/// Whether a group has a right to an endpoint with such a badge.
+pub fn has(layout: &Layout, actor: u64, endpoint: u64, badge: u64, right: Rights) -> bool
+    ensures { result ≡ spec.is_used layout.now actor endpoint badge right.0 }
 {
     let uses = layout.uses.as_slice();
-    uses.iter()
-        .any(|u| sends(u, part, endpoint) && cross(badge, u.badge.0))
+    uses.iter().any(|u| is_use_of(layout, u, actor, endpoint, badge) && u.rights.contains(right))
 }
 
-fn sends_by_wait(layout: &Layout, part: u64, endpoint: u64, badge: u64) -> bool
-    ensures { result ≡ spec.sends_by_wait layout.now endpoint badge part }
+/// Whether a thread in a part of the group waits on the endpoint.
+fn is_wait_of(layout: &Layout, wait: &Waiting, actor: u64, endpoint: u64) -> bool
+    ensures { result ≡ spec.is_wait_of layout.now actor endpoint wait.now }
 {
-    let waits = layout.waits.as_slice();
-    waits.iter().any(|w| waits_to_send(layout, w, part, endpoint) && cross(badge, w.badge))
+    wait.endpoint == endpoint && is_of_group(layout, actor, wait.thread)
 }
 
-/// Whether a part may send to an endpoint with such a badge.
-fn part_sends(layout: &Layout, part: u64, endpoint: u64, badge: u64) -> bool
-    ensures { result ≡ spec.part_sends layout.now endpoint badge part }
+fn sends_by_wait(layout: &Layout, actor: u64, endpoint: u64, badge: u64) -> bool
+    ensures { result ≡ spec.sends_by_wait layout.now actor endpoint badge }
 {
-    may_send_any(layout, part, endpoint)
-        || sends_by_use(layout, part, endpoint, badge)
-        || sends_by_wait(layout, part, endpoint, badge)
+    let mut waits = layout.waits.as_slice().iter();
+    waits.any(|w| w.sends && cross(badge, w.badge) && is_wait_of(layout, w, actor, endpoint))
+}
+
+fn hears_by_wait(layout: &Layout, actor: u64, endpoint: u64) -> bool
+    ensures { result ≡ spec.hears_by_wait layout.now actor endpoint }
+{
+    let mut waits = layout.waits.as_slice().iter();
+    waits.any(|w| !w.sends && is_wait_of(layout, w, actor, endpoint))
 }
 
 fn group_sends(layout: &Layout, actor: u64, endpoint: u64, badge: u64) -> bool
     ensures { result ≡ spec.group_sends layout.now actor endpoint badge }
 {
-    let parts = layout.parts.as_slice();
-    parts.iter().any(|part| {
-        is_in_part(layout, actor, *part) && part_sends(layout, *part, endpoint, badge)
-    })
+    is_of_group(layout, actor, endpoint)
+        || has(layout, actor, endpoint, badge, Rights::WRITE)
+        || sends_by_wait(layout, actor, endpoint, badge)
 }
 
 fn group_hears(layout: &Layout, actor: u64, endpoint: u64) -> bool
     ensures { result ≡ spec.group_hears layout.now actor endpoint }
 {
-    let parts = layout.parts.as_slice();
-    parts.iter().any(|part| is_in_part(layout, actor, *part) && may_hear(layout, *part, endpoint))
+    is_of_group(layout, actor, endpoint)
+        || has(layout, actor, endpoint, 0, Rights::READ)
+        || hears_by_wait(layout, actor, endpoint)
 }
 
 /// Whether an actor is one of these trusted threads.
 fn is_one_of(trusted: &[Member], actor: u64) -> bool
-    ensures { result ≡ spec.is_one_of trusted.now actor }
+    ensures { result ≡ spec.is_trusted_actor trusted.now actor }
 {
     trusted.iter().any(|member| member.actor == actor)
 }
 
 /// Whether a thread waits to send to an endpoint with such a badge.
 fn waits_with(layout: &Layout, thread: u64, endpoint: u64, badge: u64) -> bool
-    ensures { result ≡ spec.waits_with layout.now thread endpoint badge }
+    ensures { result ≡ spec.waits_with_badge layout.now thread endpoint badge }
 {
-    let waits = layout.waits.as_slice();
-    waits.iter().any(|w| is_send_of(w, thread, endpoint) && cross(badge, w.badge))
-}
-
-fn member_sends(layout: &Layout, member: &Member, actor: u64, endpoint: u64, badge: u64) -> bool
-    ensures { result ≡ spec.member_sends layout.now actor endpoint badge member.now }
-{
-    member.actor == actor && waits_with(layout, member.thread, endpoint, badge)
-}
-
-fn member_hears(layout: &Layout, member: &Member, actor: u64, endpoint: u64) -> bool
-    ensures { result ≡ spec.member_hears layout.now actor endpoint member.now }
-{
-    member.actor == actor && hears(layout, member.thread, endpoint)
+    let mut waits = layout.waits.as_slice().iter();
+    waits.any(|w| is_send_of(w, thread, endpoint) && cross(badge, w.badge))
 }
 
 fn some_silent_sends(
@@ -98,7 +96,7 @@ fn some_silent_sends(
 ) -> bool
     ensures { result ≡ list_any (spec.member_sends layout.now actor endpoint badge) silent.now }
 {
-    silent.iter().any(|member| member_sends(layout, member, actor, endpoint, badge))
+    silent.iter().any(|m| m.actor == actor && waits_with(layout, m.thread, endpoint, badge))
 }
 
 fn some_silent_hears(layout: &Layout, silent: &[Member], actor: u64, endpoint: u64) -> bool
@@ -106,7 +104,7 @@ fn some_silent_hears(layout: &Layout, silent: &[Member], actor: u64, endpoint: u
 {
     silent
         .iter()
-        .any(|member| member_hears(layout, member, actor, endpoint))
+        .any(|m| m.actor == actor && hears(layout, m.thread, endpoint))
 }
 
 fn thread_sends(policy: &Policy, layout: &Layout, actor: u64, endpoint: u64, badge: u64) -> bool
@@ -148,32 +146,11 @@ pub fn unused_ways(
         .collect(alloc)
 }
 
-fn is_use_of(layout: &Layout, used: &PartUse, actor: u64, endpoint: u64, badge: u64) -> bool
-    ensures { result ≡ spec.is_use_of layout.now actor endpoint badge used.now }
-{
-    used.endpoint == endpoint && cross(badge, used.badge.0) && is_in_part(layout, actor, used.part)
-}
-
-/// Whether a group has a right to an endpoint with such a badge.
-pub fn has(layout: &Layout, actor: u64, endpoint: u64, badge: u64, right: Rights) -> bool
-    ensures { result ≡ spec.has layout.now actor endpoint badge right.0 }
-{
-    let uses = layout.uses.as_slice();
-    uses.iter().any(|u| is_use_of(layout, u, actor, endpoint, badge) && u.rights.contains(right))
-}
-
 /// Whether an entry has a right that nothing has.
 pub fn is_idle(layout: &Layout, entry: &Allowance, right: Rights) -> bool
     ensures { result ≡ spec.is_idle layout.now entry.now right.0 }
 {
     entry.rights.contains(right) && !has(layout, entry.actor, entry.endpoint, entry.badge, right)
-}
-
-fn group_owns(layout: &Layout, actor: u64, endpoint: u64) -> bool
-    ensures { result ≡ spec.group_owns layout.now actor endpoint }
-{
-    let parts = layout.parts.as_slice();
-    parts.iter().any(|part| is_in_part(layout, actor, *part) && owns(layout, *part, endpoint))
 }
 
 /// What a way lets its sender hold.
@@ -208,7 +185,7 @@ fn has_way_idle_right(policy: &Policy, layout: &Layout, way: &PolicyWay) -> bool
 {
     is_way_used(policy, layout, way)
         && is_group(policy, way.from)
-        && !group_owns(layout, way.from, way.endpoint)
+        && !is_of_group(layout, way.from, way.endpoint)
         && has_idle_behind_write(layout, &sender_entry(way))
 }
 
@@ -271,18 +248,14 @@ pub fn uses_with_idle_rights(
         .collect(alloc)
 }
 
-fn is_region_of(layout: &Layout, held: &HeldRegion, own: &OwnRegion) -> bool
-    ensures { result ≡ spec.is_region_of layout.now own.now held.now }
-{
-    is_in_part(layout, own.group, held.part)
-        && lies_within(held.base, held.bits, own.base, own.bits)
-}
-
 fn is_region_used(layout: &Layout, own: &OwnRegion) -> bool
     ensures { result ≡ spec.is_region_used layout.now own.now }
 {
-    let regions = layout.regions.as_slice();
-    regions.iter().any(|held| is_region_of(layout, held, own))
+    let mut regions = layout.regions.as_slice().iter();
+    regions.any(|held| {
+        lies_within(held.base, held.bits, own.base, own.bits)
+            && is_in_part(layout, own.group, held.part)
+    })
 }
 
 /// The regions of groups of which nothing is there.
@@ -301,36 +274,9 @@ pub fn unused_regions(
         .collect(alloc)
 }
 
-fn blocks_of(
-    alloc: Global,
-    layout: &Layout,
-    blocks: &[Block],
-    group: u64,
-) -> Result<Vec<u64>, AllocError>
-    ensures { IfOk result (λ v. v.items ≡ map (spec.block_of blocks.now) (filter (λ part. spec.is_in_part layout.now part group) layout.now.parts.items)) }
+/// How many parts the threads of a group are, where those that Grant joins count as one: `homes` are those of the joined parts.
+pub fn count_of_parts(homes: &[Home], group: u64) -> usize
+    ensures { result ≡ spec.count_of_parts homes.now group }
 {
-    let parts = layout.parts.as_slice();
-    parts
-        .iter()
-        .filter(|part| is_in_part(layout, group, **part))
-        .map(|part| block_of(blocks, *part))
-        .collect(alloc)
-}
-
-/// How many parts the threads of a group are, where those that Grant joins count as one.
-///
-/// # Errors
-///
-/// Memory was refused.
-pub fn count_of_parts(
-    alloc: Global,
-    layout: &Layout,
-    blocks: &[Block],
-    group: u64,
-) -> Result<usize, AllocError>
-    ensures { IfOk result (λ n. n ≡ spec.count_of_parts layout.now blocks.now group) }
-{
-    let numbers = blocks_of(alloc, layout, blocks, group)?;
-    let numbers = rising(alloc, numbers.as_slice())?;
-    Ok(numbers.len())
+    homes.iter().filter(|home| home.group == group).count()
 }

@@ -6,9 +6,9 @@ ghost use Rattle.setup_report.specs.State.{rising as rising_of};
 ghost use Rattle.command_policy_breaches.specs.Ways as spec;
 
 use crate::breaches::meets;
-use crate::joining::{block_of, is_in_block};
-use crate::policy::{Block, Layout, Member, Policy, PolicyWay, Waiting};
-use crate::sides::{badges, may_hear};
+use crate::joining::block_of;
+use crate::policy::{Block, Home, Layout, Member, Policy, PolicyWay, Waiting};
+use crate::sides::{badges, is_at_home, may_hear};
 use command_parts::{is_of_part, rising};
 use query_parts::{PartUse, part_at};
 use std::alloc::{AllocError, Global};
@@ -38,27 +38,9 @@ pub struct Passage {
     pub to: End,
 }
 
-fn part_end(number: u64) -> End
-    ensures { result ≡ spec.part_end number }
-{
-    End {
-        is_part: true,
-        number,
-    }
-}
-
-fn thread_end(number: u64) -> End
-    ensures { result ≡ spec.thread_end number }
-{
-    End {
-        is_part: false,
-        number,
-    }
-}
-
 /// Whether a trusted thread lies in no part.
 fn is_outside(layout: &Layout, trusted: &Member) -> bool
-    ensures { result ≡ spec.is_outside layout.now trusted.now }
+    ensures { result ≡ spec.is_in_no_part layout.now trusted.now }
 {
     part_at(layout.memory.as_slice(), trusted.thread).is_none()
 }
@@ -70,18 +52,12 @@ pub fn is_send_of(wait: &Waiting, thread: u64, endpoint: u64) -> bool
     wait.sends && wait.endpoint == endpoint && wait.thread == thread
 }
 
-fn is_receive_of(wait: &Waiting, thread: u64, endpoint: u64) -> bool
-    ensures { result ≡ spec.is_receive_of thread endpoint wait.now }
-{
-    !wait.sends && wait.endpoint == endpoint && wait.thread == thread
-}
-
 /// Whether a thread waits to receive on an endpoint.
 pub fn hears(layout: &Layout, thread: u64, endpoint: u64) -> bool
     ensures { result ≡ list_any (spec.is_receive_of thread endpoint) layout.now.waits.items }
 {
-    let waits = layout.waits.as_slice();
-    waits.iter().any(|w| is_receive_of(w, thread, endpoint))
+    let mut waits = layout.waits.as_slice().iter();
+    waits.any(|w| !w.sends && w.endpoint == endpoint && w.thread == thread)
 }
 
 fn sends_with(
@@ -110,27 +86,15 @@ fn add_part_sends(
     endpoint: u64,
     part: u64,
 ) -> Result<(), AllocError>
-    ensures { OnOk result (sends.new.items ≡ sends.old.items ++ spec.part_sends layout.now blocks.now endpoint part) }
+    ensures { OnOk result (sends.new.items ≡ sends.old.items ++ spec.part_sendings layout.now blocks.now endpoint part) }
 {
     let badges = badges(alloc, layout, part, endpoint)?;
-    let end = part_end(block_of(blocks, part));
+    let end = End {
+        is_part: true,
+        number: block_of(blocks, part),
+    };
     let own = sends_with(alloc, badges.as_slice(), end, part)?;
     sends.extend_from_slice(own.as_slice())?;
-    Ok(())
-}
-
-fn add_all_part_sends(
-    alloc: Global,
-    sends: &mut Vec<Sending>,
-    layout: &Layout,
-    blocks: &[Block],
-    endpoint: u64,
-) -> Result<(), AllocError>
-    ensures { OnOk result (sends.new.items ≡ sends.old.items ++ flat_map (spec.part_sends layout.now blocks.now endpoint) layout.now.parts.items) }
-{
-    for part in layout.parts.as_slice() {
-        add_part_sends(alloc, sends, layout, blocks, endpoint, *part)?;
-    }
     Ok(())
 }
 
@@ -143,7 +107,10 @@ fn sends_that_wait(
     ensures { IfOk result (λ v. v.items ≡ map (spec.waiting_send trusted.now.actor) (filter (spec.is_send_of trusted.now.thread endpoint) layout.now.waits.items)) }
 {
     let waits = layout.waits.as_slice();
-    let end = thread_end(trusted.actor);
+    let end = End {
+        is_part: false,
+        number: trusted.actor,
+    };
     waits
         .iter()
         .filter(|w| is_send_of(w, trusted.thread, endpoint))
@@ -162,7 +129,7 @@ fn add_thread_sends(
     endpoint: u64,
     trusted: &Member,
 ) -> Result<(), AllocError>
-    ensures { OnOk result (sends.new.items ≡ sends.old.items ++ spec.thread_sends layout.now endpoint trusted.now) }
+    ensures { OnOk result (sends.new.items ≡ sends.old.items ++ spec.thread_sendings layout.now endpoint trusted.now) }
 {
     if is_outside(layout, trusted) {
         let own = sends_that_wait(alloc, layout, trusted, endpoint)?;
@@ -178,7 +145,7 @@ fn add_all_thread_sends(
     endpoint: u64,
     silent: &[Member],
 ) -> Result<(), AllocError>
-    ensures { OnOk result (sends.new.items ≡ sends.old.items ++ flat_map (spec.thread_sends layout.now endpoint) silent.now) }
+    ensures { OnOk result (sends.new.items ≡ sends.old.items ++ flat_map (spec.thread_sendings layout.now endpoint) silent.now) }
 {
     for trusted in silent {
         add_thread_sends(alloc, sends, layout, endpoint, trusted)?;
@@ -194,18 +161,33 @@ fn sends_to(
     blocks: &[Block],
     endpoint: u64,
 ) -> Result<Vec<Sending>, AllocError>
-    ensures { IfOk result (λ v. v.items ≡ spec.sends_to policy.now layout.now blocks.now endpoint) }
+    ensures { IfOk result (λ v. v.items ≡ spec.sendings_to policy.now layout.now blocks.now endpoint) }
 {
     let mut sends = Vec::new(alloc);
-    add_all_part_sends(alloc, &mut sends, layout, blocks, endpoint)?;
-    add_all_thread_sends(
-        alloc,
-        &mut sends,
-        layout,
-        endpoint,
-        policy.silent.as_slice(),
-    )?;
+    for part in layout.parts.as_slice() {
+        add_part_sends(alloc, &mut sends, layout, blocks, endpoint, *part)?;
+    }
+    let silent = policy.silent.as_slice();
+    add_all_thread_sends(alloc, &mut sends, layout, endpoint, silent)?;
     Ok(sends)
+}
+
+fn thread_ends(
+    alloc: Global,
+    layout: &Layout,
+    endpoint: u64,
+    silent: &[Member],
+) -> Result<Vec<End>, AllocError>
+    ensures { IfOk result (λ v. v.items ≡ map (λ m. spec.thread_end m.actor) (filter (spec.hears_as_thread layout.now endpoint) silent.now)) }
+{
+    silent
+        .iter()
+        .filter(|trusted| is_outside(layout, trusted) && hears(layout, trusted.thread, endpoint))
+        .map(|trusted| End {
+            is_part: false,
+            number: trusted.actor,
+        })
+        .collect(alloc)
 }
 
 fn hearing_numbers(
@@ -214,7 +196,7 @@ fn hearing_numbers(
     blocks: &[Block],
     endpoint: u64,
 ) -> Result<Vec<u64>, AllocError>
-    ensures { IfOk result (λ v. v.items ≡ map (spec.block_of blocks.now) (filter (spec.hears_on layout.now endpoint) layout.now.parts.items)) }
+    ensures { IfOk result (λ v. v.items ≡ map (spec.block_of_part blocks.now) (filter (spec.hears_on layout.now endpoint) layout.now.parts.items)) }
 {
     let parts = layout.parts.as_slice();
     parts
@@ -229,28 +211,10 @@ fn part_ends(alloc: Global, numbers: &[u64]) -> Result<Vec<End>, AllocError>
 {
     numbers
         .iter()
-        .map(|number| part_end(*number))
-        .collect(alloc)
-}
-
-fn hears_as_thread(layout: &Layout, endpoint: u64, trusted: &Member) -> bool
-    ensures { result ≡ spec.hears_as_thread layout.now endpoint trusted.now }
-{
-    is_outside(layout, trusted) && hears(layout, trusted.thread, endpoint)
-}
-
-fn thread_ends(
-    alloc: Global,
-    layout: &Layout,
-    endpoint: u64,
-    silent: &[Member],
-) -> Result<Vec<End>, AllocError>
-    ensures { IfOk result (λ v. v.items ≡ map (λ m. spec.thread_end m.actor) (filter (spec.hears_as_thread layout.now endpoint) silent.now)) }
-{
-    silent
-        .iter()
-        .filter(|trusted| hears_as_thread(layout, endpoint, trusted))
-        .map(|trusted| thread_end(trusted.actor))
+        .map(|number| End {
+            is_part: true,
+            number: *number,
+        })
         .collect(alloc)
 }
 
@@ -342,21 +306,6 @@ fn add_passages_by(
     )
 }
 
-fn add_all_passages(
-    alloc: Global,
-    passages: &mut Vec<Passage>,
-    policy: &Policy,
-    layout: &Layout,
-    blocks: &[Block],
-) -> Result<(), AllocError>
-    ensures { OnOk result (passages.new.items ≡ passages.old.items ++ flat_map (spec.passages_by policy.now layout.now blocks.now) layout.now.endpoints.items) }
-{
-    for endpoint in layout.endpoints.as_slice() {
-        add_passages_by(alloc, passages, policy, layout, blocks, *endpoint)?;
-    }
-    Ok(())
-}
-
 /// What can pass, by each endpoint.
 ///
 /// # Errors
@@ -371,114 +320,111 @@ pub fn passages(
     ensures { IfOk result (λ v. v.items ≡ spec.passages policy.now layout.now blocks.now) }
 {
     let mut passages = Vec::new(alloc);
-    add_all_passages(alloc, &mut passages, policy, layout, blocks)?;
+    for endpoint in layout.endpoints.as_slice() {
+        add_passages_by(alloc, &mut passages, policy, layout, blocks, *endpoint)?;
+    }
     Ok(passages)
-}
-
-fn is_between_parts(passage: &Passage) -> bool
-    ensures { result ≡ spec.is_between_parts passage.now }
-{
-    passage.from.is_part && passage.to.is_part
 }
 
 /// How many of the passages are between parts.
 pub fn count_between_parts(passages: &[Passage]) -> usize
     ensures { result ≡ count_by spec.is_between_parts passages.now }
 {
-    passages.iter().filter(|p| is_between_parts(p)).count()
+    passages
+        .iter()
+        .filter(|p| p.from.is_part && p.to.is_part)
+        .count()
 }
 
 /// Whether an actor is one of an end's: a group that has a thread in one of the parts, or the thread itself.
-pub fn is_at(layout: &Layout, blocks: &[Block], end: End, actor: u64) -> bool
-    ensures { result ≡ spec.is_at layout.now blocks.now end actor }
+pub fn is_at(homes: &[Home], end: End, actor: u64) -> bool
+    ensures { result ≡ spec.is_end_at homes.now end actor }
 {
     if end.is_part {
-        is_in_block(layout, blocks, actor, end.number)
+        is_at_home(homes, actor, end.number)
     } else {
         end.number == actor
     }
 }
 
-fn have_one_in_common(policy: &Policy, layout: &Layout, blocks: &[Block], passage: &Passage) -> bool
-    ensures { result ≡ spec.have_one_in_common policy.now layout.now blocks.now passage.now }
+fn have_one_in_common(homes: &[Home], passage: &Passage) -> bool
+    ensures { result ≡ spec.have_one_in_common homes.now passage.now }
 {
-    let groups = policy.groups.as_slice();
-    groups.iter().any(|group| {
-        is_at(layout, blocks, passage.from, *group) && is_at(layout, blocks, passage.to, *group)
+    let Passage { from, to, .. } = *passage;
+    homes.iter().any(|home| {
+        from.is_part
+            && home.part == from.number
+            && to.is_part
+            && is_at_home(homes, home.group, to.number)
     })
 }
 
-fn begins_there(layout: &Layout, blocks: &[Block], passage: &Passage, way: &PolicyWay) -> bool
-    ensures { result ≡ spec.begins_there layout.now blocks.now passage.now way.now }
+fn begins_there(homes: &[Home], passage: &Passage, way: &PolicyWay) -> bool
+    ensures { result ≡ spec.begins_there homes.now passage.now way.now }
 {
-    way.endpoint == passage.endpoint && is_at(layout, blocks, passage.from, way.from)
+    way.endpoint == passage.endpoint && is_at(homes, passage.from, way.from)
 }
 
 /// Whether a way is between the ends of a passage, by its endpoint.
-pub fn is_way_between(layout: &Layout, blocks: &[Block], passage: &Passage, way: &PolicyWay) -> bool
-    ensures { result ≡ spec.is_way_between layout.now blocks.now passage.now way.now }
+pub fn is_way_between(homes: &[Home], passage: &Passage, way: &PolicyWay) -> bool
+    ensures { result ≡ spec.is_way_between homes.now passage.now way.now }
 {
-    begins_there(layout, blocks, passage, way) && is_at(layout, blocks, passage.to, way.to)
+    begins_there(homes, passage, way) && is_at(homes, passage.to, way.to)
 }
 
-fn is_let(policy: &Policy, layout: &Layout, blocks: &[Block], passage: &Passage) -> bool
-    ensures { result ≡ spec.is_let policy.now layout.now blocks.now passage.now }
+fn is_let(policy: &Policy, homes: &[Home], passage: &Passage) -> bool
+    ensures { result ≡ spec.is_let policy.now homes.now passage.now }
 {
     let ways = policy.ways.as_slice();
-    ways.iter().any(|way| {
-        is_way_between(layout, blocks, passage, way) && meets(way.badge, passage.badge)
-    })
+    ways.iter().any(|way| is_way_between(homes, passage, way) && meets(way.badge, passage.badge))
 }
 
-fn is_let_elsewhere(policy: &Policy, layout: &Layout, blocks: &[Block], passage: &Passage) -> bool
-    ensures { result ≡ spec.is_let_elsewhere policy.now layout.now blocks.now passage.now }
+fn is_let_elsewhere(policy: &Policy, homes: &[Home], passage: &Passage) -> bool
+    ensures { result ≡ spec.is_let_elsewhere policy.now homes.now passage.now }
 {
     let ways = policy.ways.as_slice();
-    ways.iter().any(|way| {
-        begins_there(layout, blocks, passage, way) && meets(way.badge, passage.badge)
-    })
+    ways.iter().any(|way| begins_there(homes, passage, way) && meets(way.badge, passage.badge))
 }
 
-fn has_way(policy: &Policy, layout: &Layout, blocks: &[Block], passage: &Passage) -> bool
-    ensures { result ≡ spec.has_way policy.now layout.now blocks.now passage.now }
+fn has_way(policy: &Policy, homes: &[Home], passage: &Passage) -> bool
+    ensures { result ≡ spec.has_way policy.now homes.now passage.now }
 {
     let ways = policy.ways.as_slice();
-    ways.iter()
-        .any(|way| is_way_between(layout, blocks, passage, way))
-}
-
-fn is_use_of_passage(used: &PartUse, passage: &Passage) -> bool
-    ensures { result ≡ spec.is_use_of_passage passage.now used.now }
-{
-    used.part == passage.part && used.endpoint == passage.endpoint && used.badge.0 == passage.badge
-}
-
-fn is_wait_of_passage(layout: &Layout, wait: &Waiting, passage: &Passage) -> bool
-    ensures { result ≡ spec.is_wait_of_passage layout.now passage.now wait.now }
-{
-    wait.sends
-        && wait.endpoint == passage.endpoint
-        && wait.badge == passage.badge
-        && is_of_part(layout.memory.as_slice(), passage.part, wait.thread)
+    ways.iter().any(|way| is_way_between(homes, passage, way))
 }
 
 fn is_told_of_use(uses: &[PartUse], passage: &Passage) -> bool
     ensures { result ≡ list_any (spec.is_use_of_passage passage.now) uses.now }
 {
-    uses.iter().any(|used| is_use_of_passage(used, passage))
+    let Passage {
+        part,
+        endpoint,
+        badge,
+        ..
+    } = *passage;
+    let mut uses = uses.iter();
+    uses.any(|u| u.part == part && u.endpoint == endpoint && u.badge.0 == badge)
 }
 
 fn is_told_of_wait(layout: &Layout, waits: &[Waiting], passage: &Passage) -> bool
     ensures { result ≡ list_any (spec.is_wait_of_passage layout.now passage.now) waits.now }
 {
-    waits
-        .iter()
-        .any(|wait| is_wait_of_passage(layout, wait, passage))
+    let memory = layout.memory.as_slice();
+    let Passage {
+        part,
+        endpoint,
+        badge,
+        ..
+    } = *passage;
+    let mut waits = waits.iter();
+    waits.any(|w| {
+        w.sends && w.endpoint == endpoint && w.badge == badge && is_of_part(memory, part, w.thread)
+    })
 }
 
 /// Whether the badge of a passage is told already, of a use or of a send that waits.
 fn is_told(layout: &Layout, uses: &[PartUse], waits: &[Waiting], passage: &Passage) -> bool
-    ensures { result ≡ spec.is_told layout.now uses.now waits.now passage.now }
+    ensures { result ≡ spec.is_passage_told layout.now uses.now waits.now passage.now }
 {
     is_told_of_use(uses, passage) || is_told_of_wait(layout, waits, passage)
 }
@@ -487,34 +433,35 @@ fn is_told(layout: &Layout, uses: &[PartUse], waits: &[Waiting], passage: &Passa
 fn is_badge_told(
     policy: &Policy,
     layout: &Layout,
-    blocks: &[Block],
+    homes: &[Home],
     uses: &[PartUse],
     waits: &[Waiting],
     passage: &Passage,
 ) -> bool
-    ensures { result ≡ spec.is_badge_told policy.now layout.now blocks.now uses.now waits.now passage.now }
+    ensures { result ≡ spec.is_badge_told policy.now layout.now homes.now uses.now waits.now passage.now }
 {
-    has_way(policy, layout, blocks, passage)
-        && !is_let_elsewhere(policy, layout, blocks, passage)
-        && is_told(layout, uses, waits, passage)
+    is_told(layout, uses, waits, passage)
+        && has_way(policy, homes, passage)
+        && !is_let_elsewhere(policy, homes, passage)
 }
 
 fn is_passage_amiss(
     policy: &Policy,
     layout: &Layout,
-    blocks: &[Block],
+    homes: &[Home],
     uses: &[PartUse],
     waits: &[Waiting],
     passage: &Passage,
 ) -> bool
-    ensures { result ≡ spec.is_passage_amiss policy.now layout.now blocks.now uses.now waits.now passage.now }
+    ensures { result ≡ spec.is_passage_amiss policy.now layout.now homes.now uses.now waits.now passage.now }
 {
-    !have_one_in_common(policy, layout, blocks, passage)
-        && !is_let(policy, layout, blocks, passage)
-        && !is_badge_told(policy, layout, blocks, uses, waits, passage)
+    !have_one_in_common(homes, passage)
+        && !is_let(policy, homes, passage)
+        && !is_badge_told(policy, layout, homes, uses, waits, passage)
 }
 
-/// The passages that no way lets pass. `uses` and `waits` have those whose badges are told already.
+/// The passages that no way lets pass. `homes` has the groups of the joined parts, and `uses` and `waits` those whose badges are told
+/// already.
 ///
 /// # Errors
 ///
@@ -523,16 +470,16 @@ pub fn passages_amiss(
     alloc: Global,
     policy: &Policy,
     layout: &Layout,
-    blocks: &[Block],
+    homes: &[Home],
     uses: &[PartUse],
     waits: &[Waiting],
     passages: &[Passage],
 ) -> Result<Vec<Passage>, AllocError>
-    ensures { IfOk result (λ v. v.items ≡ filter (spec.is_passage_amiss policy.now layout.now blocks.now uses.now waits.now) passages.now) }
+    ensures { IfOk result (λ v. v.items ≡ filter (spec.is_passage_amiss policy.now layout.now homes.now uses.now waits.now) passages.now) }
 {
     passages
         .iter()
-        .filter(|passage| is_passage_amiss(policy, layout, blocks, uses, waits, passage))
+        .filter(|passage| is_passage_amiss(policy, layout, homes, uses, waits, passage))
         .copied()
         .collect(alloc)
 }

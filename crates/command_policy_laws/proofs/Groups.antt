@@ -1,5 +1,5 @@
 -- Each part has one group, and so have parts that Grant joins, where no line tells of a breach.
-use Rattle.std.proofs.Common.{◌≡◌, ◌⊎◌, inl, inr, ℕ, Bool, true, false, not, cond, ◌==◌, ◌&&◌, List, [], ◌∷◌, map, Option, Some, None, refl, sym, ap, subst, ◌∙◌, arith, eq-eqb}
+use Rattle.std.proofs.Common.{◌≡◌, ◌≢◌, ◌⊎◌, inl, inr, ℕ, Bool, true, false, not, cond, ◌==◌, ◌&&◌, ◌||◌, List, [], ◌∷◌, ◌++◌, map, Option, Some, None, refl, sym, ap, subst, ◌∙◌, arith, eq-eqb}
 use Rattle.std.specs.Prelude.{find, option_map, min, max, nat_le}
 use Rattle.std.specs.List.{filter, filter_map, flat_map, cons_option, list_any}
 use Rattle.std.proofs.lemmas.Bool.{false≢true, eqb-true}
@@ -8,11 +8,11 @@ use Rattle.cap_core.specs.declared.profile.ProfileName.{ProfileName}
 use Rattle.kernel_abstract.specs.Shown.{Shown}
 use Rattle.kernel_delete.specs.Members.{In}
 use Rattle.kernel_delete.proofs.Clearable.{contains_in}
-use Rattle.kernel_delete.proofs.Members.{all_in, both_true, true_left, true_right, any_in, any_of, in_append, in_left, in_right, in_filter, tells, eqb_self}
+use Rattle.kernel_delete.proofs.Members.{both_true, either_true, true_left, true_right, any_in, any_of, in_append, in_left, in_right, in_filter, filter_in, tells, eqb_self}
 use Rattle.query_parts.specs.declared.listed.PartMemory.{PartMemory}
 use Rattle.query_parts.specs.Listed.{lies_in, part_at}
 use Rattle.query_parts.proofs.Lists.{in_mapped, from_mapped}
-use Rattle.setup_report.specs.State.{rising}
+use Rattle.setup_report.specs.State.{is_in, rising}
 use Rattle.setup_report.proofs.Addresses.Rising.{any_rising}
 use Rattle.command_parts.specs.Text.{parts_of}
 use Rattle.command_policy_breaches.specs.declared.joining.Join.{Join}
@@ -21,10 +21,10 @@ use Rattle.command_policy_breaches.specs.declared.policy.Home.{Home}
 use Rattle.command_policy_breaches.specs.declared.policy.Layout.{Layout}
 use Rattle.command_policy_breaches.specs.declared.policy.Member.{Member}
 use Rattle.command_policy_breaches.specs.declared.policy.Policy.{Policy}
-use Rattle.command_policy_breaches.specs.Joins.{alone, all_joined, block_of, blocks, given, answered, has_another, have_two_groups, is_in_block, is_in_either, is_other_caller, is_other_hearer, join, joined, joins, joins_from, joins_on, number_of, renumbered}
-use Rattle.command_policy_breaches.specs.Layouts.{IsLayoutOf, home_of}
-use Rattle.command_policy_breaches.specs.Sides.{is_home, is_in_part, may_answer, may_give}
-use Rattle.command_policy_laws.specs.Unbroken.{AreNamed, IsSound, group_in, group_of, is_group}
+use Rattle.command_policy_breaches.specs.Joins.{single_block, all_joined, block_of_part, blocks, given, answer_joins, has_another, have_one_group, have_two_groups, homes_joined, homes_joined_of, is_in_either, is_other_caller, is_other_hearer, is_theirs, join_from, joined, joins, joins_from, joins_on, number_at, block_number, renumbered}
+use Rattle.command_policy_breaches.specs.Layouts.{IsLayoutOf, home, homes_of, part_of_member}
+use Rattle.command_policy_breaches.specs.Sides.{is_at_home, is_home, may_answer, may_give}
+use Rattle.command_policy_laws.specs.Unbroken.{AreNamed, group_in, group_of}
 use Rattle.command_policy_laws.proofs.Untold.{fails}
 
 -- ---- lists
@@ -96,20 +96,17 @@ part_listed memory a i at = in_rising i (map (λ (m : PartMemory). m.part) memor
 
 -- ---- a group has threads in a part
 
-abbrev home_in : Member → ℕ → Home
-home_in m i = record { group = m.actor; part = i }
-
 abbrev pub IsAt : List Home → ℕ → ℕ → Type 0
 IsAt homes part group = (h : Home) × (In h homes × ((h.part ≡ part) × (h.group ≡ group)))
 
 module _ (homes : List Home) (part group : ℕ) where
-  pub at_home : list_any (is_home group part) homes ≡ true → IsAt homes part group
+  pub at_home : is_at_home homes part group ≡ true → IsAt homes part group
   at_home has =
       let m = any_of (is_home group part) homes has in
       let both = both_true (m.0.group == group) (m.0.part == part) m.1.1 in
       (m.0, (m.1.0, (eqb-true m.0.part part both.1, eqb-true m.0.group group both.0)))
 
-  pub home_at : IsAt homes part group → list_any (is_home group part) homes ≡ true
+  pub home_at : IsAt homes part group → is_at_home homes part group ≡ true
   home_at at = any_in (is_home group part) homes at.0 at.1.0 (rw (eq-eqb at.0.group group at.1.1.1, eq-eqb at.0.part part at.1.1.0) refl)
 
 first_home : (homes : List Home) (part group : ℕ) → option_map (λ (h : Home). h.group) (find (λ (h : Home). h.part == part) homes) ≡ Some group → IsAt homes part group
@@ -152,15 +149,19 @@ has_group l address group is = by (part_at l.memory.items address) refl is
 
 -- ---- a part has one group
 
-module _ (c : Policy) (l : Layout) (one other : ℕ) (none : have_two_groups c l one other ≡ false) where
-  -- groups that have threads in either of two parts are one
-  pub same_group : (g k : ℕ) → In g c.groups.items → In k c.groups.items → is_in_either l one other g ≡ true → is_in_either l one other k ≡ true → g ≡ k
-  same_group g k here there first second = elim (tells (k == g)) [
-    | inl same ↦ sym (eqb-true k g same)
-    | inr differ ↦ absurd (false≢true (sym none
-        ∙ any_in (λ x. is_in_either l one other x && has_another c.groups.items l one other x) c.groups.items g here
-        (rw (first, any_in (λ x. not (x == g) && is_in_either l one other x) c.groups.items k there (rw (differ, second) refl)) refl)))
+module _ (homes : List Home) (one other : ℕ) where
+  -- no other group has threads in either of two parts
+  alone_there : (group : ℕ) → has_another homes one other group ≡ false → (h : Home) → In h homes → is_in_either one other h ≡ true → h.group ≡ group
+  alone_there group none h there either = elim (tells (h.group == group)) [
+    | inl same ↦ eqb-true h.group group same
+    | inr differ ↦ absurd (false≢true (sym none ∙ any_in (λ (x : Home). is_in_either one other x && not (x.group == group)) homes h there (rw (either, differ) refl)))
   ]
+
+in_first : (one other : ℕ) (h : Home) → h.part ≡ one → is_in_either one other h ≡ true
+in_first one other h is = true_left (h.part == one) (h.part == other) (eq-eqb h.part one is)
+
+in_second : (one other : ℕ) (h : Home) → h.part ≡ other → is_in_either one other h ≡ true
+in_second one other h is = true_right (h.part == one) (h.part == other) (eq-eqb h.part other is)
 
 -- two parts are one, or one group has threads in both, and no other has
 abbrev pub AreAlike : List Home → ℕ → ℕ → Type 0
@@ -179,6 +180,41 @@ module _ (homes : List Home) where
       let same : x ≡ g = h x d in
       inr (g, (a, (subst (IsAt homes k) same e, (f, λ n there. r n there ∙ same))))
 
+  -- what a test of two parts says
+  pub alike_tested : (one other : ℕ) → have_one_group homes one other ≡ true → AreAlike homes one other
+  alike_tested one other has =
+      let m = any_of (is_theirs homes one other) homes has in
+      let first = both_true (m.0.part == one) (is_at_home homes other m.0.group && not (has_another homes one other m.0.group)) m.1.1 in
+      let second = both_true (is_at_home homes other m.0.group) (not (has_another homes one other m.0.group)) first.1 in
+      let none = unset (has_another homes one other m.0.group) second.1 in
+      inr (
+        m.0.group,
+        (
+          (m.0, (m.1.0, (eqb-true m.0.part one first.0, refl))),
+          (
+            at_home homes other m.0.group second.0,
+            (
+              (λ k there. sym there.1.1.1 ∙ alone_there homes one other m.0.group none there.0 there.1.0 (in_first one other there.0 there.1.1.0)),
+              (λ k there. sym there.1.1.1 ∙ alone_there homes one other m.0.group none there.0 there.1.0 (in_second one other there.0 there.1.1.0)),
+            ),
+          ),
+        ),
+      )
+    where
+      unset : (b : Bool) → not b ≡ true → b ≡ false
+      unset true h = cc
+      unset false h = refl
+
+  -- a part that has no two groups
+  pub one_group : (part : ℕ) → have_two_groups homes part part ≡ false → (g k : ℕ) → IsAt homes part g → IsAt homes part k → g ≡ k
+  one_group part none g k a b =
+      let none_other : has_another homes part part a.0.group ≡ false =
+      (elim (tells (has_another homes part part a.0.group)) [
+        | inl has ↦ absurd (false≢true (sym none ∙ any_in (λ (x : Home). is_in_either part part x && has_another homes part part x.group) homes a.0 a.1.0 (rw (in_first part part a.0 a.1.1.0, has) refl)))
+        | inr not ↦ not
+      ]) in
+      sym a.1.1.1 ∙ sym (alone_there homes part part a.0.group none_other b.0 b.1.0 (in_first part part b.0 b.1.1.0)) ∙ b.1.1.1
+
 -- ---- parts that Grant joins
 
 larger : (f t : ℕ) → ((max f t ≡ t) × (min f t ≡ f)) ⊎ ((max f t ≡ f) × (min f t ≡ t))
@@ -195,12 +231,12 @@ module _ (homes : List Home) (parts : List ℕ) where
 
   -- the block of a part
   abbrev IsBlockOf : List Block → ℕ → Block → Type 0
-  IsBlockOf bs i b = In b bs × ((b.part ≡ i) × (b.block ≡ block_of bs i))
+  IsBlockOf bs i b = In b bs × ((b.part ≡ i) × (b.block ≡ block_of_part bs i))
 
   found : (bs : List Block) (i : ℕ) (b : Block) → In b bs → b.part ≡ i → (f : Block) × IsBlockOf bs i f
   found [] i b there is = absurd there
   found (x ∷ bs) i b there is =
-      (elim (x.part == i) as (λ (t : Bool). x.part == i ≡ t → (f : Block) × (In f (x ∷ bs) × ((f.part ≡ i) × (f.block ≡ number_of i (cond t (Some x) (find (λ (y : Block). y.part == i) bs)))))) [
+      (elim (x.part == i) as (λ (t : Bool). x.part == i ≡ t → (f : Block) × (In f (x ∷ bs) × ((f.part ≡ i) × (f.block ≡ block_number i (cond t (Some x) (find (λ (y : Block). y.part == i) bs)))))) [
         | true ↦ λ same. (x, (inl refl, (eqb-true x.part i same, refl)))
         | false ↦ λ differ. let m = found bs i b (more differ there) is in (m.0, (inr m.1.0, m.1.1))
       ]) refl
@@ -212,18 +248,13 @@ module _ (homes : List Home) (parts : List ℕ) where
   block_found : (bs : List Block) → AreSound bs → (i : ℕ) → In i parts → (f : Block) × IsBlockOf bs i f
   block_found bs sound i there = let b = sound.all i there in found bs i b.0 b.1.0 b.1.1
 
-  pub same_number : (bs : List Block) → AreSound bs → (i j : ℕ) → In i parts → In j parts → block_of bs i ≡ block_of bs j → AreAlike homes i j
+  pub same_number : (bs : List Block) → AreSound bs → (i j : ℕ) → In i parts → In j parts → block_of_part bs i ≡ block_of_part bs j → AreAlike homes i j
   same_number bs sound i j own other same =
       let b = block_found bs sound i own in
       let d = block_found bs sound j other in
       subst (λ n. AreAlike homes n j) b.1.1.0
       (subst (λ n. AreAlike homes b.0.part n) d.1.1.0
       (sound.alike b.0 d.0 b.1.0 d.1.0 (b.1.1.1 ∙ same ∙ sym d.1.1.1)))
-
-  pub same_block : (bs : List Block) → AreSound bs → (i : ℕ) (d : Block) → In i parts → In d bs → d.block ≡ block_of bs i → AreAlike homes i d.part
-  same_block bs sound i d own there same =
-      let b = block_found bs sound i own in
-      subst (λ n. AreAlike homes n d.part) b.1.1.0 (sound.alike b.0 d b.1.0 there (b.1.1.1 ∙ sym same))
 
   -- two numbers become one: those of two parts that are alike
   module _ (bs : List Block) (sound : AreSound bs) (from to : ℕ) (near : (b d : Block) → In b bs → In d bs → b.block ≡ from → d.block ≡ to → AreAlike homes b.part d.part) where
@@ -255,7 +286,7 @@ module _ (homes : List Home) (parts : List ℕ) where
     }
 
   near_joined : (bs : List Block) → AreSound bs → (i j : ℕ) → In i parts → In j parts → AreAlike homes i j →
-      (b d : Block) → In b bs → In d bs → b.block ≡ block_of bs i → d.block ≡ block_of bs j → AreAlike homes b.part d.part
+      (b d : Block) → In b bs → In d bs → b.block ≡ block_of_part bs i → d.block ≡ block_of_part bs j → AreAlike homes b.part d.part
   near_joined bs sound i j own other alike b d here there first second =
       let x = block_found bs sound i own in
       let y = block_found bs sound j other in
@@ -270,17 +301,17 @@ module _ (homes : List Home) (parts : List ℕ) where
     pub alike : AreAlike homes j.from j.to
 
   sound_joined : (bs : List Block) → AreSound bs → (j : Join) → IsSoundJoin j → AreSound (joined bs j)
-  sound_joined bs sound j is = by (block_of bs j.from) (block_of bs j.to) refl refl
+  sound_joined bs sound j is = by (block_of_part bs j.from) (block_of_part bs j.to) refl refl
     where
-      up_to : (f t : ℕ) → (f ≡ block_of bs j.from) → (t ≡ block_of bs j.to) → AreSound (map (renumbered f t) bs)
+      up_to : (f t : ℕ) → (f ≡ block_of_part bs j.from) → (t ≡ block_of_part bs j.to) → AreSound (map (renumbered f t) bs)
       up_to f t first second = sound_after bs sound f t (λ b d here there one two.
           near_joined bs sound j.from j.to is.from is.to is.alike b d here there (one ∙ first) (two ∙ second))
 
-      down_to : (f t : ℕ) → (f ≡ block_of bs j.from) → (t ≡ block_of bs j.to) → AreSound (map (renumbered t f) bs)
+      down_to : (f t : ℕ) → (f ≡ block_of_part bs j.from) → (t ≡ block_of_part bs j.to) → AreSound (map (renumbered t f) bs)
       down_to f t first second = sound_after bs sound t f (λ b d here there one two.
           near_joined bs sound j.to j.from is.to is.from (alike_back homes j.from j.to is.alike) b d here there (one ∙ second) (two ∙ first))
 
-      by : (f t : ℕ) → (f ≡ block_of bs j.from) → (t ≡ block_of bs j.to) → AreSound (map (renumbered (max f t) (min f t)) bs)
+      by : (f t : ℕ) → (f ≡ block_of_part bs j.from) → (t ≡ block_of_part bs j.to) → AreSound (map (renumbered (max f t) (min f t)) bs)
       by f t first second = elim (larger f t) [
         | inl is ↦ subst (λ n. AreSound (map (renumbered n (min f t)) bs)) (sym is.0) (subst (λ n. AreSound (map (renumbered t n) bs)) (sym is.1) (down_to f t first second))
         | inr is ↦ subst (λ n. AreSound (map (renumbered n (min f t)) bs)) (sym is.0) (subst (λ n. AreSound (map (renumbered f n) bs)) (sym is.1) (up_to f t first second))
@@ -290,91 +321,45 @@ module _ (homes : List Home) (parts : List ℕ) where
   sound_all [] bs sound are = sound
   sound_all (j ∷ js) bs sound are = sound_all js (joined bs j) (sound_joined bs sound j (are j (inl refl))) (λ k there. are k (inr there))
 
-  sound_alone : AreSound (map alone parts)
+  sound_alone : AreSound (map single_block parts)
   sound_alone = record {
     alike = λ b d here there same.
-        let x = from_mapped alone parts b here in
-        let y = from_mapped alone parts d there in
+        let x = from_mapped single_block parts b here in
+        let y = from_mapped single_block parts d there in
         inl (ap (λ (z : Block). z.part) x.1.1 ∙ sym (ap (λ (z : Block). z.block) x.1.1) ∙ same ∙ ap (λ (z : Block). z.block) y.1.1 ∙ sym (ap (λ (z : Block). z.part) y.1.1));
-    all = λ i own. (alone i, (in_mapped alone i parts own, refl));
+    all = λ i own. (single_block i, (in_mapped single_block i parts own, refl));
   }
 
 -- ---- a layout in which nothing of the kind is told
 
-module _ (p : ProfileName) (c : Policy) (v : Shown) (l : Layout) (is : IsLayoutOf p c v l) (sound_layout : IsSound c v l)
-    (joined_none : filter (λ part. have_two_groups c l part part) l.parts.items ≡ [])
-    (grants_none : filter (λ (j : Join). have_two_groups c l j.from j.to) (joins c l) ≡ []) where
-  -- ---- homes
-
-  member_of : (h : Home) → In h l.homes.items → (m : Member) × (In m c.members.items × (home_of l.memory.items m ≡ Some h))
-  member_of h there = from_found (home_of l.memory.items) c.members.items h (subst (In h) is.homes_are there)
-
-  lies_at : (h : Home) (m : Member) (o : Option ℕ) → option_map (λ i. home_in m i) o ≡ Some h → (m.actor ≡ h.group) × (o ≡ Some h.part)
-  lies_at h m None is_h = cc
-  lies_at h m (Some i) is_h = let e : home_in m i ≡ h = cc in (ap (λ (x : Home). x.group) e, ap (λ (x : Home). Some x.part) e)
+module _ (p : ProfileName) (c : Policy) (v : Shown) (l : Layout) (is : IsLayoutOf p c v l)
+    (joined_none : filter (λ part. have_two_groups l.homes.items part part) l.parts.items ≡ [])
+    (grants_none : filter (λ (j : Join). not (have_one_group l.homes.items j.from j.to)) (joins c l) ≡ []) where
+  pub of_one : (part : ℕ) → In part l.parts.items → (g k : ℕ) → IsAt l.homes.items part g → IsAt l.homes.items part k → g ≡ k
+  of_one part there g k a b =
+      one_group l.homes.items part (fails (λ i. have_two_groups l.homes.items i i) l.parts.items part joined_none there) g k a b
 
   pub part_of_address : (a i : ℕ) → part_at l.memory.items a ≡ Some i → In i l.parts.items
   part_of_address a i at = subst (In i) (sym is.numbers) (part_listed l.memory.items a i at)
 
   home_part : (h : Home) → In h l.homes.items → In h.part l.parts.items
   home_part h there =
-      let m = member_of h there in
-      part_of_address m.0.thread h.part (lies_at h m.0 (part_at l.memory.items m.0.thread) m.1.1).1
-
-  is_of_policy : (g : ℕ) → is_group c g ≡ true → In g c.groups.items
-  is_of_policy g has = let m = any_of (λ x. x == g) c.groups.items has in subst (λ n. In n c.groups.items) (eqb-true m.0 g m.1.1) m.1.0
-
-  -- a group that has threads somewhere is one of the policy's
-  home_group : (i g : ℕ) → IsAt l.homes.items i g → In g c.groups.items
-  home_group i g (h, (there, (at, has))) =
-      let m = member_of h there in
-      subst (λ n. In n c.groups.items) ((lies_at h m.0 (part_at l.memory.items m.0.thread) m.1.1).0 ∙ has)
-      (is_of_policy m.0.actor (all_in (λ (x : Member). is_group c x.actor) c.members.items m.0 sound_layout.named m.1.0))
-
-  in_one : (i j g : ℕ) → IsAt l.homes.items i g → is_in_either l i j g ≡ true
-  in_one i j g at = true_left (is_in_part l i g) (is_in_part l j g) (home_at l.homes.items i g at)
-
-  in_other : (i j g : ℕ) → IsAt l.homes.items j g → is_in_either l i j g ≡ true
-  in_other i j g at = true_right (is_in_part l i g) (is_in_part l j g) (home_at l.homes.items j g at)
-
-  pub of_one : (part : ℕ) → In part l.parts.items → (g k : ℕ) → IsAt l.homes.items part g → IsAt l.homes.items part k → g ≡ k
-  of_one part there g k a b =
-      same_group c l part part (fails (λ i. have_two_groups c l i i) l.parts.items part joined_none there) g k
-      (home_group part g a) (home_group part k b) (in_one part part g a) (in_one part part k b)
+      let g = from_flat (homes_of l.memory.items c.members.items) c.groups.items h (subst (In h) is.homes_are there) in
+      let i = from_mapped (home g.0) (rising (filter_map (part_of_member l.memory.items) (filter (λ (m : Member). m.actor == g.0) c.members.items))) h g.1.1 in
+      let m = from_found (part_of_member l.memory.items) (filter (λ (m : Member). m.actor == g.0) c.members.items) i.0 (from_rising i.0 _ i.1.0) in
+      subst (λ n. In n l.parts.items) (sym (ap (λ (x : Home). x.part) i.1.1)) (part_of_address m.0.thread i.0 m.1.1)
 
   -- a thread that the policy names is of the group that names it
   pub are_named : AreNamed c l
-  are_named m part there at =
-      let h : Home = home_in m part in
+  are_named m part there named at =
+      let in_members = filter_in (λ (x : Member). x.actor == m.actor) c.members.items m (contains_in c.members.items m there) (eqb_self m.actor) in
+      let h : Home = home m.actor part in
       let is_there : In h l.homes.items = subst (In h) (sym is.homes_are)
-      (in_found (home_of l.memory.items) c.members.items m h (contains_in c.members.items m there) (ap (option_map (λ i. home_in m i)) at)) in
+      (in_flat (homes_of l.memory.items c.members.items) c.groups.items m.actor h (contains_in c.groups.items m.actor named)
+      (in_mapped (home m.actor) part (rising (filter_map (part_of_member l.memory.items) (filter (λ (x : Member). x.actor == m.actor) c.members.items)))
+      (in_rising part _ (in_found (part_of_member l.memory.items) (filter (λ (x : Member). x.actor == m.actor) c.members.items) m part in_members at)))) in
       let here : IsAt l.homes.items part m.actor = (h, (is_there, (refl, refl))) in
       ap (group_in l.homes.items) at ∙ first_found l.homes.items part m.actor here (λ k other. of_one part (part_of_address m.thread part at) k m.actor other here)
-
-  -- each part has a group
-  some_group : (i : ℕ) → In i l.parts.items → (g : ℕ) × IsAt l.homes.items i g
-  some_group i there =
-      let m = any_of (is_in_part l i) c.groups.items (all_in (λ part. list_any (is_in_part l part) c.groups.items) l.parts.items i sound_layout.grouped there) in
-      (m.0, at_home l.homes.items i m.0 m.1.1)
-
-  alike_tested : (i j : ℕ) → In i l.parts.items → In j l.parts.items → have_two_groups c l i j ≡ false → AreAlike l.homes.items i j
-  alike_tested i j own other none =
-      let g = some_group i own in
-      let h = some_group j other in
-      let same : h.0 ≡ g.0 = same_group c l i j none h.0 g.0 (home_group j h.0 h.1) (home_group i g.0 g.1) (in_other i j h.0 h.1) (in_one i j g.0 g.1) in
-      inr (
-        g.0,
-        (
-          g.1,
-          (
-            subst (IsAt l.homes.items j) same h.1,
-            (
-              (λ k at. same_group c l i j none k g.0 (home_group i k at) (home_group i g.0 g.1) (in_one i j k at) (in_one i j g.0 g.1)),
-              (λ k at. same_group c l i j none k g.0 (home_group j k at) (home_group i g.0 g.1) (in_other i j k at) (in_one i j g.0 g.1)),
-            ),
-          ),
-        ),
-      )
 
   -- ---- joins
 
@@ -382,16 +367,16 @@ module _ (p : ProfileName) (c : Policy) (v : Shown) (l : Layout) (is : IsLayoutO
     from : In j.from l.parts.items
     to : In j.to l.parts.items
 
-  mapped_join : (e from : ℕ) (test : ℕ → Bool) (j : Join) → In from l.parts.items → In j (map (join from e) (filter test l.parts.items)) → AreParts j
+  mapped_join : (e from : ℕ) (test : ℕ → Bool) (j : Join) → In from l.parts.items → In j (map (join_from from e) (filter test l.parts.items)) → AreParts j
   mapped_join e from test j own there =
-      let t = from_mapped (join from e) (filter test l.parts.items) j there in
+      let t = from_mapped (join_from from e) (filter test l.parts.items) j there in
       record {
         from = subst (λ n. In n l.parts.items) (sym (ap (λ (x : Join). x.from) t.1.1)) own;
         to = subst (λ n. In n l.parts.items) (sym (ap (λ (x : Join). x.to) t.1.1)) (in_filter test l.parts.items t.0 t.1.0).0;
       }
 
   joined_from : (e from : ℕ) (j : Join) → In from l.parts.items → In j (joins_from l e from) → AreParts j
-  joined_from e from j own there = elim (in_append j (given l e from) (answered l e from) there) [
+  joined_from e from j own there = elim (in_append j (given l e from) (answer_joins l e from) there) [
     | inl here ↦ mapped_join e from (is_other_hearer l from e) j own (from_cond (may_give l from e) _ j here)
     | inr here ↦ mapped_join e from (is_other_caller l from e) j own (from_cond (may_answer l from e) _ j here)
   ]
@@ -408,28 +393,36 @@ module _ (p : ProfileName) (c : Policy) (v : Shown) (l : Layout) (is : IsLayoutO
       record {
         from = ends.from;
         to = ends.to;
-        alike = alike_tested j.from j.to ends.from ends.to (fails (λ (x : Join). have_two_groups c l x.from x.to) (joins c l) j grants_none there);
+        alike = alike_tested l.homes.items j.from j.to
+            (set (have_one_group l.homes.items j.from j.to) (fails (λ (x : Join). not (have_one_group l.homes.items x.from x.to)) (joins c l) j grants_none there));
       }
+    where
+      set : (b : Bool) → not b ≡ false → b ≡ true
+      set true h = refl
+      set false h = cc
 
   abbrev bs : List Block
   bs = blocks c l
 
   sound : AreSound l.homes.items l.parts.items bs
-  sound = sound_all l.homes.items l.parts.items (joins c l) (map alone l.parts.items) (sound_alone l.homes.items l.parts.items) sound_join
+  sound = sound_all l.homes.items l.parts.items (joins c l) (map single_block l.parts.items) (sound_alone l.homes.items l.parts.items) sound_join
 
   alike_group : (i j g k : ℕ) → In i l.parts.items → AreAlike l.homes.items i j → IsAt l.homes.items i g → IsAt l.homes.items j k → g ≡ k
   alike_group i j g k own (inl same) a b = of_one i own g k a (subst (λ n. IsAt l.homes.items n k) (sym same) b)
   alike_group i j g k own (inr (x, (d, (e, (f, h))))) a b = f g a ∙ sym (h k b)
 
   -- parts of one number have one group
-  pub of_number : (i j g k : ℕ) → In i l.parts.items → In j l.parts.items → block_of bs i ≡ block_of bs j → IsAt l.homes.items i g → IsAt l.homes.items j k → g ≡ k
+  pub of_number : (i j g k : ℕ) → In i l.parts.items → In j l.parts.items → block_of_part bs i ≡ block_of_part bs j → IsAt l.homes.items i g → IsAt l.homes.items j k → g ≡ k
   of_number i j g k own other same a b =
       alike_group i j g k own (same_number l.homes.items l.parts.items bs sound i j own other same) a b
 
   -- and so has the number
-  pub of_joined : (i g k : ℕ) → In i l.parts.items → IsAt l.homes.items i g → is_in_block l bs (block_of bs i) k ≡ true → g ≡ k
-  of_joined i g k own a has =
-      let m = any_of (λ (b : Block). b.block == block_of bs i && is_in_part l b.part k) bs has in
-      let both = both_true (m.0.block == block_of bs i) (is_in_part l m.0.part k) m.1.1 in
-      alike_group i m.0.part g k own (same_block l.homes.items l.parts.items bs sound i m.0 own m.1.0 (eqb-true m.0.block (block_of bs i) both.0)) a
-      (at_home l.homes.items m.0.part k both.1)
+  pub of_joined : (i number g k : ℕ) → In i l.parts.items → block_of_part bs i ≡ number → IsAt l.homes.items i g → IsAt (homes_joined c l bs) number k → g ≡ k
+  of_joined i number g k own is_number a b =
+      let from = from_flat (homes_joined_of l.homes.items bs) c.groups.items b.0 b.1.0 in
+      let n = from_mapped (home from.0) (rising (map (number_at bs) (filter (λ (h : Home). h.group == from.0) l.homes.items))) b.0 from.1.1 in
+      let h = from_mapped (number_at bs) (filter (λ (x : Home). x.group == from.0) l.homes.items) n.0 (from_rising n.0 _ n.1.0) in
+      let kept = in_filter (λ (x : Home). x.group == from.0) l.homes.items h.0 h.1.0 in
+      let same_group : h.0.group ≡ k = eqb-true h.0.group from.0 kept.1 ∙ sym (ap (λ (x : Home). x.group) n.1.1) ∙ b.1.1.1 in
+      let same_number : block_of_part bs i ≡ block_of_part bs h.0.part = is_number ∙ sym b.1.1.0 ∙ ap (λ (x : Home). x.part) n.1.1 ∙ h.1.1 in
+      of_number i h.0.part g k own (home_part h.0 kept.0) same_number a (h.0, (kept.0, (refl, same_group)))

@@ -34,7 +34,7 @@ use Rattle.command_parts.specs.declared.ways.Way.{Way}
 use Rattle.command_parts.specs.Text.{is_part, is_use}
 use Rattle.command_never_text.specs.declared.waits.Wait.{Wait}
 use Rattle.command_never_text.specs.Waits.{waits}
-use Rattle.command_never_text.specs.Never.{has_bytes, is_sender, is_receiver, may_receive_on, endpoints_met}
+use Rattle.command_never_text.specs.Never.{has_bytes, is_waiting_sender, is_waiting_receiver, may_receive_on, endpoints_met}
 use Rattle.command_policy_laws.specs.Held.{is_way, lets, use_let, waiter_let, are_sends_let, is_passage_let, are_passages_let, TellsLet, AreWaysHeldEver}
 use Rattle.command_never_text.proofs.Had.{bytes_at, used, may_use, write_kept, read_kept}
 use Rattle.command_never_text.proofs.Waiting.{sender_waits, receiver_waits}
@@ -151,8 +151,8 @@ module _ (p : ProfileName) (memory : List PartMemory) (uses : List PartUse) (way
   sent_at : (s : SendRecord) → WaitsOrIsSentWithin p parts A s → part_at memory s.thread.base ≡ Some i → Place i s.endpoint.base
   sent_at s (inl there) at =
       let e = s.endpoint.base in
-      inr (waited_met uses ws e (is_sender memory i e) (sender_at memory i e)
-      (sender_waits p A reached (is_sender memory i e) s there (rw (eq-eqb e e refl, part_is (part_at memory s.thread.base) i at) refl)))
+      inr (waited_met uses ws e (is_waiting_sender memory i e) (sender_at memory i e)
+      (sender_waits p A reached (is_waiting_sender memory i e) s there (rw (eq-eqb e e refl, part_is (part_at memory s.thread.base) i at) refl)))
   sent_at s (inr may) at =
       let e = s.endpoint.base in
       elim (may_use p memory uses i write_bit e s.badge write_kept (may i at)) [
@@ -167,10 +167,10 @@ module _ (p : ProfileName) (memory : List PartMemory) (uses : List PartUse) (way
   received : (a : ReceiveRecord) → WaitsOrIsReceivedWithin p parts A a → part_at memory a.thread.base ≡ Some j → Receives a.endpoint.base
   received a (inl there) at =
       let e = a.endpoint.base in
-      let waiting = receiver_waits p A reached (is_receiver memory j e) a there (rw (eq-eqb e e refl, part_is (part_at memory a.thread.base) j at) refl) in
+      let waiting = receiver_waits p A reached (is_waiting_receiver memory j e) a there (rw (eq-eqb e e refl, part_is (part_at memory a.thread.base) j at) refl) in
       record {
         may = true_right _ _ (true_right _ _ waiting);
-        place = inr (waited_met uses ws e (is_receiver memory j e) (receiver_at memory j e) waiting);
+        place = inr (waited_met uses ws e (is_waiting_receiver memory j e) (receiver_at memory j e) waiting);
       }
   received a (inr may) at =
       let e = a.endpoint.base in

@@ -6,6 +6,5 @@ pub mod Rights
 pub mod Untold
 pub mod Groups
 pub mod Waiting
-pub mod Live
 pub mod Unbroken
 pub mod Status

@@ -1,9 +1,11 @@
 -- A right that is among some rights is among more.
-use Rattle.std.proofs.Common.{◌≡◌, arith, eq-eqb, bit_and}
+use Rattle.std.proofs.Common.{◌≡◌, ℕ, true, arith, eq-eqb, bit_and}
 use Rattle.std.specs.Int.{bit_at}
 use Rattle.std.proofs.lemmas.Bool.{eqb-true}
 use Rattle.std.proofs.lemmas.Nat.Bits.{and_pow}
+use Rattle.cap_core.specs.declared.rights.Rights.{Rights}
 use Rattle.cap_core.specs.Rights.{grant_bit, grant_reply_bit}
+use Rattle.kernel_abstract.specs.Decode.{has_right}
 use Rattle.command_never_text.proofs.Had.{IsKeptRight}
 pub use Rattle.command_never_text.proofs.Had.{read_kept, write_kept}
 

@@ -1,5 +1,5 @@
 -- What status 0 promises.
-use Rattle.std.proofs.Common.{◌≡◌, ℕ, ◌+◌, Bool, true, false, cond, ◌==◌, List, [], ◌∷◌, length, refl, ap, arith}
+use Rattle.std.proofs.Common.{◌≡◌, ℕ, ◌+◌, Bool, true, false, cond, ◌==◌, List, [], ◌∷◌, length, refl, sym, ap, ◌∙◌, arith}
 use Rattle.std.proofs.lemmas.Bool.{eqb-true}
 use Rattle.cap_core.specs.declared.profile.ProfileName.{ProfileName}
 use Rattle.kernel_abstract.specs.declared.call.Reply.{Reply}
@@ -8,15 +8,15 @@ use Rattle.setup_format.specs.Views.{SetupView}
 use Rattle.command_core.specs.declared.fault.Verdict.{Verdict}
 use Rattle.command_core.specs.declared.fault.Verdict.TheVariants.{AllMet, NotMet}
 use Rattle.command_policy_breaches.specs.declared.joining.Join.{Join}
-use Rattle.command_policy_breaches.specs.declared.policy.Block.{Block}
+use Rattle.command_policy_breaches.specs.declared.policy.Home.{Home}
 use Rattle.command_policy_breaches.specs.declared.policy.Labels.{Labels}
 use Rattle.command_policy_breaches.specs.declared.policy.Layout.{Layout}
 use Rattle.command_policy_breaches.specs.declared.policy.Policy.{Policy}
 use Rattle.command_policy_breaches.specs.declared.ways.Passage.{Passage}
-use Rattle.command_policy_breaches.specs.Joins.{blocks, joins}
+use Rattle.command_policy_breaches.specs.Joins.{blocks, homes_joined, joins}
 use Rattle.command_policy_breaches.specs.Ways.{passages}
-use Rattle.command_policy_text.specs.Texts.{breaches, breach_count, calls, told}
-use Rattle.command_policy_laws.specs.Unbroken.{any_endpoint, group_of, IsPromised, may_hold, may_pass}
+use Rattle.command_policy_text.specs.Texts.{breaches, breach_count, calls_breached, text_and_verdict, verdict_by_count}
+use Rattle.command_policy_laws.specs.Unbroken.{any_endpoint, group_of, IsPromised, may_hold, may_group_pass}
 use Rattle.command_policy_laws.proofs.Keeps.{kept_held}
 use Rattle.command_policy_laws.proofs.Unbroken.{kept_where_untold}
 
@@ -31,16 +31,16 @@ no_length (x ∷ xs) h = cc
 no_more : (m n : ℕ) → m + n ≡ 0 → n ≡ 0
 no_more m n h = omega (arith, h)
 
-module _ (c : Policy) (l : Layout) (n : Labels) (bs : List Block) (js : List Join) (ws : List Passage) (setup : SetupView) (replies : List Reply) where
-  pub none_told : (text : List ℕ) → (text, AllMet) ≡ told c l n bs js ws setup replies → breaches c l n bs js ws ≡ []
-  unfolding told
+module _ (c : Policy) (l : Layout) (n : Labels) (homes : List Home) (js : List Join) (ws : List Passage) (setup : SetupView) (replies : List Reply) where
+  pub none_told : (text : List ℕ) → (text, AllMet) ≡ text_and_verdict c l n homes js ws setup replies → breaches c l n homes js ws ≡ []
+  unfolding text_and_verdict
   none_told text is =
-      no_length (breaches c l n bs js ws)
-      (no_more (length (calls c setup replies)) (length (breaches c l n bs js ws))
-      (eqb-true (breach_count c l n bs js ws setup replies) 0 (met_where (breach_count c l n bs js ws setup replies == 0) (ap (λ (made : List ℕ × Verdict). made.1) is))))
+      no_length (breaches c l n homes js ws)
+      (no_more (length (calls_breached c setup replies)) (length (breaches c l n homes js ws))
+      (eqb-true (breach_count c l n homes js ws setup replies) 0 (met_where (breach_count c l n homes js ws setup replies == 0) (ap (λ (made : List ℕ × Verdict). made.1) is))))
 
 pub promised : (p : ProfileName) (c : Policy) (l : Layout) (n : Labels) (setup : SetupView) (replies : List Reply) (text : List ℕ) → IsPromised p c l n setup replies text
-promised p c l n setup replies text A reached is fine told calls of =
-    kept_held p l.memory.items l.uses.items (shown A) (group_of l) any_endpoint (may_hold c l) (may_pass c) is.right.ever
-    (kept_where_untold p c l n A reached is fine (none_told c l n (blocks c l) (joins c l) (passages c l (blocks c l)) setup replies text told)).1
+promised p c l n setup replies text A reached is told calls of =
+    kept_held p l.memory.items l.uses.items (shown A) (group_of l) any_endpoint (may_hold c l) (may_group_pass c) is.right.ever
+    (kept_where_untold p c l n A is (none_told c l n (homes_joined c l (blocks c l)) (joins c l) (passages c l (blocks c l)) setup replies text told)).1
     A reached refl calls of

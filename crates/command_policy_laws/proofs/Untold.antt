@@ -1,5 +1,5 @@
 -- What is so of a policy and a layout where no line tells of a breach.
-use Rattle.std.proofs.Common.{◌≡◌, inl, inr, ℕ, Bool, false, not, List, [], ◌∷◌, ◌++◌, map, refl, sym, ap, subst, ◌∙◌}
+use Rattle.std.proofs.Common.{◌≡◌, ◌≢◌, ◌⊎◌, inl, inr, ℕ, Bool, true, false, not, ◌&&◌, List, [], ◌∷◌, ◌++◌, map, refl, sym, ap, subst, ◌∙◌}
 use Rattle.std.specs.List.{filter}
 use Rattle.std.specs.declared.cmp.Ordering.{Ordering}
 use Rattle.std.specs.declared.cmp.Ordering.TheVariants.{Less, Equal, Greater}
@@ -9,21 +9,21 @@ use Rattle.kernel_delete.specs.Members.{In}
 use Rattle.kernel_delete.proofs.Members.{filter_in, tells}
 use Rattle.query_parts.specs.declared.listed.PartUse.{PartUse}
 use Rattle.command_policy_breaches.specs.declared.joining.Join.{Join}
-use Rattle.command_policy_breaches.specs.declared.policy.Block.{Block}
+use Rattle.command_policy_breaches.specs.declared.policy.Home.{Home}
 use Rattle.command_policy_breaches.specs.declared.policy.Labels.{Labels}
 use Rattle.command_policy_breaches.specs.declared.policy.Layout.{Layout}
 use Rattle.command_policy_breaches.specs.declared.policy.Policy.{Policy}
 use Rattle.command_policy_breaches.specs.declared.policy.Waiting.{Waiting}
 use Rattle.command_policy_breaches.specs.declared.ways.Passage.{Passage}
 use Rattle.command_policy_breaches.specs.Breaches.{has_other_badge, has_right_too_much, is_unlisted, is_wait_amiss}
-use Rattle.command_policy_breaches.specs.Joins.{have_two_groups}
+use Rattle.command_policy_breaches.specs.Joins.{have_one_group, have_two_groups}
 use Rattle.command_policy_breaches.specs.Ways.{is_passage_amiss}
 use Rattle.command_policy_text.specs.declared.told.Told.{Told}
 use Rattle.command_policy_text.specs.declared.told.Told.TheVariants.{Joined, Grant, Use, Badge, Right, Way, Waits}
 use Rattle.command_policy_text.specs.Kinds as kind
 use Rattle.command_policy_text.specs.Order.{text_cmp, put_all, in_order}
 use Rattle.command_policy_text.specs.Texts.{breaches, part_breaches, use_breaches, way_breaches}
-use Rattle.command_policy_text.specs.Told.{told_text}
+use Rattle.command_policy_text.specs.Told.{line_told}
 
 -- ---- lists
 
@@ -64,48 +64,48 @@ none_of f (x ∷ xs) h = absurd (still_some (map f xs) (insert_key text_cmp [] (
 -- ---- no line
 
 -- each kind of breach is there of nothing
-pub record IsUnbroken (c : Policy) (l : Layout) (bs : List Block) (js : List Join) (ws : List Passage) : Type 0 where
-  pub joined : filter (λ part. have_two_groups c l part part) l.parts.items ≡ []
-  pub grants : filter (λ (j : Join). have_two_groups c l j.from j.to) js ≡ []
+pub record IsUnbroken (c : Policy) (l : Layout) (homes : List Home) (js : List Join) (ws : List Passage) : Type 0 where
+  pub joined : filter (λ part. have_two_groups l.homes.items part part) l.parts.items ≡ []
+  pub grants : filter (λ (j : Join). not (have_one_group l.homes.items j.from j.to)) js ≡ []
   pub uses : filter (is_unlisted c l) l.uses.items ≡ []
   pub badges : filter (has_other_badge c l) l.uses.items ≡ []
   pub rights : filter (has_right_too_much c l) l.uses.items ≡ []
-  pub ways : filter (is_passage_amiss c l bs [] []) ws ≡ []
+  pub ways : filter (is_passage_amiss c l homes [] []) ws ≡ []
 
-module _ (c : Policy) (l : Layout) (n : Labels) (bs : List Block) (js : List Join) (ws : List Passage) where
-  no_kind : (told : List Told) → in_order (map (told_text c l n bs) told) ≡ [] → told ≡ []
-  no_kind told h = none_of (told_text c l n bs) told h
+module _ (c : Policy) (l : Layout) (n : Labels) (homes : List Home) (js : List Join) (ws : List Passage) where
+  no_kind : (told : List Told) → in_order (map (line_told c l n homes) told) ≡ [] → told ≡ []
+  no_kind told h = none_of (line_told c l n homes) told h
 
   untold_ways : filter (has_other_badge c l) l.uses.items ≡ [] → filter (has_right_too_much c l) l.uses.items ≡ [] → filter (is_wait_amiss c l) l.waits.items ≡ [] →
-      filter (is_passage_amiss c l bs (kind.uses_told c l) (kind.waits_told c l)) ws ≡ [] → filter (is_passage_amiss c l bs [] []) ws ≡ []
+      filter (is_passage_amiss c l homes (kind.uses_told c l) (kind.waits_told c l)) ws ≡ [] → filter (is_passage_amiss c l homes [] []) ws ≡ []
   untold_ways badges rights waits h =
       let both : kind.uses_told c l ≡ [] = ap (λ (us : List PartUse). us ++ filter (has_right_too_much c l) l.uses.items) badges ∙ rights in
-      ap (λ (us : List PartUse). filter (is_passage_amiss c l bs us []) ws) (sym both)
-      ∙ ap (λ (waiting : List Waiting). filter (is_passage_amiss c l bs (kind.uses_told c l) waiting) ws) (sym waits)
+      ap (λ (us : List PartUse). filter (is_passage_amiss c l homes us []) ws) (sym both)
+      ∙ ap (λ (waiting : List Waiting). filter (is_passage_amiss c l homes (kind.uses_told c l) waiting) ws) (sym waits)
       ∙ h
 
-  of_three : part_breaches c l n bs js ≡ [] → use_breaches c l n bs ≡ [] → way_breaches c l n bs ws ≡ [] → IsUnbroken c l bs js ws
+  of_three : part_breaches c l n homes js ≡ [] → use_breaches c l n homes ≡ [] → way_breaches c l n homes ws ≡ [] → IsUnbroken c l homes js ws
   of_three parts uses ways =
       let joined = no_append _ _ parts in
       let grants = no_append _ _ joined.1 in
       let listed = no_append _ _ uses in
       let badge = no_append _ _ listed.1 in
       let way = no_append _ _ ways in
-      let badges = no_map (λ (u : PartUse). Badge u) _ (no_kind (kind.badges c l) badge.0) in
-      let rights = no_map (λ (u : PartUse). Right u) _ (no_kind (kind.rights c l) badge.1) in
+      let badges = no_map (λ (u : PartUse). Badge u) _ (no_kind (kind.badge_breaches c l) badge.0) in
+      let rights = no_map (λ (u : PartUse). Right u) _ (no_kind (kind.right_breaches c l) badge.1) in
       record {
-        joined = no_map (λ (i : ℕ). Joined i) _ (no_kind (kind.joined c l) joined.0);
-        grants = no_map (λ (j : Join). Grant j) _ (no_kind (kind.grants c l js) grants.0);
+        joined = no_map (λ (i : ℕ). Joined i) _ (no_kind (kind.joined_breaches l) joined.0);
+        grants = no_map (λ (j : Join). Grant j) _ (no_kind (kind.grants l js) grants.0);
         uses = no_map (λ (u : PartUse). Use u) _ (no_kind (kind.uses c l) listed.0);
         badges = badges;
         rights = rights;
-        ways = untold_ways badges rights (no_map (λ (w : Waiting). Waits w) _ (no_kind (kind.waits c l) way.1))
-            (no_map (λ (w : Passage). Way w) _ (no_kind (kind.ways c l bs ws) way.0));
+        ways = untold_ways badges rights (no_map (λ (w : Waiting). Waits w) _ (no_kind (kind.waiting_breaches c l) way.1))
+            (no_map (λ (w : Passage). Way w) _ (no_kind (kind.passage_breaches c l homes ws) way.0));
       }
 
-  pub unbroken : breaches c l n bs js ws ≡ [] → IsUnbroken c l bs js ws
+  pub unbroken : breaches c l n homes js ws ≡ [] → IsUnbroken c l homes js ws
   unfolding breaches
   unbroken h =
-      let first = no_append (part_breaches c l n bs js) (use_breaches c l n bs ++ way_breaches c l n bs ws) h in
-      let second = no_append (use_breaches c l n bs) (way_breaches c l n bs ws) first.1 in
+      let first = no_append (part_breaches c l n homes js) (use_breaches c l n homes ++ way_breaches c l n homes ws) h in
+      let second = no_append (use_breaches c l n homes) (way_breaches c l n homes ws) first.1 in
       of_three first.0 second.0 second.1

@@ -1,14 +1,15 @@
 -- Who waits, by the waiting list of an endpoint, is told among the threads that wait.
-use Rattle.std.proofs.Common.{◌≡◌, ◌≢◌, inl, inr, ℕ, Bool, true, false, cond, ◌==◌, List, [], ◌∷◌, ◌++◌, map, filter_map, Option, Some, None, option_map, refl, sym, ap, subst, ◌∙◌, eq-eqb}
-use Rattle.std.specs.List.{list_any, Contains, cons_option}
+use Rattle.std.proofs.Common.{◌≡◌, ◌≢◌, ◌⊎◌, inl, inr, ℕ, Bool, true, false, cond, ◌==◌, List, [], ◌∷◌, ◌++◌, map, filter_map, Option, Some, None, option_map, refl, sym, ap, subst, ◌∙◌, eq-eqb}
+use Rattle.std.specs.List.{list_any, Contains, cons_option, AllByRecursion as Each}
 use Rattle.std.specs.Option.{option_or}
-use Rattle.std.proofs.lemmas.Bool.{eqb-true}
+use Rattle.std.proofs.lemmas.Bool.{false≢true, eqb-true}
 use Rattle.std.proofs.lemmas.List.{map-append}
 use Rattle.std.proofs.lemmas.List.Elements.{filter_map-append}
 use Rattle.cap_core.specs.declared.profile.ProfileName.{ProfileName}
 use Rattle.cap_core.specs.declared.capability.Badge.{Badge}
 use Rattle.cap_core.specs.declared.message.Message.{Message}
-use Rattle.cap_core.specs.Distinct.{IsApart}
+use Rattle.cap_core.specs.Distinct.{IsApart, Lacks}
+use Rattle.ipc_core.specs.declared.waiter.Offer.{Offer}
 use Rattle.ipc_core.specs.declared.waiter.Waiter.{Waiter}
 use Rattle.ipc_core.specs.declared.waiter.Waiter.TheVariants.{Sender, Receiver}
 use Rattle.ipc_core.specs.Offers.{offer_by, offer_in}
@@ -28,12 +29,13 @@ use Rattle.query_parts.proofs.Lists.{in_mapped}
 use Rattle.setup_report.specs.declared.naming.NamedObject.{NamedObject}
 use Rattle.setup_report.specs.State.{is_in, named, named_by, threads}
 use Rattle.setup_report.proofs.Addresses.Rising.{any_rising}
+use Rattle.command_policy_breaches.specs.declared.policy.Waiting.{Waiting}
 use Rattle.command_policy_laws.proofs.Groups.{in_found}
-use Rattle.command_policy_breaches.specs.Layouts.{wait_in, wait_of}
+use Rattle.command_policy_breaches.specs.Layouts.{offered_badge, waiting_in, waiting_of}
 
 -- ---- the live threads
 
-abbrev pub seen : Entry × Option Entry → Entry × Option ℕ
+abbrev seen : Entry × Option Entry → Entry × Option ℕ
 seen e = (e.0, option_map slot_of e.1)
 
 named_above : (p : ProfileName) (above : Option Entry) (f : Forest Entry) →
@@ -48,7 +50,7 @@ named_above p above (tree a under others) =
     ∙ sym (filter_map-append tcb_base (map (λ (e : Entry). e.cap) (preorder under)) (map (λ (e : Entry). e.cap) (preorder others)))
     ∙ ap (filter_map tcb_base) (sym (map-append (λ (e : Entry). e.cap) (preorder under) (preorder others))))
 
-pub is_member : (t : ℕ) (xs : List ℕ) → is_in t xs ≡ true → In t xs
+is_member : (t : ℕ) (xs : List ℕ) → is_in t xs ≡ true → In t xs
 is_member t xs h = let m = any_of (λ a. t == a) xs h in subst (λ n. In n xs) (sym (eqb-true t m.0 m.1.1)) m.1.0
 
 -- a thread that does something is live
@@ -83,19 +85,19 @@ offered t badge message (x ∷ list) apart (inr more) =
 
 module _ (p : ProfileName) (A : State) (agree : AreStatesAndLists (shown A)) (t e : ℕ) where
   pub sender_listed : (badge : Badge) (message : Message) → Contains (waiting_at (shown A) e) (Sender t badge message) →
-      In (record { thread = t; endpoint = e; badge = badge.0; sends = true }) (filter_map (wait_of (shown A)) (threads p (shown A)))
+      In (record { thread = t; endpoint = e; badge = badge.0; sends = true }) (filter_map (waiting_of (shown A)) (threads p (shown A)))
   sender_listed badge message there =
       let here = contains_in (waiting_at (shown A) e) (Sender t badge message) there in
       let does : state_at (shown A) t ≡ Some (Sending e) = each_in (λ (x : Waiter). state_at (shown A) (thread_of x) ≡ Some (state_in e x)) (waiting_at (shown A) e) (Sender t badge message) (agree.listed e) here in
       let offer : offer_at (shown A) t ≡ Some (record { thread = t; badge = badge; message = message }) =
       ap (λ (s : Option ThreadState). offer_where s t (shown A)) does ∙ offered t badge message (waiting_at (shown A) e) (agree.once e) here in
-      in_found (wait_of (shown A)) (threads p (shown A)) t (record { thread = t; endpoint = e; badge = badge.0; sends = true }) (live p A t (Sending e) does)
-      (ap (λ (s : Option ThreadState). wait_in t s (offer_at (shown A) t)) does ∙ ap (wait_in t (Some (Sending e))) offer)
+      in_found (waiting_of (shown A)) (threads p (shown A)) t (record { thread = t; endpoint = e; badge = badge.0; sends = true }) (live p A t (Sending e) does)
+      (ap (λ (s : Option ThreadState). waiting_in t s (offer_at (shown A) t)) does ∙ ap (waiting_in t (Some (Sending e))) offer)
 
   pub receiver_listed : Contains (waiting_at (shown A) e) (Receiver t) →
-      In (record { thread = t; endpoint = e; badge = 0; sends = false }) (filter_map (wait_of (shown A)) (threads p (shown A)))
+      In (record { thread = t; endpoint = e; badge = 0; sends = false }) (filter_map (waiting_of (shown A)) (threads p (shown A)))
   receiver_listed there =
       let here = contains_in (waiting_at (shown A) e) (Receiver t) there in
       let does : state_at (shown A) t ≡ Some (Receiving e) = each_in (λ (x : Waiter). state_at (shown A) (thread_of x) ≡ Some (state_in e x)) (waiting_at (shown A) e) (Receiver t) (agree.listed e) here in
-      in_found (wait_of (shown A)) (threads p (shown A)) t (record { thread = t; endpoint = e; badge = 0; sends = false }) (live p A t (Receiving e) does)
-      (ap (λ (s : Option ThreadState). wait_in t s (offer_at (shown A) t)) does)
+      in_found (waiting_of (shown A)) (threads p (shown A)) t (record { thread = t; endpoint = e; badge = 0; sends = false }) (live p A t (Receiving e) does)
+      (ap (λ (s : Option ThreadState). waiting_in t s (offer_at (shown A) t)) does)

@@ -80,7 +80,7 @@ TellsPassed memory group_of may_pass (Delivered endpoint from to badge message) 
 TellsPassed memory group_of may_pass reply = ⊤
 
 -- after these calls each slot of a thread's part holds what its group may hold, and their replies tell of what may pass alone
-pub record AreHeld (p : ProfileName) (group_of : ℕ → Option ℕ) (is_live : ℕ → Bool) (may_hold : ℕ → ℕ → Badge → Rights → Bool)
+pub record AreSlotsHeld (p : ProfileName) (group_of : ℕ → Option ℕ) (is_live : ℕ → Bool) (may_hold : ℕ → ℕ → Badge → Rights → Bool)
     (may_pass : ℕ → ℕ → Badge → ℕ → Bool) (memory : List PartMemory) (A : State) (calls : List Call) : Type 0 where
   pub slots : (t i g slot : ℕ) → part_at memory t ≡ Some i → group_of t ≡ Some g → part_at memory slot ≡ Some i →
       IsHeld is_live may_hold g (cap_at (state_after p A calls).derivations slot)
@@ -92,4 +92,4 @@ WhatIsKeptIsHeld p memory uses v =
     (group_of : ℕ → Option ℕ) (is_live : ℕ → Bool) (may_hold : ℕ → ℕ → Badge → Rights → Bool) (may_pass : ℕ → ℕ → Badge → ℕ → Bool) →
     AreConfinedEver p memory uses v → KeepPolicy p group_of is_live may_hold may_pass v (parts_listed memory uses) →
     (A : State) → IsReached p A → v ≡ shown A → (calls : List Call) → Each (IsAllowed (parts_listed memory uses)) calls →
-    AreHeld p group_of is_live may_hold may_pass memory A calls
+    AreSlotsHeld p group_of is_live may_hold may_pass memory A calls

@@ -1,6 +1,6 @@
 -- What a policy lets groups hold and send, and that it is so ever where no line tells of a breach.
-use Rattle.std.specs.Prelude.{◌≡◌, ℕ, ◌==◌, ◌&&◌, ◌||◌, Bool, true, false, not, List, [], Option, Some, None, option_map, find}
-use Rattle.std.specs.List.{list_any, list_all, Contains, AllByRecursion as Each}
+use Rattle.std.specs.Prelude.{◌≡◌, ◌≢◌, ℕ, ◌==◌, ◌&&◌, ◌||◌, Bool, true, not, List, [], Option, Some, None, option_map, find}
+use Rattle.std.specs.List.{list_any, Contains, AllByRecursion as Each}
 use Rattle.cap_core.specs.declared.profile.ProfileName.{ProfileName}
 use Rattle.cap_core.specs.declared.capability.Badge.{Badge}
 use Rattle.cap_core.specs.declared.rights.Rights.{Rights}
@@ -10,7 +10,6 @@ use Rattle.kernel_abstract.specs.declared.call.Reply.{Reply}
 use Rattle.kernel_abstract.specs.Decode.{has_right}
 use Rattle.kernel_abstract.specs.Shown.{Shown}
 use Rattle.kernel_abstract.specs.State.{State, shown}
-use Rattle.kernel_abstract.specs.Waiting.{AreStatesAndLists}
 use Rattle.kernel_abstract.specs.Reached.{IsReached}
 use Rattle.query_parts.specs.Listed.{part_at, parts_listed}
 use Rattle.query_parts.specs.Laws.{IsAllowed}
@@ -24,13 +23,13 @@ use Rattle.command_policy_breaches.specs.declared.policy.Member.{Member}
 use Rattle.command_policy_breaches.specs.declared.policy.OwnRegion.{OwnRegion}
 use Rattle.command_policy_breaches.specs.declared.policy.Policy.{Policy}
 use Rattle.command_policy_breaches.specs.declared.policy.PolicyWay.{PolicyWay}
-use Rattle.command_policy_breaches.specs.Breaches.{lies_within, meets}
-use Rattle.command_policy_breaches.specs.Joins.{blocks, joins}
+use Rattle.command_policy_breaches.specs.Breaches.{range_lies_within, meets}
+use Rattle.command_policy_breaches.specs.Joins.{blocks, homes_joined, joins}
 use Rattle.command_policy_breaches.specs.Layouts.{IsLayoutOf}
-use Rattle.command_policy_breaches.specs.Sides.{is_in_part, owns}
+use Rattle.command_policy_breaches.specs.Sides.{is_found_home}
 use Rattle.command_policy_breaches.specs.Ways.{passages}
-use Rattle.command_policy_text.specs.Texts.{breaches, told}
-use Rattle.command_policy_laws.specs.Keeps.{AreHeld, KeepPolicy}
+use Rattle.command_policy_text.specs.Texts.{breaches, text_and_verdict}
+use Rattle.command_policy_laws.specs.Keeps.{AreSlotsHeld, KeepPolicy}
 
 -- ---- whose an address is
 
@@ -38,11 +37,6 @@ use Rattle.command_policy_laws.specs.Keeps.{AreHeld, KeepPolicy}
 abbrev pub group_in : List Home → Option ℕ → Option ℕ
 group_in homes None = None
 group_in homes (Some part) = option_map (λ (h : Home). h.group) (find (λ (h : Home). h.part == part) homes)
-
--- the part that is found is one where the group has threads
-abbrev pub is_found_home : Layout → ℕ → Option ℕ → Bool
-is_found_home l group None = false
-is_found_home l group (Some part) = is_in_part l part group
 
 -- the group of an address: the one that has threads in the part in whose memory it lies
 abbrev pub group_of : Layout → ℕ → Option ℕ
@@ -62,20 +56,20 @@ has_entry_with c group endpoint badge right =
 abbrev pub allows_right : Policy → ℕ → ℕ → ℕ → Rights → ℕ → Bool
 allows_right c group endpoint badge rights right = not (has_right right rights) || has_entry_with c group endpoint badge right
 
--- entries have the endpoint, and with this badge each of the rights
+-- entries have the endpoint, the badge, and each of the rights
 abbrev pub entries_allow : Policy → ℕ → ℕ → ℕ → Rights → Bool
 entries_allow c group endpoint badge rights =
-    list_any (λ (a : Allowance). a.actor == group && a.endpoint == endpoint) c.allowances.items
+    list_any (is_entry_of group endpoint badge) c.allowances.items
     && (allows_right c group endpoint badge rights write_bit && (allows_right c group endpoint badge rights read_bit
     && (allows_right c group endpoint badge rights grant_bit && allows_right c group endpoint badge rights grant_reply_bit)))
 
 abbrev pub is_in_region : ℕ → ℕ → ℕ → OwnRegion → Bool
-is_in_region bits group endpoint own = own.group == group && lies_within endpoint bits own.base own.bits
+is_in_region bits group endpoint own = own.group == group && range_lies_within endpoint bits own.base own.bits
 
 -- the endpoint lies in a region of the group, or in the memory of a part where it has threads
 abbrev pub is_their_own : Policy → Layout → ℕ → ℕ → Bool
 is_their_own c l group endpoint =
-    list_any (is_in_region l.endpoint_bits group endpoint) c.regions.items || is_found_home l group (part_at l.memory.items endpoint)
+    list_any (is_in_region l.endpoint_bits group endpoint) c.regions.items || is_found_home l.homes.items group (part_at l.memory.items endpoint)
 
 -- a group may hold capabilities to endpoints of its own, and those that its entries allow
 abbrev pub may_hold : Policy → Layout → ℕ → ℕ → Badge → Rights → Bool
@@ -87,54 +81,32 @@ abbrev pub is_way_of : ℕ → ℕ → ℕ → ℕ → PolicyWay → Bool
 is_way_of from endpoint badge to way = way.from == from && (way.endpoint == endpoint && (way.to == to && meets way.badge badge))
 
 -- a way from the one group to the other is by the endpoint, and with this badge or any
-abbrev pub may_pass : Policy → ℕ → ℕ → Badge → ℕ → Bool
-may_pass c from endpoint badge to = list_any (is_way_of from endpoint badge.0 to) c.ways.items
+abbrev pub may_group_pass : Policy → ℕ → ℕ → Badge → ℕ → Bool
+may_group_pass c from endpoint badge to = list_any (is_way_of from endpoint badge.0 to) c.ways.items
 
 -- every endpoint counts, also one that is made later
 abbrev pub any_endpoint : ℕ → Bool
 any_endpoint endpoint = true
-
--- ---- what layouts are beside
-
--- the part in which the endpoint begins has all of it
-abbrev pub is_whole_in : Layout → ℕ → Option ℕ → Bool
-is_whole_in l endpoint None = true
-is_whole_in l endpoint (Some part) = owns l part endpoint
-
-abbrev pub is_whole : Layout → ℕ → Bool
-is_whole l endpoint = is_whole_in l endpoint (part_at l.memory.items endpoint)
-
-abbrev pub is_group : Policy → ℕ → Bool
-is_group c actor = list_any (λ g. g == actor) c.groups.items
-
--- What layouts are, which is not proved of them: each thread that the policy puts into a group is in a group of the policy, and each
--- part has a thread of one; and a live endpoint that begins in a part's memory lies there wholly. And each thread that waits does what
--- the waiting lists of endpoints have it do, as is proved of each kernel's state
-pub record IsSound (c : Policy) (v : Shown) (l : Layout) : Type 0 where
-  pub agree : AreStatesAndLists v
-  pub named : list_all (λ (m : Member). is_group c m.actor) c.members.items ≡ true
-  pub grouped : list_all (λ part. list_any (is_in_part l part) c.groups.items) l.parts.items ≡ true
-  pub whole : list_all (is_whole l) l.endpoints.items ≡ true
 
 -- ---- the laws
 
 -- a thread that the policy names is of the group that names it
 abbrev pub AreNamed : Policy → Layout → Type 0
 AreNamed c l =
-    (m : Member) (part : ℕ) → Contains c.members.items m → part_at l.memory.items m.thread ≡ Some part →
+    (m : Member) (part : ℕ) → Contains c.members.items m → Contains c.groups.items m.actor → part_at l.memory.items m.thread ≡ Some part →
     group_of l m.thread ≡ Some m.actor
 
 -- where no line tells of a breach, threads are of the groups that name them, and the parts keep the policy
 abbrev pub WhatIsNotToldIsKept : ProfileName → Policy → Layout → Labels → State → Type 0
 WhatIsNotToldIsKept p c l n A =
-    IsReached p A → IsLayoutOf p c (shown A) l → IsSound c (shown A) l → breaches c l n (blocks c l) (joins c l) (passages c l (blocks c l)) ≡ [] →
-    AreNamed c l × KeepPolicy p (group_of l) any_endpoint (may_hold c l) (may_pass c) (shown A) (parts_listed l.memory.items l.uses.items)
+    IsLayoutOf p c (shown A) l → breaches c l n (homes_joined c l (blocks c l)) (joins c l) (passages c l (blocks c l)) ≡ [] →
+    AreNamed c l × KeepPolicy p (group_of l) any_endpoint (may_hold c l) (may_group_pass c) (shown A) (parts_listed l.memory.items l.uses.items)
 
 -- what is promised where the verdict on a layout is `AllMet`, which is status 0: it is held to the policy, whatever calls the threads
 -- of the parts make, and whatever messages other threads send and receive
 abbrev pub IsPromised : ProfileName → Policy → Layout → Labels → SetupView → List Reply → List ℕ → Type 0
 IsPromised p c l n setup replies text =
-    (A : State) → IsReached p A → IsLayoutOf p c (shown A) l → IsSound c (shown A) l →
-    (text, AllMet) ≡ told c l n (blocks c l) (joins c l) (passages c l (blocks c l)) setup replies →
+    (A : State) → IsReached p A → IsLayoutOf p c (shown A) l →
+    (text, AllMet) ≡ text_and_verdict c l n (homes_joined c l (blocks c l)) (joins c l) (passages c l (blocks c l)) setup replies →
     (calls : List Call) → Each (IsAllowed (parts_listed l.memory.items l.uses.items)) calls →
-    AreHeld p (group_of l) any_endpoint (may_hold c l) (may_pass c) l.memory.items A calls
+    AreSlotsHeld p (group_of l) any_endpoint (may_hold c l) (may_group_pass c) l.memory.items A calls

@@ -63,13 +63,13 @@ pub fn what_is_kept_is_held()
     ensures { (p : ProfileName) (memory : List PartMemory) (uses : List PartUse) (v : Shown) → WhatIsKeptIsHeld p memory uses v }
 {}
 
-/// Where no line of the text of a sound layout tells of a breach, threads are of the groups that name them, and the parts keep the
-/// policy: this is the premise of `what_is_kept_is_held`.
+/// Where no line of the text tells of a breach, threads are of the groups that name them, and the parts keep the policy: this is the
+/// premise of `what_is_kept_is_held`.
 pub fn what_is_not_told_is_kept()
     ensures { (p : ProfileName) (c : Policy) (l : Layout) (n : Labels) (A : State) → WhatIsNotToldIsKept p c l n A }
 {}
 
-/// Status 0 of `audit --policy`. Where the verdict on a sound layout (`IsSound`) is `AllMet`, then, whatever calls the threads of the parts
+/// Status 0 of `audit --policy`. Where the verdict on a layout and a policy is `AllMet`, then, whatever calls the threads of the parts
 /// make, and whatever messages other threads send and receive: each capability to an endpoint in a slot of a group's part is one that
 /// the group's entries allow, with its badge and all its rights, or is to an endpoint in a region of the group or in its part's memory;
 /// and each message that is delivered between threads of two groups passes by an endpoint and with a badge that a way allows.

@@ -9,18 +9,18 @@ use Rattle.setup_format.specs.Views.{SetupView}
 use Rattle.setup_report.specs.Report.{terminated}
 use Rattle.command_core.specs.declared.fault.Verdict.{Verdict}
 use Rattle.command_policy_breaches.specs.declared.joining.Join.{Join}
-use Rattle.command_policy_breaches.specs.declared.policy.Block.{Block}
+use Rattle.command_policy_breaches.specs.declared.policy.Home.{Home}
 use Rattle.command_policy_breaches.specs.declared.policy.Labels.{Labels}
 use Rattle.command_policy_breaches.specs.declared.policy.Layout.{Layout}
 use Rattle.command_policy_breaches.specs.declared.policy.Policy.{Policy}
 use Rattle.command_policy_text.specs.declared.text.Counts.{Counts}
 use Rattle.command_policy_breaches.specs.declared.ways.Passage.{Passage}
-use Rattle.command_policy_text.specs.Texts.{text, told, verdict_of, head_line, last_line, lines_text, first_lines, calls, breaches, unused, breach_count, counts}
+use Rattle.command_policy_text.specs.Texts.{text, text_and_verdict, verdict_by_count, policy_head_line, last_line, all_lines_text, first_lines, calls_breached, breaches, unused, breach_count, counts}
 use Rattle.command_policy_breaches.specs.Ways.{is_between_parts}
 
 -- lines behind a text
 pub lines_behind : (xs : List (String Global)) (ls : List (List ℕ)) (before after : List ℕ) → map string_bytes xs ≡ ls →
-    after ≡ before ++ flat_map (λ s. terminated (string_bytes s)) xs → after ≡ before ++ lines_text ls
+    after ≡ before ++ flat_map (λ s. terminated (string_bytes s)) xs → after ≡ before ++ all_lines_text ls
 lines_behind xs ls before after e a = a ∙ ap (λ t. before ++ t) (sym (flat_map-map terminated string_bytes xs) ∙ ap (λ l. flat_map terminated l) e)
 
 pub as_many : (xs : List (String Global)) (ls : List (List ℕ)) → map string_bytes xs ≡ ls → length xs ≡ length ls
@@ -37,18 +37,18 @@ six a b c d e f s1 s2 s3 s4 s5 s6 h1 h2 h3 h4 h5 h6 =
     ∙ ap (λ s. s ++ (b ++ (c ++ (d ++ (e ++ f))))) h1
 
 -- numbers that are those of the last line, in its place
-pub counted : (c : Policy) (l : Layout) (n : Labels) (bs : List Block) (js : List Join) (ws : List Passage) (setup : SetupView) (replies : List Reply)
-    (groups parts ways told others idle : ℕ) → groups ≡ length c.groups.items → parts ≡ length l.parts.items → ways ≡ count_by is_between_parts ws →
-    told ≡ length (calls c setup replies) → others ≡ length (breaches c l n bs js ws) → idle ≡ length (unused c l n bs) →
-    ◌≡◌ {A = Counts} (record { groups = groups; parts = parts; ways = ways; breaches = told + others; unused = idle }) (counts c l n bs js ws setup replies)
-counted c l n bs js ws setup replies groups parts ways told others idle g p w t o i = cc
+pub counted : (c : Policy) (l : Layout) (n : Labels) (hs : List Home) (js : List Join) (ws : List Passage) (setup : SetupView) (replies : List Reply)
+    (groups parts ways text_and_verdict others idle : ℕ) → groups ≡ length c.groups.items → parts ≡ length l.parts.items → ways ≡ count_by is_between_parts ws →
+    text_and_verdict ≡ length (calls_breached c setup replies) → others ≡ length (breaches c l n hs js ws) → idle ≡ length (unused c l n hs) →
+    ◌≡◌ {A = Counts} (record { groups = groups; parts = parts; ways = ways; breaches = text_and_verdict + others; unused = idle }) (counts c l n hs js ws setup replies)
+counted c l n hs js ws setup replies groups parts ways text_and_verdict others idle g p w t o i = cc
 
 -- the pieces of the text, and the verdict, are what is told
-pub all_told : (c : Policy) (l : Layout) (n : Labels) (bs : List Block) (js : List Join) (ws : List Passage) (setup : SetupView) (replies : List Reply)
+pub all_told : (c : Policy) (l : Layout) (n : Labels) (hs : List Home) (js : List Join) (ws : List Passage) (setup : SetupView) (replies : List Reply)
     (made : List ℕ) (verdict : Verdict) →
-    made ≡ head_line setup (length replies) ++ (lines_text (first_lines c l n bs) ++ (lines_text (calls c setup replies)
-    ++ (lines_text (breaches c l n bs js ws) ++ (lines_text (unused c l n bs) ++ last_line (counts c l n bs js ws setup replies))))) →
-    verdict ≡ verdict_of (breach_count c l n bs js ws setup replies) →
-    ◌≡◌ {A = List ℕ × Verdict} (made, verdict) (told c l n bs js ws setup replies)
-unfolding text told
-all_told c l n bs js ws setup replies made verdict m v = ap (λ b. (b, verdict)) m ∙ ap (λ w. (text c l n bs js ws setup replies, w)) v
+    made ≡ policy_head_line setup (length replies) ++ (all_lines_text (first_lines c l n hs) ++ (all_lines_text (calls_breached c setup replies)
+    ++ (all_lines_text (breaches c l n hs js ws) ++ (all_lines_text (unused c l n hs) ++ last_line (counts c l n hs js ws setup replies))))) →
+    verdict ≡ verdict_by_count (breach_count c l n hs js ws setup replies) →
+    ◌≡◌ {A = List ℕ × Verdict} (made, verdict) (text_and_verdict c l n hs js ws setup replies)
+unfolding text text_and_verdict
+all_told c l n hs js ws setup replies made verdict m v = ap (λ b. (b, verdict)) m ∙ ap (λ w. (text c l n hs js ws setup replies, w)) v

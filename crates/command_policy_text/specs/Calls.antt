@@ -9,23 +9,23 @@ use Rattle.setup_format.specs.Operations.{op_name}
 use Rattle.setup_format.specs.Views.{CallView}
 use Rattle.setup_report.specs.Text.{begins_as, reply_text}
 
-abbrev pub is_refused : Reply → Bool
-is_refused Done = false
-is_refused Waiting = false
-is_refused Dropped = false
-is_refused Empty = false
-is_refused (Refused refusal) = true
-is_refused (Delivered endpoint from to badge message) = false
+abbrev pub is_refusal : Reply → Bool
+is_refusal Done = false
+is_refusal Waiting = false
+is_refusal Dropped = false
+is_refusal Empty = false
+is_refusal (Refused refusal) = true
+is_refusal (Delivered endpoint from to badge message) = false
 
-abbrev pub refused_text : ℕ → Call → Reply → List ℕ
-refused_text number call reply =
+abbrev pub refused_call_text : ℕ → Call → Reply → List ℕ
+refused_call_text number call reply =
     codes "breach call " ++ (decimal number ++ (codes " " ++ (op_text (op_name call.op) ++ (codes ": " ++ reply_text reply))))
 
 abbrev pub unmet_text : ℕ → Call → List ℕ → Reply → List ℕ
-unmet_text number call expected reply = refused_text number call reply ++ (codes ", not met: " ++ expected)
+unmet_text number call expected reply = refused_call_text number call reply ++ (codes ", not met: " ++ expected)
 
 abbrev pub refused : ℕ → Call → Reply → List (List ℕ)
-refused number call reply = cond (is_refused reply) (refused_text number call reply ∷ []) []
+refused number call reply = cond (is_refusal reply) (refused_call_text number call reply ∷ []) []
 
 abbrev pub unmet : ℕ → Call → List ℕ → Reply → List (List ℕ)
 unmet number call expected reply = cond (begins_as (reply_text reply) expected) [] (unmet_text number call expected reply ∷ [])

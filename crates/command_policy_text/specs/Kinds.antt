@@ -1,11 +1,11 @@
 -- The kinds of lines: what is told of a layout, one kind after another.
-use Rattle.std.specs.Prelude.{ℕ, nat_lt, not, cond, List, [], ◌∷◌, ◌++◌, map, filter}
-use Rattle.std.specs.List.{filter_map, flat_map}
+use Rattle.std.specs.Prelude.{ℕ, nat_lt, not, List, ◌++◌, map, filter}
+use Rattle.std.specs.List.{filter_map}
 use Rattle.query_parts.specs.declared.listed.PartUse.{PartUse}
 use Rattle.command_policy_breaches.specs.declared.breaches.Hold.{Hold}
 use Rattle.command_policy_breaches.specs.declared.joining.Join.{Join}
 use Rattle.command_policy_breaches.specs.declared.policy.Allowance.{Allowance}
-use Rattle.command_policy_breaches.specs.declared.policy.Block.{Block}
+use Rattle.command_policy_breaches.specs.declared.policy.Home.{Home}
 use Rattle.command_policy_breaches.specs.declared.policy.HeldRegion.{HeldRegion}
 use Rattle.command_policy_breaches.specs.declared.policy.Layout.{Layout}
 use Rattle.command_policy_breaches.specs.declared.policy.Member.{Member}
@@ -17,7 +17,7 @@ use Rattle.command_policy_text.specs.declared.told.Told.{Told}
 use Rattle.command_policy_text.specs.declared.told.Told.TheVariants.{Silent, Messages, Group, Joined, Grant, Thread, Region, Use, Badge, Right, Way, Waits, UnusedWay, UnusedUse, IdleInWay, IdleInUse, UnusedRegion, UnusedGroup}
 use Rattle.command_policy_breaches.specs.declared.ways.Passage.{Passage}
 use Rattle.command_policy_breaches.specs.Breaches.{has_other_badge, has_right_too_much, hold_of, is_region_amiss, is_unlisted, is_wait_amiss}
-use Rattle.command_policy_breaches.specs.Joins.{have_two_groups}
+use Rattle.command_policy_breaches.specs.Joins.{have_one_group, have_two_groups}
 use Rattle.command_policy_breaches.specs.Unused.{count_of_parts, has_use_idle_right, has_way_idle_right, is_entry_used, is_region_used, is_way_used}
 use Rattle.command_policy_breaches.specs.Ways.{is_passage_amiss}
 
@@ -38,16 +38,16 @@ groups c = map (λ (g : ℕ). Group g) c.groups.items
 -- ---- breaches
 
 -- the parts in which threads of two groups lie
-abbrev pub joined : Policy → Layout → List Told
-joined c l = map (λ (i : ℕ). Joined i) (filter (λ part. have_two_groups c l part part) l.parts.items)
+abbrev pub joined_breaches : Layout → List Told
+joined_breaches l = map (λ (i : ℕ). Joined i) (filter (λ part. have_two_groups l.homes.items part part) l.parts.items)
 
--- the joins between parts of two groups
-abbrev pub grants : Policy → Layout → List Join → List Told
-grants c l js = map (λ (j : Join). Grant j) (filter (λ (j : Join). have_two_groups c l j.from j.to) js)
+-- the joins that are not between two parts of one group
+abbrev pub grants : Layout → List Join → List Told
+grants l js = map (λ (j : Join). Grant j) (filter (λ (j : Join). not (have_one_group l.homes.items j.from j.to)) js)
 
 -- the trusted threads whose control blocks parts have
-abbrev pub threads : Policy → Layout → List Told
-threads c l = map (λ (h : Hold). Thread h) (filter_map (hold_of l) c.silent.items ++ filter_map (hold_of l) c.messages.items)
+abbrev pub thread_breaches : Policy → Layout → List Told
+thread_breaches c l = map (λ (h : Hold). Thread h) (filter_map (hold_of l) c.silent.items ++ filter_map (hold_of l) c.messages.items)
 
 -- the untyped regions in slots of parts that are none of their own
 abbrev pub regions : Policy → Layout → List Told
@@ -58,12 +58,12 @@ abbrev pub uses : Policy → Layout → List Told
 uses c l = map (λ (u : PartUse). Use u) (filter (is_unlisted c l) l.uses.items)
 
 -- the uses with another badge than the part's entries with their rights
-abbrev pub badges : Policy → Layout → List Told
-badges c l = map (λ (u : PartUse). Badge u) (filter (has_other_badge c l) l.uses.items)
+abbrev pub badge_breaches : Policy → Layout → List Told
+badge_breaches c l = map (λ (u : PartUse). Badge u) (filter (has_other_badge c l) l.uses.items)
 
 -- the uses with a right that none of the part's entries has
-abbrev pub rights : Policy → Layout → List Told
-rights c l = map (λ (u : PartUse). Right u) (filter (has_right_too_much c l) l.uses.items)
+abbrev pub right_breaches : Policy → Layout → List Told
+right_breaches c l = map (λ (u : PartUse). Right u) (filter (has_right_too_much c l) l.uses.items)
 
 -- the uses and the waits whose badges are told already
 abbrev pub uses_told : Policy → Layout → List PartUse
@@ -72,16 +72,16 @@ uses_told c l = filter (has_other_badge c l) l.uses.items ++ filter (has_right_t
 abbrev pub waits_told : Policy → Layout → List Waiting
 waits_told c l = filter (is_wait_amiss c l) l.waits.items
 
-abbrev pub untold_passages : Policy → Layout → List Block → List Passage → List Passage
-untold_passages c l bs ws = filter (is_passage_amiss c l bs (uses_told c l) (waits_told c l)) ws
+abbrev pub untold_passages : Policy → Layout → List Home → List Passage → List Passage
+untold_passages c l hs ws = filter (is_passage_amiss c l hs (uses_told c l) (waits_told c l)) ws
 
 -- the passages that no way lets be
-abbrev pub ways : Policy → Layout → List Block → List Passage → List Told
-ways c l bs ws = map (λ (w : Passage). Way w) (untold_passages c l bs ws)
+abbrev pub passage_breaches : Policy → Layout → List Home → List Passage → List Told
+passage_breaches c l hs ws = map (λ (w : Passage). Way w) (untold_passages c l hs ws)
 
 -- the threads that wait where no entry lets them
-abbrev pub waits : Policy → Layout → List Told
-waits c l = map (λ (w : Waiting). Waits w) (waits_told c l)
+abbrev pub waiting_breaches : Policy → Layout → List Told
+waiting_breaches c l = map (λ (w : Waiting). Waits w) (waits_told c l)
 
 -- ---- what is allowed and not there
 
@@ -107,9 +107,6 @@ idle_rights c l = idle_in_ways c l ++ idle_in_uses c l
 abbrev pub idle_regions : Policy → Layout → List Told
 idle_regions c l = map (λ (r : OwnRegion). UnusedRegion r) (filter (λ (r : OwnRegion). not (is_region_used l r)) c.regions.items)
 
-abbrev pub idle_group : Layout → List Block → ℕ → List Told
-idle_group l bs group = cond (nat_lt 1 (count_of_parts l bs group)) (UnusedGroup group ∷ []) []
-
 -- the groups whose threads are several parts
-abbrev pub idle_groups : Policy → Layout → List Block → List Told
-idle_groups c l bs = flat_map (idle_group l bs) c.groups.items
+abbrev pub idle_groups : Policy → List Home → List Told
+idle_groups c hs = map (λ (g : ℕ). UnusedGroup g) (filter (λ g. nat_lt 1 (count_of_parts hs g)) c.groups.items)

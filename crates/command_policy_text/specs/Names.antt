@@ -7,7 +7,7 @@ use Rattle.command_policy_text.specs.declared.names.Letters.{Letters}
 use Rattle.command_policy_breaches.specs.declared.policy.Label.{Label}
 use Rattle.command_policy_breaches.specs.declared.policy.Layout.{Layout}
 use Rattle.command_policy_breaches.specs.declared.policy.Policy.{Policy}
-use Rattle.command_policy_breaches.specs.Sides.{groups_of}
+use Rattle.command_policy_breaches.specs.Sides.{groups_at}
 
 -- an object by its name, behind a `@`, or by its address
 abbrev pub labelled : ℕ → Option (List ℕ) → List ℕ
@@ -18,41 +18,41 @@ labelled base (Some label) = codes "@" ++ label
 abbrev pub label_of : List Label → ℕ → Option (List ℕ)
 label_of labels base = option_map (λ (l : Label). string_bytes l.text) (find (λ (l : Label). l.base == base) labels)
 
-abbrev pub object_text : List Label → ℕ → List ℕ
-object_text labels base = labelled base (label_of labels base)
+abbrev pub labelled_text : List Label → ℕ → List ℕ
+labelled_text labels base = labelled base (label_of labels base)
 
-abbrev pub name_in : Option (List ℕ) → List ℕ
-name_in None = []
-name_in (Some name) = name
+abbrev pub name_or_none : Option (List ℕ) → List ℕ
+name_or_none None = []
+name_or_none (Some name) = name
 
 -- what a group or a trusted thread is called
 abbrev pub actor_name : Policy → ℕ → List ℕ
-actor_name c actor = name_in (option_map string_bytes (slice_get c.actors.items actor))
+actor_name c actor = name_or_none (option_map string_bytes (slice_get c.actors.items actor))
 
 abbrev pub behind : Policy → ℕ → List ℕ
 behind c actor = codes "+" ++ actor_name c actor
 
 -- groups with a `+` between two of them
-abbrev pub label : Policy → List ℕ → List ℕ
-label c [] = []
-label c (g ∷ gs) = actor_name c g ++ flat_map (behind c) gs
+abbrev pub joined_names : Policy → List ℕ → List ℕ
+joined_names c [] = []
+joined_names c (g ∷ gs) = actor_name c g ++ flat_map (behind c) gs
 
 -- the groups of a part, with a `+` between two of them
 abbrev pub part_label : Policy → Layout → ℕ → List ℕ
-part_label c l part = label c (groups_of c l part)
+part_label c l part = joined_names c (groups_at l.homes.items part)
 
 -- numbers with a comma between two of them
 abbrev pub number_behind : ℕ → List ℕ
 number_behind number = codes "," ++ decimal number
 
 -- numbers, with a comma between two of them
-abbrev pub numbers_text : List ℕ → List ℕ
-numbers_text [] = []
-numbers_text (n ∷ ns) = decimal n ++ flat_map number_behind ns
+abbrev pub numbers_with_commas : List ℕ → List ℕ
+numbers_with_commas [] = []
+numbers_with_commas (n ∷ ns) = decimal n ++ flat_map number_behind ns
 
-abbrev pub letter : Bool → List ℕ → List ℕ
-letter is_there text = cond is_there text (codes "-")
+abbrev pub right_letter : Bool → List ℕ → List ℕ
+right_letter is_there text = cond is_there text (codes "-")
 
 -- four rights as letters, a `-` for each that is not there
 abbrev pub letters_text : Letters → List ℕ
-letters_text l = letter l.write (codes "w") ++ (letter l.read (codes "r") ++ (letter l.grant (codes "g") ++ letter l.grant_reply (codes "p")))
+letters_text l = right_letter l.write (codes "w") ++ (right_letter l.read (codes "r") ++ (right_letter l.grant (codes "g") ++ right_letter l.grant_reply (codes "p")))

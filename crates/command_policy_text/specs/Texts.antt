@@ -9,7 +9,7 @@ use Rattle.setup_report.specs.Report.{terminated}
 use Rattle.command_core.specs.declared.fault.Verdict.{Verdict}
 use Rattle.command_core.specs.declared.fault.Verdict.TheVariants.{AllMet, NotMet}
 use Rattle.command_policy_breaches.specs.declared.joining.Join.{Join}
-use Rattle.command_policy_breaches.specs.declared.policy.Block.{Block}
+use Rattle.command_policy_breaches.specs.declared.policy.Home.{Home}
 use Rattle.command_policy_breaches.specs.declared.policy.Labels.{Labels}
 use Rattle.command_policy_breaches.specs.declared.policy.Layout.{Layout}
 use Rattle.command_policy_breaches.specs.declared.policy.Policy.{Policy}
@@ -19,90 +19,90 @@ use Rattle.command_policy_breaches.specs.declared.ways.Passage.{Passage}
 use Rattle.command_policy_text.specs.Calls.{call_breaches}
 use Rattle.command_policy_text.specs.Kinds as kind
 use Rattle.command_policy_text.specs.Order.{in_order}
-use Rattle.command_policy_text.specs.Told.{told_text}
+use Rattle.command_policy_text.specs.Told.{line_told}
 use Rattle.command_policy_breaches.specs.Ways.{is_between_parts}
 
 -- the lines of a kind, each once, in the order of their bytes
-abbrev pub kind_lines : Policy → Layout → Labels → List Block → List Told → List (List ℕ)
-kind_lines c l n bs told = in_order (map (told_text c l n bs) told)
+abbrev pub lines_of_kind : Policy → Layout → Labels → List Home → List Told → List (List ℕ)
+lines_of_kind c l n hs told = in_order (map (line_told c l n hs) told)
 
-abbrev pub first_lines : Policy → Layout → Labels → List Block → List (List ℕ)
-first_lines c l n bs = kind_lines c l n bs (kind.silent c) ++ (kind_lines c l n bs (kind.messages c) ++ kind_lines c l n bs (kind.groups c))
+abbrev pub first_lines : Policy → Layout → Labels → List Home → List (List ℕ)
+first_lines c l n hs = lines_of_kind c l n hs (kind.silent c) ++ (lines_of_kind c l n hs (kind.messages c) ++ lines_of_kind c l n hs (kind.groups c))
 
 -- ---- breaches
 
-abbrev pub part_breaches : Policy → Layout → Labels → List Block → List Join → List (List ℕ)
-part_breaches c l n bs js =
-    kind_lines c l n bs (kind.joined c l) ++ (kind_lines c l n bs (kind.grants c l js)
-    ++ (kind_lines c l n bs (kind.threads c l) ++ kind_lines c l n bs (kind.regions c l)))
+abbrev pub part_breaches : Policy → Layout → Labels → List Home → List Join → List (List ℕ)
+part_breaches c l n hs js =
+    lines_of_kind c l n hs (kind.joined_breaches l) ++ (lines_of_kind c l n hs (kind.grants l js)
+    ++ (lines_of_kind c l n hs (kind.thread_breaches c l) ++ lines_of_kind c l n hs (kind.regions c l)))
 
-abbrev pub use_breaches : Policy → Layout → Labels → List Block → List (List ℕ)
-use_breaches c l n bs = kind_lines c l n bs (kind.uses c l) ++ (kind_lines c l n bs (kind.badges c l) ++ kind_lines c l n bs (kind.rights c l))
+abbrev pub use_breaches : Policy → Layout → Labels → List Home → List (List ℕ)
+use_breaches c l n hs = lines_of_kind c l n hs (kind.uses c l) ++ (lines_of_kind c l n hs (kind.badge_breaches c l) ++ lines_of_kind c l n hs (kind.right_breaches c l))
 
-abbrev pub way_breaches : Policy → Layout → Labels → List Block → List Passage → List (List ℕ)
-way_breaches c l n bs ws = kind_lines c l n bs (kind.ways c l bs ws) ++ kind_lines c l n bs (kind.waits c l)
+abbrev pub way_breaches : Policy → Layout → Labels → List Home → List Passage → List (List ℕ)
+way_breaches c l n hs ws = lines_of_kind c l n hs (kind.passage_breaches c l hs ws) ++ lines_of_kind c l n hs (kind.waiting_breaches c l)
 
-unfoldable pub breaches : Policy → Layout → Labels → List Block → List Join → List Passage → List (List ℕ)
-breaches c l n bs js ws = part_breaches c l n bs js ++ (use_breaches c l n bs ++ way_breaches c l n bs ws)
+unfoldable pub breaches : Policy → Layout → Labels → List Home → List Join → List Passage → List (List ℕ)
+breaches c l n hs js ws = part_breaches c l n hs js ++ (use_breaches c l n hs ++ way_breaches c l n hs ws)
 
-abbrev pub calls : Policy → SetupView → List Reply → List (List ℕ)
-calls c setup replies = cond c.calls (call_breaches 1 setup.calls replies) []
+abbrev pub calls_breached : Policy → SetupView → List Reply → List (List ℕ)
+calls_breached c setup replies = cond c.calls (call_breaches 1 setup.calls replies) []
 
 -- ---- what is allowed and not there
 
-abbrev pub unused_entries : Policy → Layout → Labels → List Block → List (List ℕ)
-unused_entries c l n bs =
-    kind_lines c l n bs (kind.idle_ways c l) ++ (kind_lines c l n bs (kind.idle_uses c l) ++ kind_lines c l n bs (kind.idle_rights c l))
+abbrev pub unused_entries : Policy → Layout → Labels → List Home → List (List ℕ)
+unused_entries c l n hs =
+    lines_of_kind c l n hs (kind.idle_ways c l) ++ (lines_of_kind c l n hs (kind.idle_uses c l) ++ lines_of_kind c l n hs (kind.idle_rights c l))
 
-abbrev pub unused_groups : Policy → Layout → Labels → List Block → List (List ℕ)
-unused_groups c l n bs = kind_lines c l n bs (kind.idle_regions c l) ++ kind_lines c l n bs (kind.idle_groups c l bs)
+abbrev pub unused_groups : Policy → Layout → Labels → List Home → List (List ℕ)
+unused_groups c l n hs = lines_of_kind c l n hs (kind.idle_regions c l) ++ lines_of_kind c l n hs (kind.idle_groups c hs)
 
-unfoldable pub unused : Policy → Layout → Labels → List Block → List (List ℕ)
-unused c l n bs = unused_entries c l n bs ++ unused_groups c l n bs
+unfoldable pub unused : Policy → Layout → Labels → List Home → List (List ℕ)
+unused c l n hs = unused_entries c l n hs ++ unused_groups c l n hs
 
 -- ---- all of it
 
-abbrev pub calls_text : ℕ → ℕ → List ℕ
-calls_text calls made = codes " calls " ++ (decimal calls ++ (codes " after " ++ decimal made))
+abbrev pub policy_calls_text : ℕ → ℕ → List ℕ
+policy_calls_text calls made = codes " calls " ++ (decimal calls ++ (codes " after " ++ decimal made))
 
-abbrev pub head_line : SetupView → ℕ → List ℕ
-head_line setup made =
-    terminated (codes "policy 1 " ++ (profile_text setup.profile ++ (codes " memory_bits " ++ (decimal setup.plan.memory_bits ++ calls_text (length setup.calls) made))))
+abbrev pub policy_head_line : SetupView → ℕ → List ℕ
+policy_head_line setup made =
+    terminated (codes "policy 1 " ++ (profile_text setup.profile ++ (codes " memory_bits " ++ (decimal setup.plan.memory_bits ++ policy_calls_text (length setup.calls) made))))
 
-abbrev pub word : ℕ → List ℕ
-word breaches = cond (breaches == 0) (codes "kept") (codes "broken")
+abbrev pub kept_or_broken : ℕ → List ℕ
+kept_or_broken breaches = cond (breaches == 0) (codes "kept") (codes "broken")
 
 abbrev pub last_line : Counts → List ℕ
 last_line k =
-    terminated (word k.breaches ++ (codes " groups " ++ (decimal k.groups ++ (codes " parts " ++ (decimal k.parts ++ (codes " ways " ++ (decimal k.ways
+    terminated (kept_or_broken k.breaches ++ (codes " groups " ++ (decimal k.groups ++ (codes " parts " ++ (decimal k.parts ++ (codes " ways " ++ (decimal k.ways
     ++ (codes " breaches " ++ (decimal k.breaches ++ (codes " unused " ++ decimal k.unused))))))))))
 
 -- how many lines tell of breaches
-abbrev pub breach_count : Policy → Layout → Labels → List Block → List Join → List Passage → SetupView → List Reply → ℕ
-breach_count c l n bs js ws setup replies = length (calls c setup replies) + length (breaches c l n bs js ws)
+abbrev pub breach_count : Policy → Layout → Labels → List Home → List Join → List Passage → SetupView → List Reply → ℕ
+breach_count c l n hs js ws setup replies = length (calls_breached c setup replies) + length (breaches c l n hs js ws)
 
-abbrev pub counts : Policy → Layout → Labels → List Block → List Join → List Passage → SetupView → List Reply → Counts
-counts c l n bs js ws setup replies = record {
+abbrev pub counts : Policy → Layout → Labels → List Home → List Join → List Passage → SetupView → List Reply → Counts
+counts c l n hs js ws setup replies = record {
   groups = length c.groups.items;
   parts = length l.parts.items;
   ways = count_by is_between_parts ws;
-  breaches = breach_count c l n bs js ws setup replies;
-  unused = length (unused c l n bs);
+  breaches = breach_count c l n hs js ws setup replies;
+  unused = length (unused c l n hs);
 }
 
 -- the policy is kept where nothing is told of a breach
-abbrev pub verdict_of : ℕ → Verdict
-verdict_of breaches = cond (breaches == 0) AllMet NotMet
+abbrev pub verdict_by_count : ℕ → Verdict
+verdict_by_count breaches = cond (breaches == 0) AllMet NotMet
 
-abbrev pub lines_text : List (List ℕ) → List ℕ
-lines_text lines = flat_map terminated lines
+abbrev pub all_lines_text : List (List ℕ) → List ℕ
+all_lines_text lines = flat_map terminated lines
 
-unfoldable pub text : Policy → Layout → Labels → List Block → List Join → List Passage → SetupView → List Reply → List ℕ
-text c l n bs js ws setup replies =
-    head_line setup (length replies) ++ (lines_text (first_lines c l n bs) ++ (lines_text (calls c setup replies)
-    ++ (lines_text (breaches c l n bs js ws) ++ (lines_text (unused c l n bs) ++ last_line (counts c l n bs js ws setup replies)))))
+unfoldable pub text : Policy → Layout → Labels → List Home → List Join → List Passage → SetupView → List Reply → List ℕ
+text c l n hs js ws setup replies =
+    policy_head_line setup (length replies) ++ (all_lines_text (first_lines c l n hs) ++ (all_lines_text (calls_breached c setup replies)
+    ++ (all_lines_text (breaches c l n hs js ws) ++ (all_lines_text (unused c l n hs) ++ last_line (counts c l n hs js ws setup replies)))))
 
 -- the text of a layout that is held to a policy, and the verdict: `AllMet` exactly where no line tells of a breach
-unfoldable pub told : Policy → Layout → Labels → List Block → List Join → List Passage → SetupView → List Reply → List ℕ × Verdict
-told c l n bs js ws setup replies =
-    (text c l n bs js ws setup replies, verdict_of (breach_count c l n bs js ws setup replies))
+unfoldable pub text_and_verdict : Policy → Layout → Labels → List Home → List Join → List Passage → SetupView → List Reply → List ℕ × Verdict
+text_and_verdict c l n hs js ws setup replies =
+    (text c l n hs js ws setup replies, verdict_by_count (breach_count c l n hs js ws setup replies))

@@ -21,7 +21,7 @@ fn is_met(shown: &str, expected: &str) -> bool
 }
 
 fn is_refused(reply: Reply) -> bool
-    ensures { result ≡ spec.is_refused reply }
+    ensures { result ≡ spec.is_refusal reply }
 {
     matches!(reply, Reply::Refused(_))
 }
@@ -33,7 +33,7 @@ fn answer_line(
     call: &Call,
     reply: Reply,
 ) -> Result<String, AllocError>
-    ensures { IfOk result (λ s. string_bytes s ≡ spec.refused_text number call.now reply) }
+    ensures { IfOk result (λ s. string_bytes s ≡ spec.refused_call_text number call.now reply) }
 {
     let op = op_name(&call.op).text();
     let answer = ReplyText(reply);

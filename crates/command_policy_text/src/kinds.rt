@@ -1,6 +1,5 @@
 //! The kinds of lines: what is told of a layout, one kind after another.
-ghost use Rattle.std.specs.Prelude.{◌≡◌, ◌++◌, IfOk, OnOk};
-ghost use Rattle.std.specs.List.{flat_map};
+ghost use Rattle.std.specs.Prelude.{◌≡◌, ◌++◌, IfOk};
 ghost use Rattle.command_policy_text.specs.Kinds as spec;
 
 use crate::told::{Held, Told};
@@ -46,25 +45,25 @@ pub fn groups(alloc: Global, policy: &Policy) -> Result<Vec<Told>, AllocError>
 
 /// The parts in which threads of several groups are.
 pub fn joined(alloc: Global, held: Held<'_>) -> Result<Vec<Told>, AllocError>
-    ensures { IfOk result (λ v. v.items ≡ spec.joined held.entry.policy.now held.entry.layout.now) }
+    ensures { IfOk result (λ v. v.items ≡ spec.joined_breaches held.entry.layout.now) }
 {
-    let parts = parts_of_several(alloc, held.policy, held.layout)?;
+    let parts = parts_of_several(alloc, held.layout)?;
     let parts = parts.as_slice();
     parts.iter().map(|part| Told::Joined(*part)).collect(alloc)
 }
 
 /// What parts can hand to each other.
 pub fn grants(alloc: Global, held: Held<'_>, joins: &[Join]) -> Result<Vec<Told>, AllocError>
-    ensures { IfOk result (λ v. v.items ≡ spec.grants held.entry.policy.now held.entry.layout.now joins.now) }
+    ensures { IfOk result (λ v. v.items ≡ spec.grants held.entry.layout.now joins.now) }
 {
-    let joins = joins_amiss(alloc, held.policy, held.layout, joins)?;
+    let joins = joins_amiss(alloc, held.layout, joins)?;
     let joins = joins.as_slice();
     joins.iter().map(|join| Told::Grant(*join)).collect(alloc)
 }
 
 /// The trusted threads whose control blocks parts have.
 pub fn threads(alloc: Global, held: Held<'_>) -> Result<Vec<Told>, AllocError>
-    ensures { IfOk result (λ v. v.items ≡ spec.threads held.entry.policy.now held.entry.layout.now) }
+    ensures { IfOk result (λ v. v.items ≡ spec.thread_breaches held.entry.policy.now held.entry.layout.now) }
 {
     let mut all = holds(alloc, held.layout, held.policy.silent.as_slice())?;
     let others = holds(alloc, held.layout, held.policy.messages.as_slice())?;
@@ -96,7 +95,7 @@ pub fn uses(alloc: Global, held: Held<'_>) -> Result<Vec<Told>, AllocError>
 
 /// The capabilities with another badge than the part's entries.
 pub fn badges(alloc: Global, held: Held<'_>) -> Result<Vec<Told>, AllocError>
-    ensures { IfOk result (λ v. v.items ≡ spec.badges held.entry.policy.now held.entry.layout.now) }
+    ensures { IfOk result (λ v. v.items ≡ spec.badge_breaches held.entry.policy.now held.entry.layout.now) }
 {
     let uses = badges_amiss(alloc, held.policy, held.layout)?;
     let uses = uses.as_slice();
@@ -105,7 +104,7 @@ pub fn badges(alloc: Global, held: Held<'_>) -> Result<Vec<Told>, AllocError>
 
 /// The capabilities with a right that none of the part's entries has.
 pub fn rights(alloc: Global, held: Held<'_>) -> Result<Vec<Told>, AllocError>
-    ensures { IfOk result (λ v. v.items ≡ spec.rights held.entry.policy.now held.entry.layout.now) }
+    ensures { IfOk result (λ v. v.items ≡ spec.right_breaches held.entry.policy.now held.entry.layout.now) }
 {
     let uses = rights_amiss(alloc, held.policy, held.layout)?;
     let uses = uses.as_slice();
@@ -118,7 +117,7 @@ fn untold_passages(
     held: Held<'_>,
     passages: &[Passage],
 ) -> Result<Vec<Passage>, AllocError>
-    ensures { IfOk result (λ v. v.items ≡ spec.untold_passages held.entry.policy.now held.entry.layout.now held.entry.blocks.now passages.now) }
+    ensures { IfOk result (λ v. v.items ≡ spec.untold_passages held.entry.policy.now held.entry.layout.now held.entry.homes.now passages.now) }
 {
     let Held { policy, layout, .. } = held;
     let mut uses = badges_amiss(alloc, policy, layout)?;
@@ -129,7 +128,7 @@ fn untold_passages(
         alloc,
         policy,
         layout,
-        held.blocks,
+        held.homes,
         uses.as_slice(),
         waits.as_slice(),
         passages,
@@ -139,7 +138,7 @@ fn untold_passages(
 
 /// What no way lets pass.
 pub fn ways(alloc: Global, held: Held<'_>, passages: &[Passage]) -> Result<Vec<Told>, AllocError>
-    ensures { IfOk result (λ v. v.items ≡ spec.ways held.entry.policy.now held.entry.layout.now held.entry.blocks.now passages.now) }
+    ensures { IfOk result (λ v. v.items ≡ spec.passage_breaches held.entry.policy.now held.entry.layout.now held.entry.homes.now passages.now) }
 {
     let amiss = untold_passages(alloc, held, passages)?;
     let amiss = amiss.as_slice();
@@ -151,7 +150,7 @@ pub fn ways(alloc: Global, held: Held<'_>, passages: &[Passage]) -> Result<Vec<T
 
 /// The threads that wait where no entry lets them.
 pub fn waits(alloc: Global, held: Held<'_>) -> Result<Vec<Told>, AllocError>
-    ensures { IfOk result (λ v. v.items ≡ spec.waits held.entry.policy.now held.entry.layout.now) }
+    ensures { IfOk result (λ v. v.items ≡ spec.waiting_breaches held.entry.policy.now held.entry.layout.now) }
 {
     let waits = waits_amiss(alloc, held.policy, held.layout)?;
     let waits = waits.as_slice();
@@ -218,39 +217,14 @@ pub fn idle_regions(alloc: Global, held: Held<'_>) -> Result<Vec<Told>, AllocErr
         .collect(alloc)
 }
 
-fn add_idle_group(
-    alloc: Global,
-    told: &mut Vec<Told>,
-    held: Held<'_>,
-    group: u64,
-) -> Result<(), AllocError>
-    ensures { OnOk result (told.new.items ≡ told.old.items ++ spec.idle_group held.entry.layout.now held.entry.blocks.now group) }
-{
-    if count_of_parts(alloc, held.layout, held.blocks, group)? > 1 {
-        told.push(Told::UnusedGroup(group))?;
-    }
-    Ok(())
-}
-
-fn add_idle_groups(
-    alloc: Global,
-    told: &mut Vec<Told>,
-    held: Held<'_>,
-    groups: &[u64],
-) -> Result<(), AllocError>
-    ensures { OnOk result (told.new.items ≡ told.old.items ++ flat_map (spec.idle_group held.entry.layout.now held.entry.blocks.now) groups.now) }
-{
-    for group in groups {
-        add_idle_group(alloc, told, held, *group)?;
-    }
-    Ok(())
-}
-
 /// The groups whose threads are several parts.
 pub fn idle_groups(alloc: Global, held: Held<'_>) -> Result<Vec<Told>, AllocError>
-    ensures { IfOk result (λ v. v.items ≡ spec.idle_groups held.entry.policy.now held.entry.layout.now held.entry.blocks.now) }
+    ensures { IfOk result (λ v. v.items ≡ spec.idle_groups held.entry.policy.now held.entry.homes.now) }
 {
-    let mut told = Vec::new(alloc);
-    add_idle_groups(alloc, &mut told, held, held.policy.groups.as_slice())?;
-    Ok(told)
+    let groups = held.policy.groups.as_slice();
+    groups
+        .iter()
+        .filter(|group| count_of_parts(held.homes, **group) > 1)
+        .map(|group| Told::UnusedGroup(*group))
+        .collect(alloc)
 }

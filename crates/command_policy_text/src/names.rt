@@ -3,7 +3,7 @@ ghost use Rattle.std.specs.Prelude.{◌≡◌, ◌++◌, ◌==◌, Some, IfOk, O
 ghost use Rattle.std.specs.List.{flat_map};
 ghost use Rattle.command_policy_text.specs.Names as spec;
 
-use command_policy_breaches::{Label, Layout, Policy, groups_of};
+use command_policy_breaches::{Label, Layout, Policy, groups_at};
 use std::alloc::{AllocError, Global};
 use std::fmt;
 use std::fmt::Write;
@@ -61,25 +61,19 @@ pub fn actor_name(policy: &Policy, actor: u64) -> &str
     }
 }
 
-fn add_behind(out: &mut String, policy: &Policy, actor: u64) -> Result<(), AllocError>
-    ensures { OnOk result (string_bytes out.new ≡ string_bytes out.old ++ spec.behind policy.now actor) }
-{
-    let name = actor_name(policy, actor);
-    write!(out, "+{name}")
-}
-
 fn add_all_behind(out: &mut String, policy: &Policy, actors: &[u64]) -> Result<(), AllocError>
     ensures { OnOk result (string_bytes out.new ≡ string_bytes out.old ++ flat_map (spec.behind policy.now) actors.now) }
 {
     for actor in actors {
-        add_behind(out, policy, *actor)?;
+        let name = actor_name(policy, *actor);
+        write!(out, "+{name}")?;
     }
     Ok(())
 }
 
 /// Some groups, with a `+` between two of them.
 pub fn label(alloc: Global, policy: &Policy, groups: &[u64]) -> Result<String, AllocError>
-    ensures { IfOk result (λ s. string_bytes s ≡ spec.label policy.now groups.now) }
+    ensures { IfOk result (λ s. string_bytes s ≡ spec.joined_names policy.now groups.now) }
 {
     match groups {
         [] => Ok(String::new(alloc)),
@@ -100,28 +94,22 @@ pub fn part_label(
 ) -> Result<String, AllocError>
     ensures { IfOk result (λ s. string_bytes s ≡ spec.part_label policy.now layout.now part) }
 {
-    let groups = groups_of(alloc, policy, layout, part)?;
+    let groups = groups_at(alloc, layout.homes.as_slice(), part)?;
     label(alloc, policy, groups.as_slice())
-}
-
-fn add_number_behind(out: &mut String, number: u64) -> Result<(), AllocError>
-    ensures { OnOk result (string_bytes out.new ≡ string_bytes out.old ++ spec.number_behind number) }
-{
-    write!(out, ",{number}")
 }
 
 fn add_numbers_behind(out: &mut String, numbers: &[u64]) -> Result<(), AllocError>
     ensures { OnOk result (string_bytes out.new ≡ string_bytes out.old ++ flat_map spec.number_behind numbers.now) }
 {
     for number in numbers {
-        add_number_behind(out, *number)?;
+        write!(out, ",{number}")?;
     }
     Ok(())
 }
 
 /// Some numbers, with a comma between two of them.
 pub fn numbers_text(alloc: Global, numbers: &[u64]) -> Result<String, AllocError>
-    ensures { IfOk result (λ s. string_bytes s ≡ spec.numbers_text numbers.now) }
+    ensures { IfOk result (λ s. string_bytes s ≡ spec.numbers_with_commas numbers.now) }
 {
     match numbers {
         [] => Ok(String::new(alloc)),
@@ -143,7 +131,7 @@ pub struct Letters {
 }
 
 fn letter(is_there: bool, letter: &'static str) -> &'static str
-    ensures { result.now ≡ spec.letter is_there letter.now }
+    ensures { result.now ≡ spec.right_letter is_there letter.now }
 {
     if is_there { letter } else { "-" }
 }

@@ -22,7 +22,7 @@ use std::fmt;
 use std::fmt::Write;
 
 fn ordered(alloc: Global, held: Held<'_>, told: &[Told]) -> Result<BTreeSet<String>, AllocError>
-    ensures { IfOk result (λ set. map string_bytes set.keys ≡ spec.kind_lines held.entry.policy.now held.entry.layout.now held.entry.labels.now held.entry.blocks.now told.now) }
+    ensures { IfOk result (λ set. map string_bytes set.keys ≡ spec.lines_of_kind held.entry.policy.now held.entry.layout.now held.entry.labels.now held.entry.homes.now told.now) }
 {
     let mut lines = BTreeSet::new(alloc);
     for one in told {
@@ -49,7 +49,7 @@ fn add_kind(
     told: &[Told],
 ) -> Result<(), AllocError>
     ensures { OnOk result (map string_bytes lines.new.items ≡ map string_bytes lines.old.items
-        ++ spec.kind_lines held.entry.policy.now held.entry.layout.now held.entry.labels.now held.entry.blocks.now told.now) }
+        ++ spec.lines_of_kind held.entry.policy.now held.entry.layout.now held.entry.labels.now held.entry.homes.now told.now) }
 {
     let more = ordered(alloc, held, told)?;
     add_all(lines, more)
@@ -57,7 +57,7 @@ fn add_kind(
 
 /// Who is trusted, and which groups there are.
 fn first_lines(alloc: Global, held: Held<'_>) -> Result<Vec<String>, AllocError>
-    ensures { IfOk result (λ v. map string_bytes v.items ≡ spec.first_lines held.entry.policy.now held.entry.layout.now held.entry.labels.now held.entry.blocks.now) }
+    ensures { IfOk result (λ v. map string_bytes v.items ≡ spec.first_lines held.entry.policy.now held.entry.layout.now held.entry.labels.now held.entry.homes.now) }
 {
     let mut lines = Vec::new(alloc);
     let silent = kinds::silent(alloc, held.policy)?;
@@ -76,7 +76,7 @@ fn add_part_breaches(
     joins: &[Join],
 ) -> Result<(), AllocError>
     ensures { OnOk result (map string_bytes lines.new.items ≡ map string_bytes lines.old.items
-        ++ spec.part_breaches held.entry.policy.now held.entry.layout.now held.entry.labels.now held.entry.blocks.now joins.now) }
+        ++ spec.part_breaches held.entry.policy.now held.entry.layout.now held.entry.labels.now held.entry.homes.now joins.now) }
 {
     let joined = kinds::joined(alloc, held)?;
     let grants = kinds::grants(alloc, held, joins)?;
@@ -94,7 +94,7 @@ fn add_use_breaches(
     held: Held<'_>,
 ) -> Result<(), AllocError>
     ensures { OnOk result (map string_bytes lines.new.items ≡ map string_bytes lines.old.items
-        ++ spec.use_breaches held.entry.policy.now held.entry.layout.now held.entry.labels.now held.entry.blocks.now) }
+        ++ spec.use_breaches held.entry.policy.now held.entry.layout.now held.entry.labels.now held.entry.homes.now) }
 {
     let uses = kinds::uses(alloc, held)?;
     let badges = kinds::badges(alloc, held)?;
@@ -111,7 +111,7 @@ fn add_way_breaches(
     passages: &[Passage],
 ) -> Result<(), AllocError>
     ensures { OnOk result (map string_bytes lines.new.items ≡ map string_bytes lines.old.items
-        ++ spec.way_breaches held.entry.policy.now held.entry.layout.now held.entry.labels.now held.entry.blocks.now passages.now) }
+        ++ spec.way_breaches held.entry.policy.now held.entry.layout.now held.entry.labels.now held.entry.homes.now passages.now) }
 {
     let ways = kinds::ways(alloc, held, passages)?;
     let waits = kinds::waits(alloc, held)?;
@@ -127,7 +127,7 @@ fn breaches(
     joins: &[Join],
     passages: &[Passage],
 ) -> Result<Vec<String>, AllocError>
-    ensures { IfOk result (λ v. map string_bytes v.items ≡ spec.breaches held.entry.policy.now held.entry.layout.now held.entry.labels.now held.entry.blocks.now joins.now passages.now) }
+    ensures { IfOk result (λ v. map string_bytes v.items ≡ spec.breaches held.entry.policy.now held.entry.layout.now held.entry.labels.now held.entry.homes.now joins.now passages.now) }
 {
     let mut lines = Vec::new(alloc);
     add_part_breaches(alloc, &mut lines, held, joins)?;
@@ -142,7 +142,7 @@ fn add_unused_entries(
     held: Held<'_>,
 ) -> Result<(), AllocError>
     ensures { OnOk result (map string_bytes lines.new.items ≡ map string_bytes lines.old.items
-        ++ spec.unused_entries held.entry.policy.now held.entry.layout.now held.entry.labels.now held.entry.blocks.now) }
+        ++ spec.unused_entries held.entry.policy.now held.entry.layout.now held.entry.labels.now held.entry.homes.now) }
 {
     let ways = kinds::idle_ways(alloc, held)?;
     let uses = kinds::idle_uses(alloc, held)?;
@@ -158,7 +158,7 @@ fn add_unused_groups(
     held: Held<'_>,
 ) -> Result<(), AllocError>
     ensures { OnOk result (map string_bytes lines.new.items ≡ map string_bytes lines.old.items
-        ++ spec.unused_groups held.entry.policy.now held.entry.layout.now held.entry.labels.now held.entry.blocks.now) }
+        ++ spec.unused_groups held.entry.policy.now held.entry.layout.now held.entry.labels.now held.entry.homes.now) }
 {
     let regions = kinds::idle_regions(alloc, held)?;
     let groups = kinds::idle_groups(alloc, held)?;
@@ -169,7 +169,7 @@ fn add_unused_groups(
 /// What the policy allows and is not there.
 #[tactic(auto, unfolding(crate::specs::Texts::unused))]
 fn unused(alloc: Global, held: Held<'_>) -> Result<Vec<String>, AllocError>
-    ensures { IfOk result (λ v. map string_bytes v.items ≡ spec.unused held.entry.policy.now held.entry.layout.now held.entry.labels.now held.entry.blocks.now) }
+    ensures { IfOk result (λ v. map string_bytes v.items ≡ spec.unused held.entry.policy.now held.entry.layout.now held.entry.labels.now held.entry.homes.now) }
 {
     let mut lines = Vec::new(alloc);
     add_unused_entries(alloc, &mut lines, held)?;
@@ -185,7 +185,7 @@ fn calls(
     replies: &[Reply],
 ) -> Result<Vec<String>, AllocError>
     requires { length replies.now ≤ length setup.now.calls }
-    ensures { IfOk result (λ v. map string_bytes v.items ≡ spec.calls held.entry.policy.now setup.now replies.now) }
+    ensures { IfOk result (λ v. map string_bytes v.items ≡ spec.calls_breached held.entry.policy.now setup.now replies.now) }
 {
     if held.policy.calls {
         call_breaches(alloc, setup, replies)
@@ -194,17 +194,11 @@ fn calls(
     }
 }
 
-fn add_line(out: &mut String, line: &str) -> Result<(), AllocError>
-    ensures { OnOk result (string_bytes out.new ≡ string_bytes out.old ++ terminated line.now) }
-{
-    writeln!(out, "{line}")
-}
-
 fn add_lines(out: &mut String, lines: &[String]) -> Result<(), AllocError>
     ensures { OnOk result (string_bytes out.new ≡ string_bytes out.old ++ flat_map (λ s. terminated (string_bytes s)) lines.now) }
 {
     for line in lines {
-        add_line(out, line.as_str())?;
+        writeln!(out, "{line}")?;
     }
     Ok(())
 }
@@ -217,7 +211,7 @@ struct CallsText {
 }
 
 impl fmt::Display for CallsText {
-    ghost output = { λ c. Some (spec.calls_text c.calls c.made) };
+    ghost output = { λ c. Some (spec.policy_calls_text c.calls c.made) };
 
     fn fmt<W: fmt::Write>(&self, f: &mut fmt::Formatter<W>) -> fmt::Result {
         let calls = self.calls;
@@ -227,7 +221,7 @@ impl fmt::Display for CallsText {
 }
 
 fn add_head(out: &mut String, setup: &Setup, made: usize) -> Result<(), AllocError>
-    ensures { OnOk result (string_bytes out.new ≡ string_bytes out.old ++ spec.head_line setup.now made) }
+    ensures { OnOk result (string_bytes out.new ≡ string_bytes out.old ++ spec.policy_head_line setup.now made) }
 {
     let profile = profile_text(setup.profile());
     let memory_bits = setup.plan().memory_bits();
@@ -249,7 +243,7 @@ pub struct Counts {
 }
 
 fn word(breaches: usize) -> &'static str
-    ensures { result.now ≡ spec.word breaches }
+    ensures { result.now ≡ spec.kept_or_broken breaches }
 {
     if breaches == 0 { "kept" } else { "broken" }
 }
@@ -272,7 +266,7 @@ fn add_counts(out: &mut String, counts: Counts) -> Result<(), AllocError>
 }
 
 fn verdict_of(breaches: usize) -> Verdict
-    ensures { result ≡ spec.verdict_of breaches }
+    ensures { result ≡ spec.verdict_by_count breaches }
 {
     if breaches == 0 {
         Verdict::AllMet
@@ -297,7 +291,7 @@ pub fn policy_text(
 ) -> Result<(Vec<u8>, Verdict), AllocError>
     requires { length replies.now ≤ length setup.now.calls }
     ensures { IfOk result (λ made. (made.0.items, made.1)
-        ≡ spec.told held.entry.policy.now held.entry.layout.now held.entry.labels.now held.entry.blocks.now joins.now passages.now setup.now replies.now) }
+        ≡ spec.text_and_verdict held.entry.policy.now held.entry.layout.now held.entry.labels.now held.entry.homes.now joins.now passages.now setup.now replies.now) }
 {
     let first = first_lines(alloc, held)?;
     let calls = calls(alloc, held, setup, replies)?;

@@ -10,9 +10,9 @@ use bitflags::Flags;
 use cap_core::Rights;
 use command_parts::{BadgeText, rising};
 use command_policy_breaches::{
-    Allowance, Block, End, HeldRegion, Hold, Join, Labels, Layout, Member, OwnRegion, Passage,
-    Policy, PolicyWay, Waiting, count_of_parts, groups_of, groups_of_block, is_entry, is_idle,
-    lets_ever, sender_entry, strays,
+    Allowance, End, HeldRegion, Hold, Home, Join, Labels, Layout, Member, OwnRegion, Passage,
+    Policy, PolicyWay, Waiting, count_of_parts, groups_at, is_entry, is_idle, lets_ever,
+    sender_entry, strays,
 };
 use query_parts::PartUse;
 use setup_report::RightsText;
@@ -20,13 +20,13 @@ use std::alloc::{AllocError, Global};
 use std::collections::BTreeSet;
 use std::fmt::Write;
 
-/// A policy, the layout that is held to it, what its objects are called, and which parts Grant joins.
+/// A policy, the layout that is held to it, what its objects are called, and in which joined parts groups have threads.
 #[derive(Clone, Copy)]
 pub struct Held<'a> {
     pub policy: &'a Policy,
     pub layout: &'a Layout,
     pub labels: &'a Labels,
-    pub blocks: &'a [Block],
+    pub homes: &'a [Home],
 }
 
 /// What a line tells.
@@ -108,7 +108,7 @@ fn add_words(out: &mut String, words: &Ordered) -> Result<(), AllocError>
 fn joined_text(alloc: Global, held: Held<'_>, part: u64) -> Result<String, AllocError>
     ensures { IfOk result (λ s. string_bytes s ≡ spec.joined_text held.entry.policy.now held.entry.layout.now part) }
 {
-    let groups = groups_of(alloc, held.policy, held.layout, part)?;
+    let groups = groups_at(alloc, held.layout.homes.as_slice(), part)?;
     let names = names_of(alloc, held.policy, groups.as_slice())?;
     let mut out = String::from_str(alloc, "breach joined")?;
     add_words(&mut out, &names)?;
@@ -127,14 +127,14 @@ fn members_of(alloc: Global, policy: &Policy, group: u64) -> Result<Vec<Member>,
 }
 
 fn thread_text(alloc: Global, labels: &Labels, thread: u64) -> Result<String, AllocError>
-    ensures { IfOk result (λ s. string_bytes s ≡ spec.thread_text labels.now thread) }
+    ensures { IfOk result (λ s. string_bytes s ≡ spec.labelled_thread labels.now thread) }
 {
     let thread = object(labels.threads.as_slice(), thread);
     format!(in alloc; "{thread}")
 }
 
 fn threads_text(alloc: Global, labels: &Labels, members: &[Member]) -> Result<Ordered, AllocError>
-    ensures { IfOk result (λ set. map string_bytes set.keys ≡ in_order (map (λ m. spec.thread_text labels.now m.thread) members.now)) }
+    ensures { IfOk result (λ set. map string_bytes set.keys ≡ in_order (map (λ m. spec.labelled_thread labels.now m.thread) members.now)) }
 {
     let mut threads = BTreeSet::new(alloc);
     for member in members {
@@ -161,7 +161,7 @@ fn trusted_text(
     word: &str,
     thread: u64,
 ) -> Result<String, AllocError>
-    ensures { IfOk result (λ s. string_bytes s ≡ word.now ++ (codes " " ++ spec.thread_text held.entry.labels.now thread)) }
+    ensures { IfOk result (λ s. string_bytes s ≡ word.now ++ (codes " " ++ spec.labelled_thread held.entry.labels.now thread)) }
 {
     let thread = object(held.labels.threads.as_slice(), thread);
     format!(in alloc; "{word} {thread}")
@@ -250,7 +250,7 @@ pub fn allowed_badges(alloc: Global, held: Held<'_>, used: PartUse) -> Result<Ve
 }
 
 fn badge_text(alloc: Global, held: Held<'_>, used: PartUse) -> Result<String, AllocError>
-    ensures { IfOk result (λ s. string_bytes s ≡ spec.badge_text held.entry.policy.now held.entry.layout.now held.entry.labels.now used) }
+    ensures { IfOk result (λ s. string_bytes s ≡ spec.badge_breach_text held.entry.policy.now held.entry.layout.now held.entry.labels.now used) }
 {
     let part = part_label(alloc, held.policy, held.layout, used.part)?;
     let capability = capability_text(alloc, held, used)?;
@@ -274,7 +274,7 @@ pub fn allowed_rights(held: Held<'_>, used: PartUse) -> Letters
 }
 
 fn right_text(alloc: Global, held: Held<'_>, used: PartUse) -> Result<String, AllocError>
-    ensures { IfOk result (λ s. string_bytes s ≡ spec.right_text held.entry.policy.now held.entry.layout.now held.entry.labels.now used) }
+    ensures { IfOk result (λ s. string_bytes s ≡ spec.right_breach_text held.entry.policy.now held.entry.layout.now held.entry.labels.now used) }
 {
     let part = part_label(alloc, held.policy, held.layout, used.part)?;
     let capability = capability_text(alloc, held, used)?;
@@ -284,10 +284,10 @@ fn right_text(alloc: Global, held: Held<'_>, used: PartUse) -> Result<String, Al
 
 /// An end of a passage: the groups of the parts, or the thread.
 pub fn end_label(alloc: Global, held: Held<'_>, end: End) -> Result<String, AllocError>
-    ensures { IfOk result (λ s. string_bytes s ≡ spec.end_label held.entry.policy.now held.entry.layout.now held.entry.blocks.now end) }
+    ensures { IfOk result (λ s. string_bytes s ≡ spec.end_label held.entry.policy.now held.entry.homes.now end) }
 {
     if end.is_part {
-        let groups = groups_of_block(alloc, held.policy, held.layout, held.blocks, end.number)?;
+        let groups = groups_at(alloc, held.homes, end.number)?;
         label(alloc, held.policy, groups.as_slice())
     } else {
         String::from_str(alloc, actor_name(held.policy, end.number))
@@ -295,7 +295,7 @@ pub fn end_label(alloc: Global, held: Held<'_>, end: End) -> Result<String, Allo
 }
 
 fn passage_text(alloc: Global, held: Held<'_>, passage: Passage) -> Result<String, AllocError>
-    ensures { IfOk result (λ s. string_bytes s ≡ spec.passage_text held.entry.policy.now held.entry.layout.now held.entry.labels.now held.entry.blocks.now passage) }
+    ensures { IfOk result (λ s. string_bytes s ≡ spec.passage_text held.entry.policy.now held.entry.labels.now held.entry.homes.now passage) }
 {
     let from = end_label(alloc, held, passage.from)?;
     let to = end_label(alloc, held, passage.to)?;
@@ -328,7 +328,7 @@ fn way_text(alloc: Global, held: Held<'_>, way: PolicyWay) -> Result<String, All
 }
 
 fn entry_text(alloc: Global, held: Held<'_>, entry: Allowance) -> Result<String, AllocError>
-    ensures { IfOk result (λ s. string_bytes s ≡ spec.entry_text held.entry.policy.now held.entry.labels.now entry) }
+    ensures { IfOk result (λ s. string_bytes s ≡ spec.unused_entry_text held.entry.policy.now held.entry.labels.now entry) }
 {
     let group = actor_name(held.policy, entry.actor);
     let endpoint = object(held.labels.endpoints.as_slice(), entry.endpoint);
@@ -368,7 +368,7 @@ fn unused_way_text(alloc: Global, held: Held<'_>, way: PolicyWay) -> Result<Stri
 }
 
 fn unused_use_text(alloc: Global, held: Held<'_>, entry: Allowance) -> Result<String, AllocError>
-    ensures { IfOk result (λ s. string_bytes s ≡ codes "unused " ++ spec.entry_text held.entry.policy.now held.entry.labels.now entry) }
+    ensures { IfOk result (λ s. string_bytes s ≡ codes "unused " ++ spec.unused_entry_text held.entry.policy.now held.entry.labels.now entry) }
 {
     let entry = entry_text(alloc, held, entry)?;
     format!(in alloc; "unused {entry}")
@@ -400,9 +400,9 @@ fn unused_region_text(alloc: Global, held: Held<'_>, own: OwnRegion) -> Result<S
 }
 
 fn unused_group_text(alloc: Global, held: Held<'_>, group: u64) -> Result<String, AllocError>
-    ensures { IfOk result (λ s. string_bytes s ≡ spec.unused_group_text held.entry.policy.now held.entry.layout.now held.entry.blocks.now group) }
+    ensures { IfOk result (λ s. string_bytes s ≡ spec.unused_group_text held.entry.policy.now held.entry.homes.now group) }
 {
-    let parts = count_of_parts(alloc, held.layout, held.blocks, group)?;
+    let parts = count_of_parts(held.homes, group);
     let group = actor_name(held.policy, group);
     format!(in alloc; "unused group {group} is {parts} parts")
 }
@@ -413,7 +413,7 @@ fn unused_group_text(alloc: Global, held: Held<'_>, group: u64) -> Result<String
 ///
 /// Memory was refused.
 pub fn told_text(alloc: Global, held: Held<'_>, told: Told) -> Result<String, AllocError>
-    ensures { IfOk result (λ s. string_bytes s ≡ spec.told_text held.entry.policy.now held.entry.layout.now held.entry.labels.now held.entry.blocks.now told) }
+    ensures { IfOk result (λ s. string_bytes s ≡ spec.line_told held.entry.policy.now held.entry.layout.now held.entry.labels.now held.entry.homes.now told) }
 {
     match told {
         Told::Silent(thread) => trusted_text(alloc, held, "silent", thread),

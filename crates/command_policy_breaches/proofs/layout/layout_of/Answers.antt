@@ -13,12 +13,12 @@ returns g c =
     record {
       right = c.requires.parts;
       numbers = search rules;
-      live = search rules;
+      agree = c.waiting-agree.ensures.agree;
+      met = search rules;
       size = search rules;
-      owners_are = search rules;
       homes_are = search rules;
       waits_are = search rules;
-      regions_are = rw c.as_slice-8.ensures.value at (rw c.as_slice-9.ensures.value at c.in_ok-regions.ensures)
+      regions_are = rw c.as_slice-6.ensures.value at (rw c.as_slice-7.ensures.value at c.in_ok-regions.ensures)
           ∙ sym (found_as_shown (region_of memory) (derivation_view p) c.args.rows.now.slots.items)
           ∙ ap (λ l. filter_map (region_of memory) l) c.requires.slots;
     }

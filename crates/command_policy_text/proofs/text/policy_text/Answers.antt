@@ -2,7 +2,7 @@
 use Rattle.std.proofs.Common.{◌≡◌, ◌++◌, ◌+◌, ℕ, List, length, string_bytes, sym, ap, ◌∙◌, rules}
 use Rattle.command_core.specs.declared.fault.Verdict.{Verdict}
 use Rattle.command_policy_text.specs.declared.text.Counts.{Counts}
-use Rattle.command_policy_text.specs.Texts.{text, verdict_of, head_line, last_line, lines_text, first_lines, calls, breaches, unused, breach_count, counts}
+use Rattle.command_policy_text.specs.Texts.{text, verdict_by_count, policy_head_line, last_line, all_lines_text, first_lines, calls_breached, breaches, unused, breach_count, counts}
 use Rattle.command_policy_breaches.specs.Ways.{is_between_parts}
 use Rattle.command_policy_text.proofs.Whole.{lines_behind, as_many, six, counted, all_told}
 use Rattle.command_policy_text.proofs.text.policy_text.Goals as goal
@@ -12,7 +12,7 @@ returns c =
     let p = c.args.held.policy.now in
     let l = c.args.held.layout.now in
     let n = c.args.held.labels.now in
-    let bs = c.args.held.blocks.now in
+    let hs = c.args.held.homes.now in
     let js = c.args.joins.now in
     let ws = c.args.passages.now in
     let setup = c.args.setup.now in
@@ -22,16 +22,16 @@ returns c =
     let idle_long : c.len-5.result ≡ length c.in_ok-unused.unused.items = search rules in
     let groups : c.len-3.result ≡ length p.groups.items = search rules in
     let parts : c.len-4.result ≡ length l.parts.items = search rules in
-    let told : c.len.result ≡ length (calls p setup replies) = told_long ∙ as_many c.in_ok-calls.calls.items _ c.in_ok-calls.ensures in
-    let others : c.len-2.result ≡ length (breaches p l n bs js ws) = others_long ∙ as_many c.in_ok-others.others.items _ c.in_ok-others.ensures in
-    let idle : c.len-5.result ≡ length (unused p l n bs) = idle_long ∙ as_many c.in_ok-unused.unused.items _ c.in_ok-unused.ensures in
-    let numbers = counted p l n bs js ws setup replies c.len-3.result c.len-4.result c.count_between_parts.result c.len.result c.len-2.result c.len-5.result
+    let told : c.len.result ≡ length (calls_breached p setup replies) = told_long ∙ as_many c.in_ok-calls.calls.items _ c.in_ok-calls.ensures in
+    let others : c.len-2.result ≡ length (breaches p l n hs js ws) = others_long ∙ as_many c.in_ok-others.others.items _ c.in_ok-others.ensures in
+    let idle : c.len-5.result ≡ length (unused p l n hs) = idle_long ∙ as_many c.in_ok-unused.unused.items _ c.in_ok-unused.ensures in
+    let numbers = counted p l n hs js ws setup replies c.len-3.result c.len-4.result c.count_between_parts.result c.len.result c.len-2.result c.len-5.result
     groups parts c.count_between_parts.ensures told others idle in
     let written : c.into_bytes.result.items ≡ string_bytes c.add_counts.new.out = search rules in
-    let head : string_bytes c.add_head.new.out ≡ head_line setup (length replies) = search rules in
-    let verdict : c.verdict_of.result ≡ verdict_of (breach_count p l n bs js ws setup replies) =
-    c.verdict_of.ensures ∙ ap (λ (k : Counts). verdict_of k.breaches) numbers in
-    all_told p l n bs js ws setup replies _ _
+    let head : string_bytes c.add_head.new.out ≡ policy_head_line setup (length replies) = search rules in
+    let verdict : c.verdict_of.result ≡ verdict_by_count (breach_count p l n hs js ws setup replies) =
+    c.verdict_of.ensures ∙ ap (λ (k : Counts). verdict_by_count k.breaches) numbers in
+    all_told p l n hs js ws setup replies _ _
     (written ∙ six _ _ _ _ _ _ _ _ _ _ _ _ head
     (lines_behind c.in_ok-first.first.items _ _ _ c.in_ok-first.ensures (rw c.as_slice.ensures.value at c.in_ok-add_lines.ensures))
     (lines_behind c.in_ok-calls.calls.items _ _ _ c.in_ok-calls.ensures (rw c.as_slice-2.ensures.value at c.in_ok-add_lines-2.ensures))
