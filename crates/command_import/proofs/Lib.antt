@@ -1,3 +1,7 @@
 pub mod Rows
 pub mod Passed
 pub mod Made
+pub mod Told
+pub mod Alike
+pub mod Lists
+pub mod Named

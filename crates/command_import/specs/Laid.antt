@@ -31,25 +31,25 @@ kind_number kind.CNode = 2
 kind_number kind.Tcb = 3
 
 -- two objects of a layout are one object of the state: of one kind and one size, at one address
-abbrev pub is_same : Object → Object → Bool
-is_same a b = kind_number a.kind == kind_number b.kind && (a.place == b.place && a.bits == b.bits)
+abbrev pub are_same_object : Object → Object → Bool
+are_same_object a b = kind_number a.kind == kind_number b.kind && (a.place == b.place && a.bits == b.bits)
 
 -- no two are
-abbrev pub are_apart : List Object → Bool
-are_apart [] = true
-are_apart (object ∷ objects) = not (list_any (is_same object) objects) && are_apart objects
+abbrev pub are_objects_apart : List Object → Bool
+are_objects_apart [] = true
+are_objects_apart (object ∷ objects) = not (list_any (are_same_object object) objects) && are_objects_apart objects
 
 -- a capability is of an object of the layout
-abbrev pub is_of : Kind → Cap → Object → Bool
-is_of kind.Untyped (Untyped base bits free) object = base == object.place && bits == object.bits
-is_of kind.Endpoint (Endpoint base badge rights) object = base == object.place
-is_of kind.CNode (CNode base radix guard) object = base == object.place && radix == object.bits
-is_of kind.Tcb (Tcb base) object = base == object.place
-is_of _ _ object = false
+abbrev pub is_capability_of : Kind → Cap → Object → Bool
+is_capability_of kind.Untyped (Untyped base bits free) object = base == object.place && bits == object.bits
+is_capability_of kind.Endpoint (Endpoint base badge rights) object = base == object.place
+is_capability_of kind.CNode (CNode base radix guard) object = base == object.place && radix == object.bits
+is_capability_of kind.Tcb (Tcb base) object = base == object.place
+is_capability_of _ _ object = false
 
 -- an object is live: some slot holds a capability of it
-abbrev pub is_live : Rows → Object → Bool
-is_live rows object = list_any (λ (row : Entry × Option ℕ). is_of object.kind row.0.cap object) rows
+abbrev pub is_object_live : Rows → Object → Bool
+is_object_live rows object = list_any (λ (row : Entry × Option ℕ). is_capability_of object.kind row.0.cap object) rows
 
 -- a thread is ready, or inactive where the layout says so
 abbrev pub is_state : Bool → Option ThreadState → Bool
@@ -83,16 +83,16 @@ address_in p slot None = None
 address_in p slot (Some holder) = Some (slot_place p holder slot)
 
 -- the address of a slot of the layout
-abbrev pub address_of : ProfileName → List Object → Slot → Option ℕ
-address_of p objects slot = address_in p slot (slice_get objects slot.holder)
+abbrev pub layout_slot_address : ProfileName → List Object → Slot → Option ℕ
+layout_slot_address p objects slot = address_in p slot (slice_get objects slot.holder)
 
 -- the slot at an address holds what the layout says
 abbrev pub holds : Forest Entry → Slot → Option ℕ → Option Object → Bool
-holds f slot (Some address) (Some object) = is_of object.kind (cap_at f address) object && is_cap_with object.kind (cap_at f address) slot
+holds f slot (Some address) (Some object) = is_capability_of object.kind (cap_at f address) object && is_cap_with object.kind (cap_at f address) slot
 holds f slot _ _ = false
 
-abbrev pub is_filled : ProfileName → List Object → Forest Entry → Slot → Bool
-is_filled p objects f slot = holds f slot (address_of p objects slot) (slice_get objects slot.object)
+abbrev pub is_slot_filled : ProfileName → List Object → Forest Entry → Slot → Bool
+is_slot_filled p objects f slot = holds f slot (layout_slot_address p objects slot) (slice_get objects slot.object)
 
 abbrev pub is_number : ℕ → Option ℕ → Bool
 is_number n None = false
@@ -101,7 +101,7 @@ is_number n (Some m) = m == n
 -- a full slot is one of the root CNode, which stands at 0 and ends at an address, the loader's, or one that the layout fills
 abbrev pub is_known : ProfileName → ℕ → ℕ → List Object → List Slot → ℕ → Bool
 is_known p end loader objects slots address =
-    nat_lt address end || (address == loader || list_any (λ slot. is_number address (address_of p objects slot)) slots)
+    nat_lt address end || (address == loader || list_any (λ slot. is_number address (layout_slot_address p objects slot)) slots)
 
 abbrev pub are_known : ProfileName → Plan → List Object → List Slot → Rows → Bool
 are_known p plan objects slots rows =
@@ -111,7 +111,7 @@ are_known p plan objects slots rows =
 
 abbrev pub address_if : ProfileName → List Object → Option Slot → Option ℕ
 address_if p objects None = None
-address_if p objects (Some slot) = address_of p objects slot
+address_if p objects (Some slot) = layout_slot_address p objects slot
 
 abbrev pub address_at : ProfileName → List Object → List Slot → ℕ → Option ℕ
 address_at p objects slots number = address_if p objects (slice_get slots number)
@@ -134,9 +134,9 @@ is_derived p objects slots rows pair = is_right_below rows (address_at p objects
 -- holds its capability, and no other slot is full but the root CNode's and the loader's; and of two slots of which the layout says so
 -- the one is derived from the other
 pub record IsLaidOut (p : ProfileName) (plan : Plan) (layout : Layout) (v : Shown) : Type 0 where
-  pub apart : are_apart layout.objects.items ≡ true
-  pub live : list_all (is_live (derivations_of v.derivations)) layout.objects.items ≡ true
+  pub apart : are_objects_apart layout.objects.items ≡ true
+  pub live : list_all (is_object_live (derivations_of v.derivations)) layout.objects.items ≡ true
   pub states : list_all (stands v) layout.objects.items ≡ true
-  pub slots : list_all (is_filled p layout.objects.items v.derivations) layout.slots.items ≡ true
+  pub slots : list_all (is_slot_filled p layout.objects.items v.derivations) layout.slots.items ≡ true
   pub no_others : are_known p plan layout.objects.items layout.slots.items (derivations_of v.derivations) ≡ true
   pub derived : list_all (is_derived p layout.objects.items layout.slots.items (derivations_of v.derivations)) layout.derived.items ≡ true

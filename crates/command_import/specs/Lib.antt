@@ -1,4 +1,5 @@
 pub mod Laid
 pub mod Listing
+pub mod Told
 pub mod Import
 pub mod Private

@@ -1,5 +1,6 @@
--- What the slots of a layout hold, a line a slot, in the layout's own names.
-use Rattle.std.specs.Prelude.{ℕ, codes, List, [], ◌++◌, Option, Some, slice_get, string_bytes}
+-- What was read of a layout, in its own names: a line for what each slot holds, for each thread that makes no calls, and for each slot
+-- that is derived from another one.
+use Rattle.std.specs.Prelude.{ℕ, Bool, true, codes, List, [], ◌++◌, Option, Some, None, slice_get, string_bytes}
 use Rattle.std.specs.Fmt.{decimal}
 use Rattle.std.specs.List.{flat_map}
 use Rattle.cap_core.specs.declared.capability.Kind.{Kind}
@@ -10,9 +11,9 @@ use Rattle.setup_layout.specs.declared.layout.Object.{Object}
 use Rattle.setup_layout.specs.declared.layout.Slot.{Slot}
 
 -- the slot: that of a thread is the one in which its space begins
-abbrev pub place_of : Kind → Object → Slot → List ℕ
-place_of Tcb holder slot = string_bytes holder.name ++ codes ".cspace"
-place_of _ holder slot = string_bytes holder.name ++ (codes "[" ++ (decimal slot.index ++ codes "]"))
+abbrev pub listed_place : Kind → Object → Slot → List ℕ
+listed_place Tcb holder slot = string_bytes holder.name ++ codes ".cspace"
+listed_place _ holder slot = string_bytes holder.name ++ (codes "[" ++ (decimal slot.index ++ codes "]"))
 
 -- its capability: the object, with the badge and the rights, or with the guard
 abbrev pub held_of : Kind → Object → Slot → List ℕ
@@ -25,13 +26,38 @@ held_of CNode object slot =
 held_of Tcb object slot = codes " tcb " ++ (string_bytes object.name ++ codes "\n")
 
 abbrev pub line_of : List ℕ → Option Object → Option Object → Slot → List ℕ
-line_of prefix (Some holder) (Some object) slot = prefix ++ (place_of holder.kind holder slot ++ held_of object.kind object slot)
+line_of prefix (Some holder) (Some object) slot = prefix ++ (listed_place holder.kind holder slot ++ held_of object.kind object slot)
 line_of prefix _ _ slot = []
 
 -- the line of a slot, behind a prefix
-abbrev pub slot_line : List ℕ → List Object → Slot → List ℕ
-slot_line prefix objects slot = line_of prefix (slice_get objects slot.holder) (slice_get objects slot.object) slot
+abbrev pub listing_line : List ℕ → List Object → Slot → List ℕ
+listing_line prefix objects slot = line_of prefix (slice_get objects slot.holder) (slice_get objects slot.object) slot
 
--- the lines of all slots
-abbrev pub lines_of : List ℕ → Layout → List ℕ
-lines_of prefix layout = flat_map (slot_line prefix layout.objects.items) layout.slots.items
+abbrev pub inactive_of : Kind → Bool → List ℕ → Object → List ℕ
+inactive_of Tcb true prefix object = prefix ++ (string_bytes object.name ++ codes " inactive\n")
+inactive_of _ _ prefix object = []
+
+-- the line of a thread that makes no calls, behind a prefix
+abbrev pub inactive_line : List ℕ → Object → List ℕ
+inactive_line prefix object = inactive_of object.kind object.is_inactive prefix object
+
+abbrev pub holder_place : Option Object → Slot → List ℕ
+holder_place None slot = []
+holder_place (Some holder) slot = listed_place holder.kind holder slot
+
+abbrev pub below_line : List ℕ → List Object → Option Slot → Option Slot → List ℕ
+below_line prefix objects (Some above) (Some below) =
+    prefix ++ (holder_place (slice_get objects below.holder) below
+    ++ (codes " below " ++ (holder_place (slice_get objects above.holder) above ++ codes "\n")))
+below_line prefix objects _ _ = []
+
+-- the line of two slots of which the second is derived from the first, behind a prefix
+abbrev pub pair_line : List ℕ → List Object → List Slot → ℕ × ℕ → List ℕ
+pair_line prefix objects slots pair = below_line prefix objects (slice_get slots pair.0) (slice_get slots pair.1)
+
+-- the lines of all slots, of all such threads, and of all such slots
+abbrev pub listing_lines : List ℕ → Layout → List ℕ
+listing_lines prefix layout =
+    flat_map (listing_line prefix layout.objects.items) layout.slots.items
+    ++ (flat_map (inactive_line prefix) layout.objects.items
+    ++ flat_map (pair_line prefix layout.objects.items layout.slots.items) layout.derived.items)

@@ -172,8 +172,12 @@ impl<'a> Calls<'a> {
         ) else {
             return false;
         };
-        let is_same_source = self.places.sources.get(before).copied()
-            == self.places.sources.get(next).copied();
+        let sources = self.places.sources.as_slice();
+        let is_same_source = match (sources.get(before), sources.get(next)) {
+            (Some(Source::Region(region)), Some(Source::Region(behind))) => region == behind,
+            (Some(Source::Cover(cover)), Some(Source::Cover(behind))) => cover == behind,
+            _ => false,
+        };
         count < MAX_RETYPE_COUNT
             && is_same_source
             && one.kind == other.kind

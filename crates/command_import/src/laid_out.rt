@@ -29,7 +29,7 @@ fn kind_number(kind: Kind) -> u8
 
 /// Whether two objects of a layout are one object.
 fn is_same(one: &Object, other: &Object) -> bool
-    ensures { result ≡ spec.is_same one.now other.now }
+    ensures { result ≡ spec.are_same_object one.now other.now }
 {
     kind_number(one.kind) == kind_number(other.kind)
         && (one.place == other.place && one.bits == other.bits)
@@ -37,14 +37,14 @@ fn is_same(one: &Object, other: &Object) -> bool
 
 /// Whether an object of a layout is one of these.
 fn is_among(object: &Object, others: &[Object]) -> bool
-    ensures { result ≡ list_any (spec.is_same object.now) others.now }
+    ensures { result ≡ list_any (spec.are_same_object object.now) others.now }
 {
     others.iter().any(|other| is_same(object, other))
 }
 
 /// Whether no two objects of a layout are one.
 fn are_apart(objects: &[Object]) -> bool
-    ensures { result ≡ spec.are_apart objects.now }
+    ensures { result ≡ spec.are_objects_apart objects.now }
 {
     let mut rest = objects;
     while let Some((object, others)) = rest.split_first() {
@@ -58,7 +58,7 @@ fn are_apart(objects: &[Object]) -> bool
 
 /// Whether a capability is of an object.
 fn is_of(object: &Object, cap: Cap) -> bool
-    ensures { result ≡ spec.is_of object.now.kind cap object.now }
+    ensures { result ≡ spec.is_capability_of object.now.kind cap object.now }
 {
     let place = u64::from(object.place);
     match (object.kind, cap) {
@@ -72,21 +72,21 @@ fn is_of(object: &Object, cap: Cap) -> bool
 
 /// Whether one of these capabilities is of an object.
 fn is_held_in<P: Profile>(object: &Object, rows: &[Derivation]) -> bool
-    ensures { result ≡ list_any (λ d. spec.is_of object.now.kind (derivation_view P.profile d).0.cap object.now) rows.now }
+    ensures { result ≡ list_any (λ d. spec.is_capability_of object.now.kind (derivation_view P.profile d).0.cap object.now) rows.now }
 {
     rows.iter().any(|row| is_of(object, row.cap))
 }
 
 /// Whether some slot holds a capability of an object.
 fn is_live<P: Profile>(object: &Object, rows: &[Derivation]) -> bool
-    ensures { result ≡ spec.is_live (map (derivation_view P.profile) rows.now) object.now }
+    ensures { result ≡ spec.is_object_live (map (derivation_view P.profile) rows.now) object.now }
 {
     is_held_in::<P>(object, rows)
 }
 
 /// Whether each object of a layout is live.
 fn are_live<P: Profile>(objects: &[Object], rows: &[Derivation]) -> bool
-    ensures { result ≡ list_all (spec.is_live (map (derivation_view P.profile) rows.now)) objects.now }
+    ensures { result ≡ list_all (spec.is_object_live (map (derivation_view P.profile) rows.now)) objects.now }
 {
     objects.iter().all(|object| is_live::<P>(object, rows))
 }
@@ -161,7 +161,7 @@ fn slot_address<P: Profile>(place: u32, index: u32) -> u64
 
 /// The address of a slot of a layout.
 fn address_of<P: Profile>(objects: &[Object], slot: &Slot) -> Option<u64>
-    ensures { result ≡ spec.address_of P.profile objects.now slot.now }
+    ensures { result ≡ spec.layout_slot_address P.profile objects.now slot.now }
 {
     match objects.get(slot.holder) {
         None => None,
@@ -171,7 +171,7 @@ fn address_of<P: Profile>(objects: &[Object], slot: &Slot) -> Option<u64>
 
 /// Whether a capability is that of a slot of a layout.
 fn is_held(object: &Object, cap: Cap, slot: &Slot) -> bool
-    ensures { result ≡ (spec.is_of object.now.kind cap object.now && spec.is_cap_with object.now.kind cap slot.now) }
+    ensures { result ≡ (spec.is_capability_of object.now.kind cap object.now && spec.is_cap_with object.now.kind cap slot.now) }
 {
     is_of(object, cap) && is_cap_with(object.kind, cap, slot)
 }
@@ -182,7 +182,7 @@ fn is_filled<P: Profile, S: DerivationStore<P> + MakeStore<P>, W: MakeWaiters<P>
     slot: &Slot,
     kernel: &Kernel<P, S, W>,
 ) -> bool
-    ensures { result ≡ spec.is_filled P.profile objects.now kernel.now.derivations slot.now }
+    ensures { result ≡ spec.is_slot_filled P.profile objects.now kernel.now.derivations slot.now }
 {
     match (address_of::<P>(objects, slot), objects.get(slot.object)) {
         (Some(address), Some(object)) => is_held(object, kernel.cap_at(address), slot),
@@ -196,7 +196,7 @@ fn are_filled<P: Profile, S: DerivationStore<P> + MakeStore<P>, W: MakeWaiters<P
     slots: &[Slot],
     kernel: &Kernel<P, S, W>,
 ) -> bool
-    ensures { result ≡ list_all (spec.is_filled P.profile objects.now kernel.now.derivations) slots.now }
+    ensures { result ≡ list_all (spec.is_slot_filled P.profile objects.now kernel.now.derivations) slots.now }
 {
     slots.iter().all(|slot| is_filled(objects, slot, kernel))
 }
@@ -213,7 +213,7 @@ fn is_number(number: u64, address: Option<u64>) -> bool
 
 /// Whether a layout fills the slot at an address.
 fn is_said<P: Profile>(objects: &[Object], slots: &[Slot], address: u64) -> bool
-    ensures { result ≡ list_any (λ slot. spec.is_number address (spec.address_of P.profile objects.now slot)) slots.now }
+    ensures { result ≡ list_any (λ slot. spec.is_number address (spec.layout_slot_address P.profile objects.now slot)) slots.now }
 {
     slots
         .iter()

@@ -4,11 +4,13 @@
 
 mod calls;
 mod laid_out;
+mod laws;
 mod listing;
 mod making;
 mod names;
 mod text;
 
 pub use laid_out::is_laid_out;
+pub use laws::{layouts_of_one_listing_are_laid_out_alike, listings_tell_layouts};
 pub use making::Importer;
 pub use setup_layout::Reading;

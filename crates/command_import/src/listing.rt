@@ -1,7 +1,8 @@
-//! What was read of a layout, a line a slot.
-ghost use Rattle.std.specs.Prelude.{◌≡◌, ◌++◌, string_bytes, OnOk, IfOk};
-ghost use Rattle.std.specs.List.{flat_map};
+//! What was read of a layout, in lines.
+ghost use Rattle.std.specs.Prelude.{◌≡◌, ◌++◌, string_bytes, OnOk, IfOk, Some, slice_get};
+ghost use Rattle.std.specs.List.{flat_map, list_all};
 ghost use Rattle.command_import.specs.Listing as spec;
+ghost use Rattle.command_import.specs.Told as told;
 
 use cap_core::Kind;
 use setup_layout::{Layout, Object, Slot};
@@ -9,9 +10,23 @@ use setup_report::RightsText;
 use std::alloc::{AllocError, Global};
 use std::fmt::Write;
 
+/// Whether the name of an object is a word: no byte of it is a blank, a line feed, or another one up to these.
+fn has_word(object: &Object) -> bool
+    ensures { result ≡ told.has_word object.now }
+{
+    object.name.as_bytes().iter().all(|byte| *byte > 32)
+}
+
+/// Whether the names of these objects are words, so that a listing tells where they end.
+pub fn are_words(objects: &[Object]) -> bool
+    ensures { result ≡ list_all told.has_word objects.now }
+{
+    objects.iter().all(|object| has_word(object))
+}
+
 /// Adds the name of a slot.
 fn add_place(out: &mut String, holder: &Object, slot: &Slot) -> Result<(), AllocError>
-    ensures { OnOk result (string_bytes out.new ≡ string_bytes out.old ++ spec.place_of holder.now.kind holder.now slot.now) }
+    ensures { OnOk result (string_bytes out.new ≡ string_bytes out.old ++ spec.listed_place holder.now.kind holder.now slot.now) }
 {
     let (name, index) = (holder.name.as_str(), slot.index);
     match holder.kind {
@@ -54,7 +69,7 @@ fn add_line(
     slot: &Slot,
 ) -> Result<(), AllocError>
     ensures { OnOk result (string_bytes out.new ≡ string_bytes out.old
-        ++ (prefix.now ++ (spec.place_of holder.now.kind holder.now slot.now ++ spec.held_of object.now.kind object.now slot.now))) }
+        ++ (prefix.now ++ (spec.listed_place holder.now.kind holder.now slot.now ++ spec.held_of object.now.kind object.now slot.now))) }
 {
     out.push_str(prefix)?;
     add_place(out, holder, slot)?;
@@ -68,7 +83,7 @@ fn add_slot(
     objects: &[Object],
     slot: &Slot,
 ) -> Result<(), AllocError>
-    ensures { OnOk result (string_bytes out.new ≡ string_bytes out.old ++ spec.slot_line prefix.now objects.now slot.now) }
+    ensures { OnOk result (string_bytes out.new ≡ string_bytes out.old ++ spec.listing_line prefix.now objects.now slot.now) }
 {
     match (objects.get(slot.holder), objects.get(slot.object)) {
         (Some(holder), Some(object)) => add_line(out, prefix, holder, object, slot),
@@ -83,7 +98,7 @@ fn add_slots(
     objects: &[Object],
     slots: &[Slot],
 ) -> Result<(), AllocError>
-    ensures { OnOk result (string_bytes out.new ≡ string_bytes out.old ++ flat_map (spec.slot_line prefix.now objects.now) slots.now) }
+    ensures { OnOk result (string_bytes out.new ≡ string_bytes out.old ++ flat_map (spec.listing_line prefix.now objects.now) slots.now) }
 {
     for slot in slots {
         add_slot(out, prefix, objects, slot)?;
@@ -91,16 +106,99 @@ fn add_slots(
     Ok(())
 }
 
-/// The slots of a layout, by their holders and their numbers in the layout's own names, each in a line behind a prefix.
+/// Adds the line of a thread, behind a prefix, where it makes no calls.
+fn add_inactive(out: &mut String, prefix: &str, object: &Object) -> Result<(), AllocError>
+    ensures { OnOk result (string_bytes out.new ≡ string_bytes out.old ++ spec.inactive_line prefix.now object.now) }
+{
+    let name = object.name.as_str();
+    match (object.kind, object.is_inactive) {
+        (Kind::Tcb, true) => writeln!(out, "{prefix}{name} inactive"),
+        _ => Ok(()),
+    }
+}
+
+/// Adds a line for each thread that makes no calls.
+fn add_all_inactive(out: &mut String, prefix: &str, objects: &[Object]) -> Result<(), AllocError>
+    ensures { OnOk result (string_bytes out.new ≡ string_bytes out.old ++ flat_map (spec.inactive_line prefix.now) objects.now) }
+{
+    for object in objects {
+        add_inactive(out, prefix, object)?;
+    }
+    Ok(())
+}
+
+/// Adds the name of a slot, where its holder is there.
+fn add_place_in(out: &mut String, objects: &[Object], slot: &Slot) -> Result<(), AllocError>
+    ensures { OnOk result (string_bytes out.new ≡ string_bytes out.old ++ spec.holder_place (slice_get objects.now slot.now.holder) slot.now) }
+{
+    match objects.get(slot.holder) {
+        Some(holder) => add_place(out, holder, slot),
+        None => Ok(()),
+    }
+}
+
+/// Adds the line of a slot that is derived from another one, behind a prefix.
+fn add_below(
+    out: &mut String,
+    prefix: &str,
+    objects: &[Object],
+    above: &Slot,
+    below: &Slot,
+) -> Result<(), AllocError>
+    ensures { OnOk result (string_bytes out.new ≡ string_bytes out.old ++ spec.below_line prefix.now objects.now (Some above.now) (Some below.now)) }
+{
+    out.push_str(prefix)?;
+    add_place_in(out, objects, below)?;
+    out.push_str(" below ")?;
+    add_place_in(out, objects, above)?;
+    out.push('\n')
+}
+
+/// Adds the line of two slots by their places, where they are there.
+fn add_pair(
+    out: &mut String,
+    prefix: &str,
+    objects: &[Object],
+    slots: &[Slot],
+    pair: (usize, usize),
+) -> Result<(), AllocError>
+    ensures { OnOk result (string_bytes out.new ≡ string_bytes out.old ++ spec.pair_line prefix.now objects.now slots.now pair) }
+{
+    match (slots.get(pair.0), slots.get(pair.1)) {
+        (Some(above), Some(below)) => add_below(out, prefix, objects, above, below),
+        _ => Ok(()),
+    }
+}
+
+/// Adds a line for each slot that is derived from another one.
+fn add_pairs(
+    out: &mut String,
+    prefix: &str,
+    objects: &[Object],
+    slots: &[Slot],
+    derived: &[(usize, usize)],
+) -> Result<(), AllocError>
+    ensures { OnOk result (string_bytes out.new ≡ string_bytes out.old ++ flat_map (spec.pair_line prefix.now objects.now slots.now) derived.now) }
+{
+    for pair in derived {
+        add_pair(out, prefix, objects, slots, *pair)?;
+    }
+    Ok(())
+}
+
+/// What was read of a layout, in its own names: what each slot holds, the threads that make no calls, and which slot is derived from
+/// which, each in a line behind a prefix.
 ///
 /// # Errors
 ///
 /// Memory was refused.
 pub fn listing_text(alloc: Global, layout: &Layout, prefix: &str) -> Result<String, AllocError>
-    ensures { IfOk result (λ text. string_bytes text ≡ spec.lines_of prefix.now layout.now) }
+    ensures { IfOk result (λ text. string_bytes text ≡ spec.listing_lines prefix.now layout.now) }
 {
     let mut out = String::new(alloc);
     let (objects, slots) = (layout.objects.as_slice(), layout.slots.as_slice());
     add_slots(&mut out, prefix, objects, slots)?;
+    add_all_inactive(&mut out, prefix, objects)?;
+    add_pairs(&mut out, prefix, objects, slots, layout.derived.as_slice())?;
     Ok(out)
 }

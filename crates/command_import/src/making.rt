@@ -6,11 +6,11 @@ ghost use Rattle.setup_format.specs.Read.{read_view};
 ghost use Rattle.setup_format.specs.Setups.{read_of_bytes};
 ghost use Rattle.setup_report.specs.Behind.{state_behind};
 ghost use Rattle.command_import.specs.Import.{ComesTo, IsImported};
-ghost use Rattle.command_import.specs.Listing.{lines_of};
+ghost use Rattle.command_import.specs.Listing.{listing_lines};
 ghost use Rattle.command_import.specs.Laid.{IsLaidOut};
 
 use crate::laid_out::is_laid_out;
-use crate::listing::listing_text;
+use crate::listing::{are_words, listing_text};
 use crate::text::setup_text;
 use cap_core::{Narrow, Profile, ProfileName, Wide};
 use command_core::{Answer, Engine, RunFault, Verdict};
@@ -59,7 +59,7 @@ fn comes_from<P: Profile, S: DerivationStore<P> + MakeStore<P>, W: MakeWaiters<P
     let Some(made) = accepted(alloc, text)? else {
         return Ok(false);
     };
-    if made.setup.profile() != layout.profile {
+    if made.setup.profile() != layout.profile || !are_words(layout.objects.as_slice()) {
         return Ok(false);
     }
     comes_to::<P, S, W>(alloc, layout, &made.setup)
@@ -83,7 +83,10 @@ fn does_come_to(alloc: Global, layout: &Layout, text: &[u8]) -> Result<bool, All
 fn refused(alloc: Global, layout: &Layout) -> Result<Answer, AllocError>
     ensures { IfOk result (λ made. made.verdict ≡ Verdict.Refused) }
 {
-    let line = layout.faults.first_line();
+    let line = match layout.faults.told.first() {
+        Some(fault) => fault.spot.line,
+        None => 1,
+    };
     let text = format!(in alloc; "layout refused at {line}\n")?;
     Ok(Answer::new(alloc, text.into_bytes(), Verdict::Refused))
 }
@@ -98,7 +101,7 @@ fn listed(alloc: Global, layout: &Layout) -> Result<Answer, AllocError>
 
 /// A text that lists the slots of a layout at its beginning, where it is read as a set-up whose calls come to the layout; else nothing.
 fn tested(alloc: Global, layout: &Layout, text: Vec<u8>) -> Result<Answer, AllocError>
-    requires { (rest : List ℕ) × (text.items ≡ lines_of (codes "# ") layout.now ++ rest) }
+    requires { (rest : List ℕ) × (text.items ≡ listing_lines (codes "# ") layout.now ++ rest) }
     ensures { IfOk result (λ made. IsImported false made.text.items made.verdict) }
 {
     let comes = does_come_to(alloc, layout, text.as_slice())?;
@@ -110,7 +113,7 @@ fn tested(alloc: Global, layout: &Layout, text: Vec<u8>) -> Result<Answer, Alloc
 
 /// The text of a set-up of a layout, which begins with a list of what its slots hold.
 fn text_of(alloc: Global, layout: &Layout, places: &Places) -> Result<String, AllocError>
-    ensures { IfOk result (λ text. (rest : List ℕ) × (string_bytes text ≡ lines_of (codes "# ") layout.now ++ rest)) }
+    ensures { IfOk result (λ text. (rest : List ℕ) × (string_bytes text ≡ listing_lines (codes "# ") layout.now ++ rest)) }
 {
     let rest = setup_text(alloc, layout, places)?;
     let mut text = listing_text(alloc, layout, "# ")?;
@@ -118,7 +121,7 @@ fn text_of(alloc: Global, layout: &Layout, places: &Places) -> Result<String, Al
     Ok(text)
 }
 
-/// A set-up of the layout that the input is as capDL text, or, with `listing`, what each slot of it holds. The verdict is `Refused`
+/// A set-up of the layout that the input is as capDL text, or, with `listing`, what was read of it, in lines. The verdict is `Refused`
 /// where the layout has faults, and `Absent`, with nothing written, where the set-up that was made does not come to the layout.
 #[derive(Clone, Copy)]
 pub struct Importer {

@@ -92,27 +92,6 @@ fn slot_of<'a>(
     found
 }
 
-/// Whether a slot can hold the capability that the making of its object gives: all rights, no badge and no guard. A CNode whose slots
-/// are filled by that capability is none of these.
-fn can_be_original(slot: &Slot, objects: &[Object]) -> bool {
-    let (Some(object), Some(holder)) = (objects.get(slot.object), objects.get(slot.holder)) else {
-        return false;
-    };
-    let is_plain = slot.badge == 0 && slot.guard.size == 0 && slot.guard.value == 0;
-    match object.kind {
-        Kind::Endpoint => is_plain && slot.rights == Rights::ALL,
-        Kind::CNode => is_plain && holder.kind == Kind::CNode && slot.holder != slot.object,
-        _ => is_plain && holder.kind == Kind::CNode,
-    }
-}
-
-/// Whether a capability of an endpoint can be derived from one with a badge, so that it stands below it.
-fn is_badge_kept(above: &Slot, below: &Slot) -> bool {
-    above.badge != 0
-        && above.badge == below.badge
-        && above.rights.0 | below.rights.0 == above.rights.0
-}
-
 impl<'a> Tree<'a> {
     /// No derivation is read yet.
     pub fn new(alloc: Global) -> Tree<'a> {
@@ -199,14 +178,29 @@ impl<'a> Tree<'a> {
         }
     }
 
-    /// Finds the slots that hold the originals.
+    /// Finds the slots that hold the originals: what the making of an object gives has all rights, no badge and no guard. A CNode whose
+    /// slots are filled by that capability is none of these.
     fn find_originals(&mut self, slots: &[Slot], objects: &[Object]) {
         for pair in self.pairs.as_slice() {
-            if let (Some(slot), Some(None)) = (slots.get(pair.above), self.parents.get(pair.above))
-                && can_be_original(slot, objects)
-                && let Some(original) = self.originals.get_mut(slot.object)
-                && original.is_none()
-            {
+            let (Some(slot), Some(None)) = (slots.get(pair.above), self.parents.get(pair.above))
+            else {
+                continue;
+            };
+            let (Some(object), Some(holder), Some(original)) = (
+                objects.get(slot.object),
+                objects.get(slot.holder),
+                self.originals.get_mut(slot.object),
+            ) else {
+                continue;
+            };
+            let is_in_node = holder.kind == Kind::CNode;
+            let can_be = match object.kind {
+                Kind::Endpoint => slot.rights == Rights::ALL,
+                Kind::CNode => is_in_node && slot.holder != slot.object,
+                _ => is_in_node,
+            };
+            let is_plain = slot.badge == 0 && slot.guard.size == 0 && slot.guard.value == 0;
+            if is_plain && can_be && original.is_none() {
                 *original = Some(pair.above);
             }
         }
@@ -224,12 +218,15 @@ impl<'a> Tree<'a> {
         false
     }
 
-    /// Whether a kernel can have one slot derived from the other.
+    /// Whether a kernel can have one slot derived from the other: from the original, or from an endpoint's capability with a badge,
+    /// which it keeps.
     fn is_kept(&self, pair: Pair, above: &Slot, below: &Slot) -> bool {
         let original = self.originals.get(above.object).copied().flatten();
         let parent = self.parents.get(pair.above).copied().flatten();
         let is_second = parent == original || parent.is_none();
-        original == Some(pair.above) || is_second && is_badge_kept(above, below)
+        let is_badge_kept = above.badge != 0 && above.badge == below.badge;
+        let are_rights_kept = above.rights.0 | below.rights.0 == above.rights.0;
+        original == Some(pair.above) || is_second && is_badge_kept && are_rights_kept
     }
 
     /// The pairs of a layout that a kernel can have, by the places of their slots. Another pair is a note, and no pair of the layout.

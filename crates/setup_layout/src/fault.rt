@@ -2,7 +2,7 @@
 use crate::scanner::Spot;
 use setup_positions::NamedText;
 use std::alloc::{AllocError, Global};
-use std::fmt::{self, Display, Write};
+use std::fmt::{Display, Write};
 use strsim::osa_distance;
 
 /// The most faults, and the most notes, that are told.
@@ -20,19 +20,6 @@ pub struct Remark {
     pub spot: Spot,
     /// The words.
     pub words: String,
-}
-
-/// The question whether a name was meant that looks like what was found; nothing where none does.
-#[derive(Clone, Copy)]
-pub struct Hint<'a>(Option<&'a str>);
-
-impl Display for Hint<'_> {
-    fn fmt<W: Write>(&self, f: &mut fmt::Formatter<W>) -> fmt::Result {
-        match self.0 {
-            Some(name) => write!(f, "; did you mean {name}?"),
-            None => Ok(()),
-        }
-    }
 }
 
 /// What is said of the parts of a text, in the order in which it was found: so many remarks at the most, and how many more.
@@ -59,19 +46,6 @@ impl Remarks {
     /// Whether no more is told, but counted.
     pub fn is_full(&self) -> bool {
         self.told.len() >= MOST_TOLD
-    }
-
-    /// Whether nothing is said.
-    pub fn is_empty(&self) -> bool {
-        self.told.is_empty()
-    }
-
-    /// The line of the first.
-    pub fn first_line(&self) -> usize {
-        match self.told.first() {
-            Some(remark) => remark.spot.line,
-            None => 1,
-        }
     }
 
     /// Says something of a part of the text.
@@ -102,11 +76,11 @@ impl Remarks {
         Ok(())
     }
 
-    /// The one of these names that looks most like what was found.
-    pub fn hint<'n>(&mut self, found: &str, names: &[&'n str]) -> Hint<'n> {
+    /// The question whether the one of these names was meant that looks most like what was found; nothing where none does.
+    pub fn hint(&mut self, found: &str, names: &[&str]) -> String {
         let (mut nearest, mut fewest) = (None, MAX_EDITS + 1);
         if self.is_full() || found.len() > MAX_LENGTH {
-            return Hint(None);
+            return String::new(self.alloc);
         }
         for name in names {
             if name.len().abs_diff(found.len()) <= MAX_EDITS {
@@ -117,6 +91,11 @@ impl Remarks {
                 }
             }
         }
-        Hint(nearest)
+        let hint = match nearest {
+            Some(name) => format!(in self.alloc; "; did you mean {name}?"),
+            None => Ok(String::new(self.alloc)),
+        };
+        self.is_refused |= hint.is_err();
+        hint.unwrap_or(String::new(self.alloc))
     }
 }

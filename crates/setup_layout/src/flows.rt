@@ -16,7 +16,7 @@ type Held = (usize, usize, u8, u64, usize);
 
 /// A layout, and the capabilities that are held with what messages can hand over.
 #[derive(Drop)]
-pub struct Flows<'a> {
+struct Flows<'a> {
     alloc: Global,
     layout: &'a mut Layout,
     held: Vec<Held>,
@@ -44,27 +44,6 @@ fn say_joined(layout: &mut Layout, endpoint: usize, from: usize, to: usize) {
 }
 
 impl<'a> Flows<'a> {
-    /// The capabilities as the layout has them.
-    pub fn new(alloc: Global, layout: &'a mut Layout) -> Result<Flows<'a>, AllocError> {
-        let mut held = Vec::new(alloc);
-        for slot in layout.slots.as_slice() {
-            held.push((
-                slot.holder,
-                slot.object,
-                slot.rights.0,
-                slot.badge,
-                slot.line,
-            ))?;
-        }
-        let beside = vec![in alloc; None; layout.objects.len()]?;
-        Ok(Flows {
-            alloc,
-            layout,
-            held,
-            beside,
-        })
-    }
-
     /// The object beside another one, which is made where there is none yet.
     fn beside(&mut self, number: usize, kind: Kind, what: &str) -> Result<usize, AllocError> {
         let made = self.layout.objects.len();
@@ -101,19 +80,19 @@ impl<'a> Flows<'a> {
 
     /// Gives each thread a CNode with what its slots hold, and makes CNodes of other objects with slots.
     fn make_nodes(&mut self) -> Result<(), AllocError> {
-        for number in 0..self.held.len() {
-            let Some((holder, object, rights, badge, line)) = self.held.get(number).copied() else {
+        for number in 0..self.layout.slots.len() {
+            let Some(slot) = self.layout.slots.get(number).copied() else {
                 continue;
             };
-            let mut node = holder;
-            if self.kind_of(holder) == Some(Kind::Tcb) {
-                node = self.beside(holder, Kind::CNode, "slots")?;
-            } else if let Some(other) = self.layout.objects.get_mut(holder) {
+            let mut node = slot.holder;
+            if self.kind_of(node) == Some(Kind::Tcb) {
+                node = self.beside(node, Kind::CNode, "slots")?;
+            } else if let Some(other) = self.layout.objects.get_mut(node) {
                 other.kind = Kind::CNode;
             }
-            if let Some(entry) = self.held.get_mut(number) {
-                *entry = (node, object, rights, badge, line);
-            }
+            let (rights, badge) = (slot.rights.0, slot.badge);
+            self.held
+                .push((node, slot.object, rights, badge, slot.line))?;
         }
         Ok(())
     }
@@ -131,19 +110,9 @@ impl<'a> Flows<'a> {
             if object == endpoint && rights & 2 > 0 {
                 self.held.push((holder, answers, 1, 0, line))?;
                 if (allowed | rights) & GRANT > 0 {
-                    say_joined(self.layout, endpoint, caller, holder);
-                    let nodes = self.nodes_above(caller, count)?;
-                    self.join(holder, nodes.as_slice(), line)?;
+                    self.join(holder, call, count, line)?;
                 }
             }
-        }
-        Ok(())
-    }
-
-    /// Gives an object capabilities of these CNodes.
-    fn join(&mut self, holder: usize, nodes: &[usize], line: usize) -> Result<(), AllocError> {
-        for node in nodes {
-            self.held.push((holder, *node, 15, 0, line))?;
         }
         Ok(())
     }
@@ -173,9 +142,8 @@ impl<'a> Flows<'a> {
         is_more
     }
 
-    /// The CNodes of the slots of the threads that reach an object.
-    fn nodes_above(&self, object: usize, count: usize) -> Result<Vec<usize>, AllocError> {
-        let mut nodes = Vec::new(self.alloc);
+    /// The objects from which an object is reached.
+    fn above(&self, object: usize, count: usize) -> Result<Vec<bool>, AllocError> {
         let mut above = vec![in self.alloc; false; self.layout.objects.len()]?;
         if let Some(entry) = above.get_mut(object) {
             *entry = true;
@@ -185,14 +153,29 @@ impl<'a> Flows<'a> {
                 break;
             }
         }
-        for (number, node) in self.beside.as_slice().iter().enumerate() {
-            if let (Some(Kind::Tcb), Some(node)) = (self.kind_of(number), *node) {
+        Ok(above)
+    }
+
+    /// Gives who receives by an endpoint capabilities of the CNodes of the threads that reach a capability to call by it.
+    fn join(
+        &mut self,
+        holder: usize,
+        call: Held,
+        count: usize,
+        line: usize,
+    ) -> Result<(), AllocError> {
+        let (caller, endpoint, _, _, _) = call;
+        say_joined(self.layout, endpoint, caller, holder);
+        let above = self.above(caller, count)?;
+        for number in 0..self.beside.len() {
+            let node = self.beside.get(number).copied().flatten();
+            if let (Some(Kind::Tcb), Some(node)) = (self.kind_of(number), node) {
                 if above.get(node).copied() == Some(true) {
-                    nodes.push(node)?;
+                    self.held.push((holder, node, 15, 0, line))?;
                 }
             }
         }
-        Ok(nodes)
+        Ok(())
     }
 
     /// Adds what messages hand over: the answer to each call, and capabilities.
@@ -209,17 +192,6 @@ impl<'a> Flows<'a> {
             }
         }
         Ok(())
-    }
-
-    /// Makes each CNode as small as it can be, and each object that only counts as an endpoint one.
-    fn reset_sizes(&mut self) {
-        for object in self.layout.objects.as_mut_slice() {
-            if object.kind == Kind::CNode {
-                object.bits = 1;
-            } else if object.bits == OTHER_BITS {
-                object.bits = 0;
-            }
-        }
     }
 
     /// Puts a capability into a slot of a CNode, which is made as large as it has to be.
@@ -294,16 +266,30 @@ impl<'a> Flows<'a> {
         }
         Ok(())
     }
+}
 
-    /// Makes the layout one in which each object counts. Its machine has words of 64 bits, and nothing is said of derivation.
-    pub fn make(&mut self) -> Result<(), AllocError> {
-        self.make_nodes()?;
-        self.add_messages()?;
-        self.layout.profile = ProfileName::Wide;
-        self.layout.derived.clear();
-        self.layout.slots.clear();
-        self.reset_sizes();
-        self.put_all()?;
-        self.put_spaces()
+/// Makes the layout one in which each object counts. Its machine has words of 64 bits, and nothing is said of derivation.
+pub fn add_flows(alloc: Global, layout: &mut Layout) -> Result<(), AllocError> {
+    let beside = vec![in alloc; None; layout.objects.len()]?;
+    let mut flows = Flows {
+        alloc,
+        layout,
+        held: Vec::new(alloc),
+        beside,
+    };
+    flows.make_nodes()?;
+    flows.add_messages()?;
+    flows.layout.profile = ProfileName::Wide;
+    flows.layout.derived.clear();
+    flows.layout.slots.clear();
+    for object in flows.layout.objects.as_mut_slice() {
+        // Each CNode is as small as it can be, and what only counts as an endpoint is one.
+        if object.kind == Kind::CNode {
+            object.bits = 1;
+        } else if object.bits == OTHER_BITS {
+            object.bits = 0;
+        }
     }
+    flows.put_all()?;
+    flows.put_spaces()
 }

@@ -1,5 +1,5 @@
 //! What the words of a layout mean.
-use cap_core::{Kind, ProfileName};
+use cap_core::Kind;
 
 /// The kinds of object: first those that a kernel has, in the order of `KINDS`, and then others, which a set-up leaves out.
 #[rattlefmt::skip]
@@ -33,7 +33,7 @@ pub const ARCHES: [&str; 9] = [
 ];
 
 /// How many of the machines, the first ones, have words of 32 bits.
-const NARROW_ARCHES: usize = 5;
+pub const NARROW_ARCHES: usize = 5;
 
 /// The place of a word in a list, where it is there.
 pub fn place_of(words: &[&str], word: &str) -> Option<usize> {
@@ -52,14 +52,5 @@ pub fn kind_word(kind: Kind) -> &'static str {
         Kind::Tcb => "tcb",
         Kind::Endpoint => "ep",
         Kind::Untyped => "ut",
-    }
-}
-
-/// The profile of a machine.
-pub fn profile_of(arch: &str) -> Option<ProfileName> {
-    match place_of(&ARCHES, arch) {
-        Some(place) if place < NARROW_ARCHES => Some(ProfileName::Narrow),
-        Some(_) => Some(ProfileName::Wide),
-        None => None,
     }
 }

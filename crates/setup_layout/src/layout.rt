@@ -66,14 +66,3 @@ pub struct Layout {
     /// Where the text names the machine.
     pub spot: Spot,
 }
-
-impl Layout {
-    /// What is said of it: its faults, or its notes where it has none.
-    pub fn remarks(&self) -> &Remarks {
-        if self.faults.is_empty() {
-            &self.notes
-        } else {
-            &self.faults
-        }
-    }
-}

@@ -13,23 +13,30 @@ pub struct Machine {
     pub badge_bits: u32,
 }
 
+const WIDE: Machine = Machine {
+    word_bits: Wide::WORD_BITS,
+    slot_bits: Wide::SLOT_BITS,
+    tcb_bits: Wide::TCB_BITS,
+    endpoint_bits: Wide::ENDPOINT_BITS,
+    guard_size_bits: Wide::GUARD_SIZE_BITS,
+    badge_bits: Wide::BADGE_BITS,
+};
+
+const NARROW: Machine = Machine {
+    word_bits: Narrow::WORD_BITS,
+    slot_bits: Narrow::SLOT_BITS,
+    tcb_bits: Narrow::TCB_BITS,
+    endpoint_bits: Narrow::ENDPOINT_BITS,
+    guard_size_bits: Narrow::GUARD_SIZE_BITS,
+    badge_bits: Narrow::BADGE_BITS,
+};
+
 impl Machine {
     /// Those of a profile.
     pub fn of(profile: ProfileName) -> Machine {
         match profile {
-            ProfileName::Wide => Machine::new::<Wide>(),
-            ProfileName::Narrow => Machine::new::<Narrow>(),
-        }
-    }
-
-    fn new<P: Profile>() -> Machine {
-        Machine {
-            word_bits: P::WORD_BITS,
-            slot_bits: P::SLOT_BITS,
-            tcb_bits: P::TCB_BITS,
-            endpoint_bits: P::ENDPOINT_BITS,
-            guard_size_bits: P::GUARD_SIZE_BITS,
-            badge_bits: P::BADGE_BITS,
+            ProfileName::Wide => WIDE,
+            ProfileName::Narrow => NARROW,
         }
     }
 

@@ -18,10 +18,10 @@ const UNTYPED_BITS: (u64, u64) = (4, 19);
 
 /// What is declared in one place of the text.
 #[derive(Clone, Copy)]
-struct Declared<'a> {
+pub struct Declared<'a> {
     name: Token<'a>,
     /// How many there are; none of a single one.
-    count: Option<u64>,
+    pub count: Option<u64>,
     kind: Token<'a>,
     bits: Option<u64>,
     is_inactive: bool,
@@ -178,29 +178,32 @@ impl<'a> Objects<'a> {
                     declared.first = Some(self.objects.len());
                     self.add_kept(words, declared, Kind::Endpoint)?;
                 }
-                None => self.leave_out(words, declared, number),
+                None => {
+                    self.leave_out(number, at, declared.count.unwrap_or(1), 0);
+                    if declared.cover.is_some() {
+                        let told = format_args!(
+                            "{name}, which an untyped region covers, is left out"
+                        );
+                        words.notes.say(at, told);
+                    }
+                }
             },
         }
         self.declared.push(declared)?;
         Ok(())
     }
 
-    /// Counts objects of a kind that is left out.
-    fn leave_out(&mut self, words: &mut Words<'a>, declared: Declared<'a>, kind: usize) {
-        let (name, spot) = (declared.name.text, declared.name.spot);
-        let before = self.left_out.get(kind).copied().flatten();
-        let mut left_out = before.unwrap_or(LeftOut {
-            spot,
-            objects: 0,
-            caps: 0,
-        });
-        left_out.objects = left_out.objects.saturating_add(declared.count.unwrap_or(1));
+    /// Counts objects of a kind that is left out, of which one stands here, and capabilities of such objects.
+    pub fn leave_out(&mut self, kind: usize, spot: Spot, objects: u64, caps: u64) {
         if let Some(entry) = self.left_out.get_mut(kind) {
+            let mut left_out = entry.unwrap_or(LeftOut {
+                spot,
+                objects: 0,
+                caps: 0,
+            });
+            left_out.objects = left_out.objects.saturating_add(objects);
+            left_out.caps = left_out.caps.saturating_add(caps);
             *entry = Some(left_out);
-        }
-        if declared.cover.is_some() {
-            let told = format_args!("{name}, which an untyped region covers, is left out");
-            words.notes.say(spot, told);
         }
     }
 
@@ -258,43 +261,31 @@ impl<'a> Objects<'a> {
     }
 
     /// What is declared by a name.
-    fn declared_as(&self, name: &str) -> Option<&Declared<'a>> {
+    pub fn declared_as(&self, name: &str) -> Option<&Declared<'a>> {
         let number = self.numbers.get(name)?;
         self.declared.get(*number)
-    }
-
-    /// How many objects of a name there are; none of a name that is that of a single one.
-    pub fn count_of(&self, name: &str) -> Option<u64> {
-        self.declared_as(name)?.count
-    }
-
-    /// Counts a capability of an object of a kind that is left out.
-    pub fn leave_out_cap(&mut self, kind: usize) {
-        if let Some(Some(left_out)) = self.left_out.get_mut(kind) {
-            left_out.caps = left_out.caps.saturating_add(1);
-        }
     }
 
     /// Says that no object has a name.
     pub fn say_unknown(&self, words: &mut Words<'a>, object: Reference<'a>) {
         let Token { text, spot, .. } = object.name;
-        match self.count_of(text) {
+        let Some(declared) = self.declared_as(text) else {
+            let hint = words.faults.hint(text, self.names.as_slice());
+            let told = format_args!("there is no object {text}{hint}");
+            words.faults.say(spot, told);
+            return;
+        };
+        match declared.count {
             Some(count) => words.faults.say(
                 spot,
                 format_args!(
                     "there are {count} objects {text}: a number in brackets has to be below that"
                 ),
             ),
-            None if self.numbers.contains_key(text) => words.faults.say(
+            None => words.faults.say(
                 spot,
                 format_args!("{text} is a single object, and takes no number"),
             ),
-            None => {
-                let hint = words.faults.hint(text, self.names.as_slice());
-                words
-                    .faults
-                    .say(spot, format_args!("there is no object {text}{hint}"));
-            }
         }
     }
 
@@ -319,65 +310,52 @@ impl<'a> Objects<'a> {
     /// Checks the sizes of CNodes and untyped regions.
     fn check_sizes(&mut self, words: &mut Words<'a>) {
         for number in 0..self.declared.len() {
-            if let Some(declared) = self.declared.get(number).copied() {
-                if declared.kind.is("cnode") {
-                    self.check_size(words, declared, CNODE_BITS, "");
-                }
-                if declared.kind.is("ut") {
-                    let hint = "; --shrink 12 cuts those that cover nothing";
-                    self.check_size(words, declared, UNTYPED_BITS, hint);
-                }
+            let Some(declared) = self.declared.get(number).copied() else {
+                continue;
+            };
+            let (name, spot, kind) = (declared.name.text, declared.name.spot, declared.kind.text);
+            let ((least, most), hint) = match kind {
+                "cnode" => (CNODE_BITS, ""),
+                "ut" => (UNTYPED_BITS, "; --shrink 12 cuts those that cover nothing"),
+                _ => continue,
+            };
+            let Some(first) = declared.first else {
+                continue;
+            };
+            if declared.bits.is_none() {
+                let told = format_args!("{name}: a {kind} has a size, as in ({least} bits)");
+                words.faults.say(spot, told);
+                continue;
+            }
+            self.cut(words, declared, first);
+            let bits = match self.objects.get(first) {
+                Some(object) => u64::from(object.bits),
+                None => least,
+            };
+            if bits < least || bits > most {
+                let told = format_args!("{name}: a {kind} has {least} to {most} bits here{hint}");
+                words.faults.say(spot, told);
             }
         }
     }
 
-    /// Checks the size of the objects of one place of the text. The hint says what helps where they are too large.
-    fn check_size(
-        &mut self,
-        words: &mut Words<'a>,
-        declared: Declared<'a>,
-        sizes: (u64, u64),
-        hint: &str,
-    ) {
-        let (name, spot, kind) = (declared.name.text, declared.name.spot, declared.kind.text);
-        let (least, most) = sizes;
-        let Some(first) = declared.first else {
-            return;
-        };
-        if declared.bits.is_none() {
-            let told = format_args!("{name}: a {kind} has a size, as in ({least} bits)");
-            words.faults.say(spot, told);
-            return;
-        }
-        for offset in 0..declared.count.unwrap_or(1).min(MOST_OBJECTS) {
-            self.cut(words, first.saturating_add(offset as usize), declared.name);
-        }
-        let bits = match self.objects.get(first) {
-            Some(object) => u64::from(object.bits),
-            None => least,
-        };
-        if bits < least || bits > most {
-            let told = format_args!("{name}: a {kind} has {least} to {most} bits here{hint}");
-            words.faults.say(spot, told);
-        }
-    }
-
-    /// Cuts an untyped region that covers nothing, where it is asked for.
-    fn cut(&mut self, words: &mut Words<'a>, number: usize, at: Token<'a>) {
+    /// Cuts the untyped regions of one place of the text that cover nothing, where it is asked for.
+    fn cut(&mut self, words: &mut Words<'a>, declared: Declared<'a>, first: usize) {
         let Some(most) = self.reading.shrink else {
             return;
         };
-        for object in self.objects.as_slice() {
-            if object.cover == Some(number) {
-                return;
-            }
-        }
-        if let Some(object) = self.objects.get_mut(number) {
-            let (name, bits) = (at.text, object.bits);
-            if object.kind == Kind::Untyped && u64::from(bits) > most {
-                object.bits = most.min(64) as u32;
-                let told = format_args!("{name}: {most} bits in place of {bits}");
-                words.notes.say(at.spot, told);
+        let Token { text, spot, .. } = declared.name;
+        for offset in 0..declared.count.unwrap_or(1).min(MOST_OBJECTS) {
+            let number = first.saturating_add(offset as usize);
+            let mut objects = self.objects.as_slice().iter();
+            let is_cover = objects.any(|object| object.cover == Some(number));
+            if let Some(object) = self.objects.get_mut(number) {
+                let bits = object.bits;
+                if !is_cover && object.kind == Kind::Untyped && u64::from(bits) > most {
+                    object.bits = most.min(64) as u32;
+                    let told = format_args!("{text}: {most} bits in place of {bits}");
+                    words.notes.say(spot, told);
+                }
             }
         }
     }

@@ -22,7 +22,7 @@ const MOST_LEVELS: usize = 64;
 pub const FIRST_REGION_SLOT: u64 = 3;
 
 /// Where an object is made: in a region, by its number, or in the object that covers it.
-#[derive(Clone, Copy, PartialEq, Eq)]
+#[derive(Clone, Copy)]
 pub enum Source {
     Region(usize),
     Cover(usize),
@@ -33,16 +33,11 @@ pub enum Source {
 pub struct Region {
     pub base: u64,
     pub bits: u32,
+    /// The first address behind what stands there.
     free: u64,
 }
 
 impl Region {
-    /// A region in which nothing stands yet.
-    fn new(base: u64, bits: u32) -> Region {
-        let free = base;
-        Region { base, bits, free }
-    }
-
     /// The place of an object of this size, behind those that stand there already; none where it has no room.
     fn place(&mut self, size: u64) -> Option<u64> {
         let place = self.free.checked_next_multiple_of(size)?;
@@ -111,7 +106,8 @@ fn regions_of(alloc: Global, memory_bits: u32, used: u64) -> Result<Vec<Region>,
         if base < used || below > 1 && bits < LEAST_REGION_BITS {
             break;
         }
-        regions.push(Region::new(base, bits))?;
+        let free = base;
+        regions.push(Region { base, bits, free })?;
     }
     Ok(regions)
 }
@@ -244,7 +240,12 @@ fn place_all(
     sources: &mut [Source],
 ) -> Result<Vec<(usize, usize, usize, usize)>, AllocError> {
     let machine = Machine::of(layout.profile);
-    let mut insides = vec![in alloc; Region::new(0, 0); layout.objects.len()]?;
+    let nothing = Region {
+        base: 0,
+        bits: 0,
+        free: 0,
+    };
+    let mut insides = vec![in alloc; nothing; layout.objects.len()]?;
     let mut keys = Vec::new(alloc);
     for (rank, (level, _, _, number)) in order.iter().enumerate() {
         let Some(object) = layout.objects.get_mut(*number) else {
@@ -258,7 +259,11 @@ fn place_all(
         };
         object.place = u32::try_from(place).unwrap_or(u32::MAX);
         if let Some(inside) = insides.get_mut(*number) {
-            *inside = Region::new(place, object.bits);
+            *inside = Region {
+                base: place,
+                bits: object.bits,
+                free: place,
+            };
         }
         if let Some(entry) = sources.get_mut(*number) {
             *entry = source;
@@ -271,17 +276,6 @@ fn place_all(
     }
     keys.sort_unstable();
     Ok(keys)
-}
-
-/// How many of the regions hold objects; one where none does.
-fn regions_used(sources: &[Source]) -> usize {
-    let mut used = 1;
-    for source in sources {
-        if let Source::Region(region) = source {
-            used = used.max(region.saturating_add(1));
-        }
-    }
-    used
 }
 
 /// The places of the objects of a layout; `None` where it has a fault, which is told.
@@ -297,14 +291,18 @@ pub fn places_of(alloc: Global, layout: &mut Layout) -> Result<Option<Places>, A
     let mut sources = vec![in alloc; Source::Region(0); layout.objects.len()]?;
     let (free, made) = (regions.as_mut_slice(), sources.as_mut_slice());
     let keys = place_all(alloc, layout, largest.as_slice(), free, made)?;
-    if !layout.faults.is_empty() {
+    if !layout.faults.told.is_empty() {
         return Ok(None);
     }
-    regions.truncate(regions_used(sources.as_slice()));
-    let mut order = Vec::new(alloc);
-    for (_, _, _, number) in keys.as_slice() {
+    let (mut order, mut used) = (Vec::new(alloc), 1);
+    for (level, from, _, number) in keys.as_slice() {
         order.push(*number)?;
+        if *level == 0 {
+            used = used.max(from.saturating_add(1));
+        }
     }
+    // A region in which no object stands is left out.
+    regions.truncate(used);
     Ok(Some(Places {
         memory_bits,
         root_radix,

@@ -1,7 +1,7 @@
 //! The reading of a layout.
 use crate::derived::Tree;
-use crate::flows::Flows;
-use crate::kinds::{ARCHES, profile_of};
+use crate::flows::add_flows;
+use crate::kinds::{ARCHES, NARROW_ARCHES, place_of};
 use crate::layout::{Layout, Reading};
 use crate::objects::Objects;
 use crate::places::{Places, places_of};
@@ -64,8 +64,9 @@ impl<'a> Reader<'a> {
     fn read_machine(&mut self) -> Result<Token<'a>, AllocError> {
         self.words.need("arch");
         let arch = self.words.name("the name of a machine");
-        match profile_of(arch.text) {
-            Some(profile) => self.objects.profile = profile,
+        match place_of(&ARCHES, arch.text) {
+            Some(place) if place < NARROW_ARCHES => self.objects.profile = ProfileName::Narrow,
+            Some(_) => self.objects.profile = ProfileName::Wide,
             None if self.words.is_broken => {}
             None => {
                 let name = arch.text;
@@ -91,19 +92,18 @@ impl<'a> Reader<'a> {
         }
     }
 
-    /// Reads the text to its end. Answers which slots are derived from which.
-    fn read(&mut self) -> Result<Vec<(usize, usize)>, AllocError> {
-        for _section in 0..self.words.left() {
-            if self.words.token.kind == TokenKind::End {
-                break;
-            }
-            self.read_section()?;
-        }
+    /// Fills the slots of a text that was read to its end. Answers which are derived from which.
+    fn finish(&mut self) -> Result<Vec<(usize, usize)>, AllocError> {
         if self.words.is_broken {
             return Ok(Vec::new(self.words.alloc));
         }
         self.objects.finish(&mut self.words);
-        self.slots.fill(&mut self.words, &mut self.objects)?;
+        for number in 0..self.slots.texts.len() {
+            if let Some(slot) = self.slots.texts.get(number).copied() {
+                self.slots
+                    .add_text(&mut self.words, &mut self.objects, slot)?;
+            }
+        }
         let derived = self
             .tree
             .pairs(&mut self.words, &self.objects, &self.slots)?;
@@ -122,7 +122,13 @@ fn layout_of(alloc: Global, text: &str, reading: Reading) -> Result<Layout, Allo
         tree: Tree::new(alloc),
     };
     let arch = reader.read_machine()?;
-    let derived = reader.read()?;
+    for _section in 0..reader.words.left() {
+        if reader.words.token.kind == TokenKind::End {
+            break;
+        }
+        reader.read_section()?;
+    }
+    let derived = reader.finish()?;
     let Reader {
         words,
         objects,
@@ -156,8 +162,8 @@ pub fn read_layout(
     let text = std::str::from_utf8(bytes);
     let mut layout = layout_of(alloc, text.unwrap_or("arch x86_64"), reading)?;
     let mut places = None;
-    if reading.flows && layout.faults.is_empty() {
-        Flows::new(alloc, &mut layout)?.make()?;
+    if reading.flows && layout.faults.told.is_empty() {
+        add_flows(alloc, &mut layout)?;
     }
     if text.is_err() {
         let (start, length, line) = (0, 0, 1);
@@ -168,7 +174,7 @@ pub fn read_layout(
         };
         layout.faults.say(spot, "the bytes are no text in UTF-8");
     }
-    if layout.faults.is_empty() {
+    if layout.faults.told.is_empty() {
         places = places_of(alloc, &mut layout)?;
     }
     if layout.faults.is_refused {
@@ -192,6 +198,10 @@ pub fn layout_words(
     let layout = read_layout(alloc, bytes, reading)?.layout;
     let text = std::str::from_utf8(bytes).unwrap_or("");
     let mut words = String::new(alloc);
-    layout.remarks().add_to(&mut words, name, text)?;
+    if layout.faults.told.is_empty() {
+        layout.notes.add_to(&mut words, name, text)?;
+    } else {
+        layout.faults.add_to(&mut words, name, text)?;
+    }
     Ok(words)
 }

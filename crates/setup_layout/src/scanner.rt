@@ -78,24 +78,18 @@ fn front_length(text: &str, others: &[u8]) -> usize {
     length
 }
 
-/// Whether a text is made of decimal or of hexadecimal digits.
-fn are_digits(text: &str, is_decimal: bool) -> bool {
-    for byte in text.bytes() {
-        if !byte.is_ascii_hexdigit() || is_decimal && !byte.is_ascii_digit() {
-            return false;
-        }
-    }
-    !text.is_empty()
-}
-
 /// The kind and the length of the name or number at the front of a text. A number ends where two points follow.
 fn word_at(text: &str) -> (TokenKind, usize) {
     let length = front_length(text, b"_");
     let word = text.get(..length).unwrap_or("");
-    let is_number = match word.strip_prefix("0x") {
-        Some(digits) => are_digits(digits, false),
-        None => are_digits(word, true),
+    let (digits, is_decimal) = match word.strip_prefix("0x") {
+        Some(digits) => (digits, false),
+        None => (word, true),
     };
+    let mut is_number = !digits.is_empty();
+    for byte in digits.bytes() {
+        is_number &= byte.is_ascii_digit() || !is_decimal && byte.is_ascii_hexdigit();
+    }
     if is_number {
         (TokenKind::Number, length)
     } else {
@@ -124,26 +118,14 @@ fn token_at(text: &str) -> (TokenKind, usize) {
 /// A text, of which the words are read from the first on.
 #[derive(Clone, Copy)]
 pub struct Scanner<'a> {
-    rest: &'a str,
-    start: usize,
-    line: usize,
+    /// What is left.
+    pub rest: &'a str,
+    /// The first byte of it in the text, and its line.
+    pub start: usize,
+    pub line: usize,
 }
 
 impl<'a> Scanner<'a> {
-    /// Nothing of the text is read yet.
-    pub fn new(text: &'a str) -> Scanner<'a> {
-        Scanner {
-            rest: text,
-            start: 0,
-            line: 1,
-        }
-    }
-
-    /// How many bytes are left.
-    pub fn left(&self) -> usize {
-        self.rest.len()
-    }
-
     /// Reads so many bytes.
     fn take(&mut self, length: usize) -> &'a str {
         let (taken, rest) = self
@@ -157,20 +139,15 @@ impl<'a> Scanner<'a> {
         taken
     }
 
-    /// Reads over spaces and comments.
-    fn skip_gaps(&mut self) {
+    /// The next word, behind spaces and comments.
+    pub fn next_token(&mut self) -> Token<'a> {
         for _gap in 0..self.rest.len() {
             let length = gap_length(self.rest);
             if length == 0 {
-                return;
+                break;
             }
             self.take(length);
         }
-    }
-
-    /// The next word.
-    pub fn next_token(&mut self) -> Token<'a> {
-        self.skip_gaps();
         let (kind, length) = token_at(self.rest);
         let (start, line) = (self.start, self.line);
         let text = self.take(length);

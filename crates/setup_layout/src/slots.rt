@@ -55,7 +55,7 @@ struct Holder {
 /// The slots of a layout, and where those stand that have a name or are named by their place.
 #[derive(Drop)]
 pub struct Slots<'a> {
-    texts: Vec<SlotText<'a>>,
+    pub texts: Vec<SlotText<'a>>,
     pub slots: Vec<Slot>,
     /// The place of a slot among the slots, by its holder and its number.
     pub places: HashMap<(usize, u64), usize>,
@@ -219,22 +219,8 @@ impl<'a> Slots<'a> {
         Ok(())
     }
 
-    /// Fills the slots that were read.
-    pub fn fill(
-        &mut self,
-        words: &mut Words<'a>,
-        objects: &mut Objects<'a>,
-    ) -> Result<(), AllocError> {
-        for number in 0..self.texts.len() {
-            if let Some(slot) = self.texts.get(number).copied() {
-                self.add_text(words, objects, slot)?;
-            }
-        }
-        Ok(())
-    }
-
     /// Fills the slots that one place of the text tells.
-    fn add_text(
+    pub fn add_text(
         &mut self,
         words: &mut Words<'a>,
         objects: &mut Objects<'a>,
@@ -312,7 +298,11 @@ impl<'a> Slots<'a> {
         numbers: (u64, u64),
     ) -> Result<(), AllocError> {
         let ((first, last), name) = (numbers, slot.object.name.text);
-        let most = slot.count.unwrap_or(objects.count_of(name).unwrap_or(0));
+        let all = match objects.declared_as(name) {
+            Some(declared) => declared.count.unwrap_or(0),
+            None => 0,
+        };
+        let most = slot.count.unwrap_or(all);
         let slots = last.saturating_sub(first).saturating_add(1);
         let count = if slots == 1 { most } else { slots };
         if last < first || most > 1 && count != most {
@@ -326,7 +316,14 @@ impl<'a> Slots<'a> {
                 return Ok(());
             }
             if place >> holder.bits.min(63) > 0 {
-                say_outside(words, slot, holder, place);
+                let (name, line) = (slot.holder.name.text, holder.line);
+                let size = 1u64 << holder.bits.min(63);
+                words.faults.say(
+                    slot.at.spot,
+                    format_args!(
+                        "{name} has {size} slots, from 0 on, and this is slot {place}; make it larger in line {line}"
+                    ),
+                );
                 return Ok(());
             }
             let mut object = slot.object;
@@ -352,11 +349,13 @@ impl<'a> Slots<'a> {
         match objects.find(object) {
             Found::Kept(object) => self.put(words, objects, slot, holder, place, object),
             Found::LeftOut(kind) => {
-                objects.leave_out_cap(kind);
+                objects.leave_out(kind, slot.at.spot, 0, 1);
                 Ok(())
             }
             Found::Unknown if BUILT_IN.contains(&object.name.text) => {
-                say_left_out(words, slot, place);
+                let (holder, Token { text, spot, .. }) = (slot.holder.name.text, slot.object.name);
+                let told = format_args!("slot {place} of {holder}: {text} is left out");
+                words.notes.say(spot, told);
                 Ok(())
             }
             Found::Unknown => {
@@ -393,7 +392,14 @@ impl<'a> Slots<'a> {
             return Ok(());
         }
         self.check(words, slot, (holder.kind, place), number, object.kind);
-        check_cap(words, objects, slot, object);
+        let (machine, bits) = (Machine::of(objects.profile), object.bits);
+        match object.kind {
+            Kind::CNode => check_guard(words, machine, slot, bits),
+            Kind::Endpoint if bits == 0 => {
+                check_endpoint(words, machine, slot, !objects.reading.flows);
+            }
+            _ => {}
+        }
         self.places.insert(key, self.slots.len())?;
         if let Some(name) = slot.own_name {
             self.named.insert(name, self.slots.len())?;
@@ -442,7 +448,7 @@ fn leave_out<'a>(
 ) {
     let name = slot.object.name.text;
     match (objects.find(slot.object), word) {
-        (Found::LeftOut(kind), _) => objects.leave_out_cap(kind),
+        (Found::LeftOut(kind), _) => objects.leave_out(kind, slot.at.spot, 0, 1),
         (Found::Kept(_), Some(word)) => {
             let holder = slot.holder.name.text;
             let told = format_args!("{word} of {holder} is left out");
@@ -453,13 +459,6 @@ fn leave_out<'a>(
         }
         _ => {}
     }
-}
-
-/// Says that a capability of an object that a layout need not declare is left out.
-fn say_left_out(words: &mut Words<'_>, slot: SlotText<'_>, place: u64) {
-    let (holder, Token { text, spot, .. }) = (slot.holder.name.text, slot.object.name);
-    let told = format_args!("slot {place} of {holder}: {text} is left out");
-    words.notes.say(spot, told);
 }
 
 /// Says that an object has no such slots.
@@ -482,29 +481,6 @@ fn say_misplaced(words: &mut Words<'_>, slot: SlotText<'_>, kind: Kind) {
                 format_args!("{name} is of the kind {its}: {hint}"),
             );
         }
-    }
-}
-
-/// Says that a CNode has no slot of that number.
-fn say_outside(words: &mut Words<'_>, slot: SlotText<'_>, holder: Holder, place: u64) {
-    let (name, line) = (slot.holder.name.text, holder.line);
-    let size = 1u64 << holder.bits.min(63);
-    words.faults.say(
-        slot.at.spot,
-        format_args!(
-            "{name} has {size} slots, from 0 on, and this is slot {place}; make it larger in line {line}"
-        ),
-    );
-}
-
-/// Checks the guard, or the badge and the rights, of a capability of an object.
-fn check_cap(words: &mut Words<'_>, objects: &Objects<'_>, slot: SlotText<'_>, object: &Object) {
-    let machine = Machine::of(objects.profile);
-    let is_said = !objects.reading.flows;
-    match object.kind {
-        Kind::CNode => check_guard(words, machine, slot, object.bits),
-        Kind::Endpoint if object.bits == 0 => check_endpoint(words, machine, slot, is_said),
-        _ => {}
     }
 }
 

@@ -33,7 +33,11 @@ pub struct Words<'a> {
 impl<'a> Words<'a> {
     /// Nothing of the text is read yet.
     pub fn new(alloc: Global, text: &'a str) -> Words<'a> {
-        let mut scanner = Scanner::new(text);
+        let mut scanner = Scanner {
+            rest: text,
+            start: 0,
+            line: 1,
+        };
         let token = scanner.next_token();
         Words {
             alloc,
@@ -47,7 +51,7 @@ impl<'a> Words<'a> {
 
     /// At the most as many words are left, with the end.
     pub fn left(&self) -> usize {
-        self.scanner.left().saturating_add(2)
+        self.scanner.rest.len().saturating_add(2)
     }
 
     /// Reads a word.
@@ -69,7 +73,7 @@ impl<'a> Words<'a> {
     /// Ends the text before the next word.
     pub fn end(&mut self) {
         self.is_broken = true;
-        self.scanner = Scanner::new("");
+        self.scanner.rest = "";
         self.token.kind = TokenKind::End;
         self.token.text = "";
     }
