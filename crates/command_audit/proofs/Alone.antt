@@ -27,22 +27,22 @@ use Rattle.kernel_abstract.specs.Shown.{Shown}
 use Rattle.kernel_abstract.specs.State.{State, shown}
 use Rattle.query_revoke.specs.declared.revoked.Revoked.{Revoked}
 use Rattle.query_revoke.specs.Below.{is_below, IsNamedBelow, IsRevokedAlone}
-use Rattle.setup_values.specs.Names.{Names}
+use Rattle.command_audit.specs.Naming.{Texts}
 use Rattle.setup_report.specs.State.{Derived, is_in, rising, slot_of, found, by_address}
 use Rattle.setup_report.specs.Report.{terminated}
 use Rattle.setup_report.proofs.Addresses.Rising.{any_rising, all_rising, rising_same}
 use Rattle.setup_report.proofs.Addresses.Slots.{slots_are}
 use Rattle.command_audit.specs.declared.ends.Asked.{Asked}
 use Rattle.command_audit.specs.Text.{held_slot_text}
-use Rattle.command_audit.specs.Ends.{is_named, ended, asked_of, all_asked, regions_at, thread_line, object_line, region_line, ends_lines}
-use Rattle.command_audit.specs.Revokes.{revoked, is_cleared, cleared_count, revoke_lines, lines_of_revoke}
+use Rattle.command_audit.specs.Ends.{is_object_named, ended_capabilities, asked_object, all_asked, regions_at, ended_thread_line, ended_endpoint_line, ended_node_line, region_line, ends_lines}
+use Rattle.command_audit.specs.Revokes.{shown_after_revoke, is_cleared, cleared_count, revoke_lines, lines_of_revoke}
 use Rattle.query_revoke.proofs.Found.{entries_told}
 use Rattle.query_revoke.proofs.Left.{mapped_in, in_mapped, left_over, cleared_where, alike}
 use Rattle.command_audit.proofs.Ended.{named_entries}
 
 -- ---- the forest after the revoke
 
-pub derivations_revoked : (p : ProfileName) (A : State) (slot : ℕ) → (revoked p A slot).derivations ≡ revoke p slot A.derivations
+pub derivations_revoked : (p : ProfileName) (A : State) (slot : ℕ) → (shown_after_revoke p A slot).derivations ≡ revoke p slot A.derivations
 unfolding shown
 derivations_revoked p A slot = refl
 
@@ -193,7 +193,7 @@ names_itself (Endpoint base badge rights) e = eqb_self base
 names_itself (CNode base radix guard) e = rw (eqb_self base, eqb_self radix) refl
 names_itself (Tcb base) e = eqb_self base
 
-not_named : (cap : Cap) (f : Forest Entry) (s : ℕ) → IsNamedBelow s f cap → is_named cap (derivations_of (left_over s f)) ≡ false
+not_named : (cap : Cap) (f : Forest Entry) (s : ℕ) → IsNamedBelow s f cap → is_object_named cap (derivations_of (left_over s f)) ≡ false
 not_named cap f s h = named_entries cap (left_over s f) ∙ elim (tells (list_any (λ (e : Entry). names_same e.cap cap) (preorder (left_over s f)))) [
   | inr fails ↦ fails
   | inl passes ↦ absurd (let w = any_of (λ (e : Entry). names_same e.cap cap) (preorder (left_over s f)) passes in
@@ -202,7 +202,7 @@ not_named cap f s h = named_entries cap (left_over s f) ∙ elim (tells (list_an
       cc)
 ]
 
-named_below : (cap : Cap) (f : Forest Entry) (s : ℕ) → is_named cap (derivations_of (left_over s f)) ≡ false → IsNamedBelow s f cap
+named_below : (cap : Cap) (f : Forest Entry) (s : ℕ) → is_object_named cap (derivations_of (left_over s f)) ≡ false → IsNamedBelow s f cap
 named_below cap f s h b c stays = elim (tells (names_same b.cap cap)) [
   | inr fails ↦ fails
   | inl passes ↦ absurd (
@@ -217,15 +217,15 @@ not_true false h = refl
 
 -- the capabilities that are told, and those of the rows
 told_in : (p : ProfileName) (f : Forest Entry) (s : ℕ) (r : Revoked) → IsRevokedAlone p f s r → AreApart (preorder f) → ((a : Entry) → In a (preorder f) → is_null a.cap ≡ false) → (cap : Cap) →
-    In cap (ended (by_address (derivations_of f)) (derivations_of (left_over s f))) → In cap r.ended.items
+    In cap (ended_capabilities (by_address (derivations_of f)) (derivations_of (left_over s f))) → In cap r.ended.items
 told_in p f s r alone apart full cap i =
     let list : List Derived = derivations_of f in
     let new : List Derived = derivations_of (left_over s f) in
-    let passed = in_filter (λ cap. not (is_named cap new)) (map (λ (d : Derived). d.0.cap) (by_address list)) cap i in
+    let passed = in_filter (λ cap. not (is_object_named cap new)) (map (λ (d : Derived). d.0.cap) (by_address list)) cap i in
     let d = in_mapped (λ (d : Derived). d.0.cap) (by_address list) cap passed.0 in
     let P : List Entry → Type 0 = λ l. In d.0.0 l in
     let a : In d.0.0 (preorder f) = subst P (entries_of f) (mapped_in (λ (d : Derived). d.0) list d.0 (row_in list (rising (map slot_of list)) d.0 (all_in_slots (map slot_of list)) d.1.0)) in
-    let unnamed : is_named cap new ≡ false = not_true (is_named cap new) passed.1 in
+    let unnamed : is_object_named cap new ≡ false = not_true (is_object_named cap new) passed.1 in
     let alone_named : IsNamedBelow s f d.0.0.cap = subst (IsNamedBelow s f) (sym d.1.1) (named_below cap f s unnamed) in
     let below : is_below s f d.0.0.slot ≡ true = elim (tells (is_below s f d.0.0.slot)) [
       | inl passes ↦ passes
@@ -234,7 +234,7 @@ told_in p f s r alone apart full cap i =
     subst (λ (c : Cap). In c r.ended.items) d.1.1 (contains_in r.ended.items d.0.0.cap (alone.all d.0.0 (in_contains (preorder f) d.0.0 a) below alone_named))
 
 in_told : (p : ProfileName) (f : Forest Entry) (s : ℕ) (r : Revoked) → IsRevokedAlone p f s r → AreApart (preorder f) → (cap : Cap) →
-    In cap r.ended.items → In cap (ended (by_address (derivations_of f)) (derivations_of (left_over s f)))
+    In cap r.ended.items → In cap (ended_capabilities (by_address (derivations_of f)) (derivations_of (left_over s f)))
 in_told p f s r alone apart cap i =
     let list : List Derived = derivations_of f in
     let new : List Derived = derivations_of (left_over s f) in
@@ -248,7 +248,7 @@ in_told p f s r alone apart cap i =
     let same : d.0.0 ≡ w.0 = one_only (is_at w.0.slot) (preorder f) (apart w.0.slot) w.0 d.0.0 a own (eqb_self w.0.slot) (eq-eqb d.0.0.slot w.0.slot d.1.1.1) in
     let cap_is : d.0.0.cap ≡ cap = ap (λ (e : Entry). e.cap) same ∙ w.1.1.1.0 in
     let Q : Cap → Type 0 = λ c. In c (map (λ (d : Derived). d.0.cap) (by_address list)) in
-    filter_in (λ cap. not (is_named cap new)) (map (λ (d : Derived). d.0.cap) (by_address list)) cap
+    filter_in (λ cap. not (is_object_named cap new)) (map (λ (d : Derived). d.0.cap) (by_address list)) cap
     (subst Q cap_is (mapped_in (λ (d : Derived). d.0.cap) (by_address list) d.0 d.1.0)) (ap not (not_named cap f s w.1.1.1.1))
 
 -- the same capabilities are asked the same
@@ -256,10 +256,10 @@ some_is : Option ℕ → ℕ → Bool
 some_is None q = false
 some_is (Some n) q = q == n
 
-any_asked : (asked : Asked) (q : ℕ) (cs : List Cap) → is_in q (all_asked asked cs) ≡ list_any (λ (c : Cap). some_is (asked_of asked c) q) cs
+any_asked : (asked : Asked) (q : ℕ) (cs : List Cap) → is_in q (all_asked asked cs) ≡ list_any (λ (c : Cap). some_is (asked_object asked c) q) cs
 unfolding some_is
 any_asked asked q [] = refl
-any_asked asked q (c ∷ cs) = by_answer (asked_of asked c) ∙ ap (λ (b : Bool). some_is (asked_of asked c) q || b) (any_asked asked q cs)
+any_asked asked q (c ∷ cs) = by_answer (asked_object asked c) ∙ ap (λ (b : Bool). some_is (asked_object asked c) q || b) (any_asked asked q cs)
   where
     by_answer : (o : Option ℕ) → is_in q (cons_option o (all_asked asked cs)) ≡ (some_is o q || is_in q (all_asked asked cs))
     by_answer None = refl
@@ -268,34 +268,34 @@ any_asked asked q (c ∷ cs) = by_answer (asked_of asked c) ∙ ap (λ (b : Bool
 same_asked : (asked : Asked) (a b : List Cap) → ((c : Cap) → In c a → In c b) → ((c : Cap) → In c b → In c a) → rising (all_asked asked a) ≡ rising (all_asked asked b)
 same_asked asked a b there back = rising_same (all_asked asked a) (all_asked asked b) (λ q.
     any_asked asked q a
-    ∙ same_truth (list_any (λ (c : Cap). some_is (asked_of asked c) q) a) (list_any (λ (c : Cap). some_is (asked_of asked c) q) b)
-    (λ h. let w = any_of (λ (c : Cap). some_is (asked_of asked c) q) a h in any_in (λ (c : Cap). some_is (asked_of asked c) q) b w.0 (there w.0 w.1.0) w.1.1)
-    (λ h. let w = any_of (λ (c : Cap). some_is (asked_of asked c) q) b h in any_in (λ (c : Cap). some_is (asked_of asked c) q) a w.0 (back w.0 w.1.0) w.1.1)
+    ∙ same_truth (list_any (λ (c : Cap). some_is (asked_object asked c) q) a) (list_any (λ (c : Cap). some_is (asked_object asked c) q) b)
+    (λ h. let w = any_of (λ (c : Cap). some_is (asked_object asked c) q) a h in any_in (λ (c : Cap). some_is (asked_object asked c) q) b w.0 (there w.0 w.1.0) w.1.1)
+    (λ h. let w = any_of (λ (c : Cap). some_is (asked_object asked c) q) b h in any_in (λ (c : Cap). some_is (asked_object asked c) q) a w.0 (back w.0 w.1.0) w.1.1)
     ∙ sym (any_asked asked q b))
 
-same_ends : (names : Names) (a b : List Cap) → ((c : Cap) → In c a → In c b) → ((c : Cap) → In c b → In c a) → ends_lines names a ≡ ends_lines names b
-same_ends names a b there back =
+same_ends : (texts : Texts) (a b : List Cap) → ((c : Cap) → In c a → In c b) → ((c : Cap) → In c b → In c a) → ends_lines texts a ≡ ends_lines texts b
+same_ends texts a b there back =
     let s = λ (asked : Asked). same_asked asked a b there back in
-    let regions : (address : ℕ) → regions_at a address ≡ regions_at b address = λ address. ap (flat_map (region_line (codes "untyped") address)) (s (Asked.BitsAt address)) in
-    λ i. flat_map (thread_line names) (s Asked.Thread i)
-    ++ (flat_map (object_line (codes "endpoint")) (s Asked.Endpoint i)
-    ++ (flat_map (object_line (codes "cnode")) (s Asked.CNode i)
+    let regions : (address : ℕ) → regions_at texts a address ≡ regions_at texts b address = λ address. ap (flat_map (region_line texts address)) (s (Asked.BitsAt address)) in
+    λ i. flat_map (ended_thread_line texts) (s Asked.Thread i)
+    ++ (flat_map (ended_endpoint_line texts) (s Asked.Endpoint i)
+    ++ (flat_map (ended_node_line texts) (s Asked.CNode i)
     ++ flat_map (λ address. regions address i) (s Asked.Untyped i)))
 
 -- ---- the lines
 
-pub alone_lines : (p : ProfileName) (names : Names) (A : State) (slot : ℕ) (r : Revoked) → IsDistinct (λ (a b : ℕ). a == b) (slots A.derivations) →
+pub alone_lines : (p : ProfileName) (texts : Texts) (A : State) (slot : ℕ) (r : Revoked) → IsDistinct (λ (a b : ℕ). a == b) (slots A.derivations) →
     All (λ (cap : Cap). is_null cap ≡ false) (caps A.derivations) → IsRevokedAlone p A.derivations slot r →
-    lines_of_revoke names slot (cap_at A.derivations slot) r.cleared r.ended.items ≡ revoke_lines names (shown A) (revoked p A slot) slot
+    lines_of_revoke texts slot (cap_at A.derivations slot) r.cleared r.ended.items ≡ revoke_lines texts (shown A) (shown_after_revoke p A slot) slot
 unfolding shown
-alone_lines p names A slot r distinct filled alone =
+alone_lines p texts A slot r distinct filled alone =
     let f : Forest Entry = A.derivations in
     let apart : AreApart (preorder f) = apart_of (preorder f) distinct in
     let full : (a : Entry) → In a (preorder f) → is_null a.cap ≡ false =
     λ a i. All-contains (λ (cap : Cap). is_null cap ≡ false) (caps f) a.cap filled (in_contains (caps f) a.cap (mapped_in (λ (e : Entry). e.cap) (preorder f) a i)) in
-    let forest : (revoked p A slot).derivations ≡ left_over slot f = derivations_revoked p A slot ∙ alone.forest in
-    let count : r.cleared ≡ cleared_count (by_address (derivations_of f)) (revoked p A slot) = alone.count ∙ sym (cleared_alone f (revoked p A slot) slot forest apart full) in
-    let ends : ends_lines names r.ended.items ≡ ends_lines names (ended (by_address (derivations_of f)) (derivations_of (revoked p A slot).derivations)) =
-    same_ends names r.ended.items (ended (by_address (derivations_of f)) (derivations_of (left_over slot f))) (λ c i. in_told p f slot r alone apart c i) (λ c i. told_in p f slot r alone apart full c i)
-    ∙ ap (λ (g : Forest Entry). ends_lines names (ended (by_address (derivations_of f)) (derivations_of g))) (sym forest) in
-    λ i. terminated (codes "revoke " ++ (held_slot_text slot (cap_at f slot) ++ (codes " clears " ++ decimal (count i)))) ++ ends i
+    let forest : (shown_after_revoke p A slot).derivations ≡ left_over slot f = derivations_revoked p A slot ∙ alone.forest in
+    let count : r.cleared ≡ cleared_count (by_address (derivations_of f)) (shown_after_revoke p A slot) = alone.count ∙ sym (cleared_alone f (shown_after_revoke p A slot) slot forest apart full) in
+    let ends : ends_lines texts r.ended.items ≡ ends_lines texts (ended_capabilities (by_address (derivations_of f)) (derivations_of (shown_after_revoke p A slot).derivations)) =
+    same_ends texts r.ended.items (ended_capabilities (by_address (derivations_of f)) (derivations_of (left_over slot f))) (λ c i. in_told p f slot r alone apart c i) (λ c i. told_in p f slot r alone apart full c i)
+    ∙ ap (λ (g : Forest Entry). ends_lines texts (ended_capabilities (by_address (derivations_of f)) (derivations_of g))) (sym forest) in
+    λ i. terminated (codes "revoke " ++ (held_slot_text texts slot (cap_at f slot) ++ (codes " clears " ++ decimal (count i)))) ++ ends i

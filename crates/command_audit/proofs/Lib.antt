@@ -1,6 +1,7 @@
 pub mod Alone
+pub mod ByNames
 pub mod Children
 pub mod Ended
 pub mod Joined
+pub mod Lines
 pub mod Seen
-pub mod Told

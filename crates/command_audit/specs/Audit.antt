@@ -1,5 +1,5 @@
 -- The audit of a set-up: of the state behind so many of its calls, or of a revoke of one slot in that state.
-use Rattle.std.specs.Prelude.{◌≡◌, ℕ, cond, List, ◌++◌, Option, Some, None}
+use Rattle.std.specs.Prelude.{◌≡◌, ℕ, cond, List, [], ◌++◌, Option, Some, None}
 use Rattle.std.specs.List.{flat_map}
 use Rattle.cap_core.specs.declared.profile.ProfileName.{ProfileName}
 use Rattle.cap_core.specs.Objects.{is_null}
@@ -8,40 +8,41 @@ use Rattle.kernel_abstract.specs.State.{State, shown}
 use Rattle.setup_values.specs.Names.{Names}
 use Rattle.setup_format.specs.Views.{SetupView}
 use Rattle.setup_report.specs.State.{endpoints, slot_rows}
-use Rattle.command_trace_lines.specs.Changes.{changes, state_lines}
-use Rattle.command_trace_lines.specs.Names.{name_lines}
+use Rattle.command_trace_lines.specs.Changes.{changes, lines_of_state}
 use Rattle.command_audit.specs.declared.threads.ThreadSlots.{ThreadSlots}
-use Rattle.command_audit.specs.Text.{head_line}
-use Rattle.command_audit.specs.Threads.{AreAllSlots, slots_lines}
-use Rattle.command_audit.specs.Channels.{words_of, channel_lines}
-use Rattle.command_audit.specs.Revokes.{revoked, revoke_lines, revoke_lines_of}
+use Rattle.command_audit.specs.Naming.{Texts, by_addresses}
+use Rattle.command_audit.specs.Text.{audit_head_line}
+use Rattle.command_audit.specs.Threads.{AreAllSlots, opening, slots_lines}
+use Rattle.command_audit.specs.Channels.{endpoint_words_of, channel_lines}
+use Rattle.command_audit.specs.Revokes.{shown_after_revoke, revoke_lines, revoke_lines_of, rows_told}
 
--- ---- a whole state: the names, what each thread can name, who can send to whom, what each revoke would do
+-- ---- a whole state: the names, who is trusted, what each other thread can name, who of them can send to whom, what each revoke
+-- would do
 
-abbrev pub whole_text : ProfileName → Names → SetupView → ℕ → State → List ThreadSlots → List ℕ
-whole_text p names setup made A list =
-    head_line setup made None
-    ++ (name_lines names
-    ++ (flat_map (slots_lines names (shown A)) list
-    ++ (channel_lines names (flat_map (words_of A.derivations) list) (endpoints p (shown A))
-    ++ flat_map (revoke_lines_of p names A) (slot_rows (shown A)))))
+abbrev pub whole_text : ProfileName → Texts → List ℕ → SetupView → ℕ → State → List ThreadSlots → List ℕ
+whole_text p texts trusted setup made A list =
+    audit_head_line setup made None
+    ++ (opening texts trusted
+    ++ (flat_map (slots_lines texts (shown A)) list
+    ++ (channel_lines texts (flat_map (endpoint_words_of A.derivations) list) (endpoints p (shown A))
+    ++ flat_map (revoke_lines_of p texts A) (rows_told trusted list (slot_rows (shown A))))))
 
--- the text is that of the lists of what each live thread can name
-pub record IsWholeAudit (p : ProfileName) (names : Names) (setup : SetupView) (made : ℕ) (A : State) (text : List ℕ) : Type 0 where
+-- the text is that of the lists of what each live thread can name that is not trusted
+pub record IsWholeAudit (p : ProfileName) (texts : Texts) (trusted : List ℕ) (setup : SetupView) (made : ℕ) (A : State) (text : List ℕ) : Type 0 where
   pub list : List ThreadSlots
-  pub slots : AreAllSlots p (shown A) list
-  pub is : text ≡ whole_text p names setup made A list
+  pub slots : AreAllSlots p trusted (shown A) list
+  pub is : text ≡ whole_text p texts trusted setup made A list
 
 -- ---- one slot: what a revoke of it would do, and all that it would change
 
 -- the lines of a state that a revoke of a slot changes
 abbrev pub slot_changes : ProfileName → State → ℕ → List ℕ
-slot_changes p A slot = changes (state_lines p (shown A)) (state_lines p (revoked p A slot))
+slot_changes p A slot = changes (lines_of_state p (shown A)) (lines_of_state p (shown_after_revoke p A slot))
 
 abbrev pub slot_audit : ProfileName → Names → SetupView → ℕ → ℕ → State → List ℕ
 slot_audit p names setup made slot A =
-    head_line setup made (Some slot)
-    ++ (revoke_lines names (shown A) (revoked p A slot) slot ++ slot_changes p A slot)
+    audit_head_line setup made (Some slot)
+    ++ (revoke_lines (by_addresses names) (shown A) (shown_after_revoke p A slot) slot ++ slot_changes p A slot)
 
 -- ---- of a set-up
 
@@ -52,7 +53,7 @@ slot_answer p names setup made slot A =
 
 -- of the whole state: always a text
 abbrev pub IsWholeAnswer : ProfileName → Names → SetupView → ℕ → State → Option (List ℕ) → Type 0
-IsWholeAnswer p names setup made A answer = (text : List ℕ) × ((answer ≡ Some text) × IsWholeAudit p names setup made A text)
+IsWholeAnswer p names setup made A answer = (text : List ℕ) × ((answer ≡ Some text) × IsWholeAudit p (by_addresses names) [] setup made A text)
 
 abbrev pub IsAuditOf : ProfileName → Names → SetupView → ℕ → Option ℕ → State → Option (List ℕ) → Type 0
 IsAuditOf p names setup made None A answer = IsWholeAnswer p names setup made A answer

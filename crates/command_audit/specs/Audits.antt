@@ -1,19 +1,22 @@
 -- What the program writes of an audit of a state, and its verdict.
-use Rattle.std.specs.Prelude.{◌≡◌, ℕ, List, [], Option, Some, None}
+use Rattle.std.specs.Prelude.{◌≡◌, ℕ, Bool, List, [], Option, Some, None, MatchBool}
 use Rattle.cap_core.specs.declared.profile.ProfileName.{ProfileName}
-use Rattle.kernel_abstract.specs.State.{State}
+use Rattle.kernel_abstract.specs.State.{State, shown}
 use Rattle.setup_values.specs.Names.{Names}
 use Rattle.setup_format.specs.Views.{ReadView, SetupView}
+use Rattle.setup_objects.specs.declared.meant.ObjectKind.TheVariants.{Thread}
+use Rattle.setup_objects.specs.Meant.{are_meant, objects_meant}
 use Rattle.setup_objects.specs.Slots.{slot_meant}
-use Rattle.command_audit.specs.Audit.{IsAuditOf}
-use Rattle.command_check.specs.Commands.{answered, IsStateAnswer}
+use Rattle.command_audit.specs.Audit.{IsAuditOf, IsWholeAudit}
+use Rattle.command_audit.specs.Naming.{texts_of}
+use Rattle.command_check.specs.Commands.{text_or_absent, IsStateAnswer}
 use Rattle.command_core.specs.declared.fault.Verdict.{Verdict}
-use Rattle.command_core.specs.declared.fault.Verdict.TheVariants.{Absent}
+use Rattle.command_core.specs.declared.fault.Verdict.TheVariants.{AllMet, Absent}
 
 -- the text of an audit; nothing, where no full slot is asked for
 abbrev pub IsAudited : Option ℕ → ProfileName → Names → SetupView → ℕ → State → List ℕ → Verdict → Type 0
 IsAudited slot p names setup made A text verdict =
-    (answer : Option (List ℕ)) × (IsAuditOf p names setup made slot A answer × ((text, verdict) ≡ answered answer))
+    (answer : Option (List ℕ)) × (IsAuditOf p names setup made slot A answer × ((text, verdict) ≡ text_or_absent answer))
 
 abbrev pub IsAuditedAt : Option ℕ → Option ℕ → ProfileName → ReadView → List ℕ → Verdict → Type 0
 IsAuditedAt None after p read text verdict = (text ≡ []) × (verdict ≡ Absent)
@@ -23,3 +26,12 @@ IsAuditedAt (Some slot) after p read text verdict = IsStateAnswer (IsAudited (So
 abbrev pub IsSlotAudited : List ℕ → Option ℕ → ProfileName → ReadView → List ℕ → Verdict → Type 0
 IsSlotAudited word after p read text verdict =
     IsAuditedAt (slot_meant p read.names read.setup.plan word) after p read text verdict
+
+-- ---- of a whole state, without the threads that are trusted to make no more calls
+
+-- the audit without the threads that some words stand for; nothing, where one stands for no thread
+abbrev pub IsStateAudited : List (List ℕ) → Bool → ProfileName → Names → SetupView → ℕ → State → List ℕ → Verdict → Type 0
+IsStateAudited words by_name p names setup made A text verdict =
+    MatchBool (are_meant Thread p names setup.plan (shown A) words)
+    (IsWholeAudit p (texts_of by_name p names setup.plan (shown A)) (objects_meant Thread p names setup.plan (shown A) words) setup made A text × (verdict ≡ AllMet))
+    ((text ≡ []) × (verdict ≡ Absent))

@@ -6,8 +6,9 @@ ghost use Rattle.kernel_abstract.specs.State.{State, shown};
 ghost use Rattle.setup_values.specs.Names.{names_view};
 ghost use Rattle.command_audit.specs.Audit as spec;
 
+use crate::naming::Naming;
 use crate::revokes::is_cleared;
-use crate::state::{audit_of_slot, whole_audit};
+use crate::state::{Heading, audit_of_slot, whole_audit};
 use cap_core::Profile;
 use ipc_core::MakeWaiters;
 use kernel_core::Kernel;
@@ -47,7 +48,13 @@ fn whole_answer<P: Profile, S: MakeStore<P> + DerivationStore<P>, W: MakeWaiters
     ensures { IfOk result (λ text. (A : State) → IsReached P.profile A → kernel.now ≡ shown A
         → spec.IsWholeAnswer P.profile (names_view names.now) setup.now made A (option_map (λ v. v.items) text)) }
 {
-    let text = whole_audit::<P, S, W>(alloc, names, setup, made, kernel)?;
+    let heading = Heading {
+        naming: &Naming::Addresses(names),
+        trusted: &[],
+        setup,
+        made,
+    };
+    let text = whole_audit::<P, S, W>(alloc, heading, kernel)?;
     Ok(Some(text))
 }
 

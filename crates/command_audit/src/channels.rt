@@ -4,16 +4,17 @@ ghost use Rattle.kernel_forest.specs.Forest.{Forest};
 ghost use Rattle.kernel_forest.specs.Entries.{Entry};
 ghost use Rattle.query_reach.specs.FullSlots.{AreFullSlots, AreRising};
 ghost use Rattle.query_reach.specs.ByEndpoint.{AreByEndpoint};
-ghost use Rattle.setup_values.specs.Names.{names_view};
+ghost use Rattle.command_audit.specs.Naming.{naming_view};
 ghost use Rattle.command_audit.specs.Channels as spec;
 
+use crate::naming::Naming;
+use crate::objects::Object;
 use crate::text::SenderText;
 use crate::threads::ThreadSlots;
 use query_reach::{
     Channel, EndpointWord, FullSlot, by_endpoint, channels, endpoint_words,
     receivers_without_sender, words_at,
 };
-use setup_values::{Name, thread_name};
 use std::alloc::{AllocError, Global};
 use std::collections::BTreeSet;
 use std::fmt::Write;
@@ -30,7 +31,7 @@ pub fn channel_words(
     list: &[ThreadSlots],
 ) -> Result<Vec<EndpointWord>, AllocError>
     requires { AreRising filled.now }
-    ensures { IfOk result (λ words. (f : Forest Entry) → AreFullSlots f filled.now → words.items ≡ flat_map (spec.words_of f) list.now) }
+    ensures { IfOk result (λ words. (f : Forest Entry) → AreFullSlots f filled.now → words.items ≡ flat_map (spec.endpoint_words_of f) list.now) }
 {
     let mut words = Vec::new(alloc);
     for slots in list {
@@ -40,48 +41,57 @@ pub fn channel_words(
     Ok(words)
 }
 
-fn add_channel(out: &mut String, names: &[Name], channel: &Channel) -> Result<(), AllocError>
-    ensures { OnOk result (string_bytes out.new ≡ string_bytes out.old ++ spec.channel_line (names_view names.now) channel.now) }
+fn add_channel(out: &mut String, naming: &Naming<'_>, channel: &Channel) -> Result<(), AllocError>
+    ensures { OnOk result (string_bytes out.new ≡ string_bytes out.old ++ spec.channel_line (naming_view naming.now) channel.now) }
 {
+    let word = channel.sender;
     let sender = SenderText {
-        thread: thread_name(names, channel.sender.thread),
-        word: channel.sender,
+        naming: &*naming,
+        word,
     };
     match channel.receiver {
         None => writeln!(out, "channel {sender} -> none"),
         Some(receiver) => {
             let word = receiver.word;
-            let thread = thread_name(names, receiver.thread);
+            let thread = naming.about(receiver.thread);
             writeln!(out, "channel {sender} -> {thread} {word}")
         }
     }
 }
 
 /// Adds a line for each channel.
-fn add_senders(out: &mut String, names: &[Name], list: &[Channel]) -> Result<(), AllocError>
-    ensures { OnOk result (string_bytes out.new ≡ string_bytes out.old ++ flat_map (spec.channel_line (names_view names.now)) list.now) }
+fn add_senders(out: &mut String, naming: &Naming<'_>, list: &[Channel]) -> Result<(), AllocError>
+    ensures { OnOk result (string_bytes out.new ≡ string_bytes out.old ++ flat_map (spec.channel_line (naming_view naming.now)) list.now) }
 {
     for channel in list {
-        add_channel(out, names, channel)?;
+        add_channel(out, naming, channel)?;
     }
     Ok(())
 }
 
-fn add_receiver(out: &mut String, names: &[Name], receiver: &EndpointWord) -> Result<(), AllocError>
-    ensures { OnOk result (string_bytes out.new ≡ string_bytes out.old ++ spec.receiver_line (names_view names.now) receiver.now) }
+fn add_receiver(
+    out: &mut String,
+    naming: &Naming<'_>,
+    receiver: &EndpointWord,
+) -> Result<(), AllocError>
+    ensures { OnOk result (string_bytes out.new ≡ string_bytes out.old ++ spec.receiver_line (naming_view naming.now) receiver.now) }
 {
-    let endpoint = receiver.endpoint;
+    let endpoint = naming.object(Object::Endpoint(receiver.endpoint));
     let word = receiver.word;
-    let thread = thread_name(names, receiver.thread);
+    let thread = naming.about(receiver.thread);
     writeln!(out, "channel none -> {endpoint} -> {thread} {word}")
 }
 
 /// Adds a line for each of some receivers to which no other thread can send.
-fn add_receivers(out: &mut String, names: &[Name], list: &[EndpointWord]) -> Result<(), AllocError>
-    ensures { OnOk result (string_bytes out.new ≡ string_bytes out.old ++ flat_map (spec.receiver_line (names_view names.now)) list.now) }
+fn add_receivers(
+    out: &mut String,
+    naming: &Naming<'_>,
+    list: &[EndpointWord],
+) -> Result<(), AllocError>
+    ensures { OnOk result (string_bytes out.new ≡ string_bytes out.old ++ flat_map (spec.receiver_line (naming_view naming.now)) list.now) }
 {
     for receiver in list {
-        add_receiver(out, names, receiver)?;
+        add_receiver(out, naming, receiver)?;
     }
     Ok(())
 }
@@ -90,18 +100,18 @@ fn add_receivers(out: &mut String, names: &[Name], list: &[EndpointWord]) -> Res
 fn add_unserved(
     alloc: Global,
     out: &mut String,
-    names: &[Name],
+    naming: &Naming<'_>,
     words: &[EndpointWord],
     endpoints: &BTreeSet<u64>,
 ) -> Result<(), AllocError>
     requires { AreByEndpoint words.now }
     ensures { OnOk result (string_bytes out.new ≡ string_bytes out.old
-        ++ flat_map (spec.unserved_lines (names_view names.now) words.now) endpoints.now.keys) }
+        ++ flat_map (spec.unserved_lines (naming_view naming.now) words.now) endpoints.now.keys) }
 {
     for endpoint in endpoints {
         let own = words_at(words, *endpoint);
         let receivers = receivers_without_sender(alloc, own, *endpoint)?;
-        add_receivers(out, names, receivers.as_slice())?;
+        add_receivers(out, naming, receivers.as_slice())?;
     }
     Ok(())
 }
@@ -114,15 +124,15 @@ fn add_unserved(
 pub fn add_channels(
     alloc: Global,
     out: &mut String,
-    names: &[Name],
+    naming: &Naming<'_>,
     words: &[EndpointWord],
     endpoints: &BTreeSet<u64>,
 ) -> Result<(), AllocError>
     ensures { OnOk result (string_bytes out.new ≡ string_bytes out.old
-        ++ spec.channel_lines (names_view names.now) words.now endpoints.now.keys) }
+        ++ spec.channel_lines (naming_view naming.now) words.now endpoints.now.keys) }
 {
     let list = channels(alloc, words)?;
-    add_senders(out, names, list.as_slice())?;
+    add_senders(out, naming, list.as_slice())?;
     let words = by_endpoint(alloc, words)?;
-    add_unserved(alloc, out, names, words.as_slice(), endpoints)
+    add_unserved(alloc, out, naming, words.as_slice(), endpoints)
 }

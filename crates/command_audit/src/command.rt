@@ -1,6 +1,6 @@
 //! The audit of a state, as the answer of a command.
 ghost use Rattle.std.specs.Prelude.{◌≡◌, IfOk, option_map};
-ghost use Rattle.command_check.specs.Commands.{answered as answered_of};
+ghost use Rattle.command_check.specs.Commands.{text_or_absent as answered_of};
 
 use crate::audits::audit;
 use cap_core::Profile;

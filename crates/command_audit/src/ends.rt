@@ -4,14 +4,15 @@ ghost use Rattle.kernel_forest.specs.Derivation.{names_same as name_one};
 ghost use Rattle.kernel_forest.specs.Entries.{derivations_of};
 ghost use Rattle.slot_core.specs.Calls.{derivation_view};
 ghost use Rattle.setup_report.specs.State.{rising};
-ghost use Rattle.setup_values.specs.Names.{names_view};
+ghost use Rattle.command_audit.specs.Naming.{naming_view};
 ghost use Rattle.command_audit.specs.Ends as spec;
 
+use crate::naming::Naming;
+use crate::objects::Object;
 use cap_core::{Cap, Profile, same_object};
 use ipc_core::Waiters;
 use kernel_core::Kernel;
 use query_revoke::NamedObjects;
-use setup_values::{Name, thread_name};
 use slot_core::{CapStore, Derivation};
 use std::alloc::{AllocError, Global};
 use std::collections::BTreeSet;
@@ -33,7 +34,7 @@ pub enum Asked {
 }
 
 fn asked_of(asked: Asked, cap: Cap) -> Option<u64>
-    ensures { result ≡ spec.asked_of asked cap }
+    ensures { result ≡ spec.asked_object asked cap }
 {
     match (asked, cap) {
         (Asked::Thread, Cap::Tcb { base }) => Some(base),
@@ -116,7 +117,7 @@ pub fn ended_caps<P: Profile, S: CapStore<P> + Drop, W: Waiters<P> + Drop>(
     new: &Kernel<P, S, W>,
 ) -> Result<Vec<Cap>, AllocError>
     requires { map (derivation_view P.profile) left.now ≡ derivations_of new.now.derivations }
-    ensures { IfOk result (λ caps. caps.items ≡ spec.ended (map (derivation_view P.profile) old.now) (map (derivation_view P.profile) left.now)) }
+    ensures { IfOk result (λ caps. caps.items ≡ spec.ended_capabilities (map (derivation_view P.profile) old.now) (map (derivation_view P.profile) left.now)) }
 {
     let mut caps = Vec::new(alloc);
     for derivation in old {
@@ -125,51 +126,88 @@ pub fn ended_caps<P: Profile, S: CapStore<P> + Drop, W: Waiters<P> + Drop>(
     Ok(caps)
 }
 
-fn add_thread(out: &mut String, names: &[Name], address: u64) -> Result<(), AllocError>
-    ensures { OnOk result (string_bytes out.new ≡ string_bytes out.old ++ spec.thread_line (names_view names.now) address) }
+fn add_thread(out: &mut String, naming: &Naming<'_>, address: u64) -> Result<(), AllocError>
+    ensures { OnOk result (string_bytes out.new ≡ string_bytes out.old ++ spec.ended_thread_line (naming_view naming.now) address) }
 {
-    let thread = thread_name(names, address);
+    let thread = naming.about(address);
     writeln!(out, "  ends thread {thread}")
 }
 
-fn add_threads(out: &mut String, names: &[Name], threads: &BTreeSet<u64>) -> Result<(), AllocError>
+fn add_threads(
+    out: &mut String,
+    naming: &Naming<'_>,
+    threads: &BTreeSet<u64>,
+) -> Result<(), AllocError>
     ensures { OnOk result (string_bytes out.new ≡ string_bytes out.old
-        ++ flat_map (spec.thread_line (names_view names.now)) threads.now.keys) }
+        ++ flat_map (spec.ended_thread_line (naming_view naming.now)) threads.now.keys) }
 {
     for address in threads {
-        add_thread(out, names, *address)?;
+        add_thread(out, naming, *address)?;
     }
     Ok(())
 }
 
-/// Adds a line for each of some objects of a kind.
-fn add_objects(out: &mut String, kind: &str, objects: &BTreeSet<u64>) -> Result<(), AllocError>
-    ensures { OnOk result (string_bytes out.new ≡ string_bytes out.old ++ flat_map (spec.object_line kind.now) objects.now.keys) }
+/// Adds a line for an object of a kind.
+fn add_object(
+    out: &mut String,
+    naming: &Naming<'_>,
+    kind: &str,
+    object: Object,
+) -> Result<(), AllocError>
+    ensures { OnOk result (string_bytes out.new ≡ string_bytes out.old ++ spec.object_line (naming_view naming.now) kind.now object) }
 {
-    for address in objects {
-        writeln!(out, "  ends {kind} {address}")?;
+    let told = naming.object(object);
+    writeln!(out, "  ends {kind} {told}")
+}
+
+fn add_endpoints(
+    out: &mut String,
+    naming: &Naming<'_>,
+    endpoints: &BTreeSet<u64>,
+) -> Result<(), AllocError>
+    ensures { OnOk result (string_bytes out.new ≡ string_bytes out.old
+        ++ flat_map (spec.ended_endpoint_line (naming_view naming.now)) endpoints.now.keys) }
+{
+    for address in endpoints {
+        add_object(out, naming, "endpoint", Object::Endpoint(*address))?;
     }
     Ok(())
 }
 
-/// Adds a line for an object of a kind, and its size.
-fn add_region(out: &mut String, kind: &str, address: u64, bits: u64) -> Result<(), AllocError>
-    ensures { OnOk result (string_bytes out.new ≡ string_bytes out.old ++ spec.region_line kind.now address bits) }
+fn add_nodes(out: &mut String, naming: &Naming<'_>, nodes: &BTreeSet<u64>) -> Result<(), AllocError>
+    ensures { OnOk result (string_bytes out.new ≡ string_bytes out.old
+        ++ flat_map (spec.ended_node_line (naming_view naming.now)) nodes.now.keys) }
 {
-    writeln!(out, "  ends {kind} {address} bits {bits}")
+    for address in nodes {
+        add_object(out, naming, "cnode", Object::CNode(*address))?;
+    }
+    Ok(())
 }
 
-/// Adds a line for each size of the objects of a kind at an address.
+/// Adds a line for an untyped region, and its size.
+fn add_region(
+    out: &mut String,
+    naming: &Naming<'_>,
+    address: u64,
+    bits: u64,
+) -> Result<(), AllocError>
+    ensures { OnOk result (string_bytes out.new ≡ string_bytes out.old ++ spec.region_line (naming_view naming.now) address bits) }
+{
+    let region = naming.object(Object::Region(address, bits));
+    writeln!(out, "  ends untyped {region} bits {bits}")
+}
+
+/// Adds a line for each size of the untyped regions at an address.
 fn add_sizes(
     out: &mut String,
-    kind: &str,
+    naming: &Naming<'_>,
     address: u64,
     sizes: &BTreeSet<u64>,
 ) -> Result<(), AllocError>
-    ensures { OnOk result (string_bytes out.new ≡ string_bytes out.old ++ flat_map (spec.region_line kind.now address) sizes.now.keys) }
+    ensures { OnOk result (string_bytes out.new ≡ string_bytes out.old ++ flat_map (spec.region_line (naming_view naming.now) address) sizes.now.keys) }
 {
     for bits in sizes {
-        add_region(out, kind, address, *bits)?;
+        add_region(out, naming, address, *bits)?;
     }
     Ok(())
 }
@@ -177,14 +215,15 @@ fn add_sizes(
 fn add_regions(
     alloc: Global,
     out: &mut String,
+    naming: &Naming<'_>,
     caps: &[Cap],
     addresses: &BTreeSet<u64>,
 ) -> Result<(), AllocError>
-    ensures { OnOk result (string_bytes out.new ≡ string_bytes out.old ++ flat_map (spec.regions_at caps.now) addresses.now.keys) }
+    ensures { OnOk result (string_bytes out.new ≡ string_bytes out.old ++ flat_map (spec.regions_at (naming_view naming.now) caps.now) addresses.now.keys) }
 {
     for address in addresses {
         let sizes = numbers_asked(alloc, Asked::BitsAt(*address), caps)?;
-        add_sizes(out, "untyped", *address, &sizes)?;
+        add_sizes(out, naming, *address, &sizes)?;
     }
     Ok(())
 }
@@ -198,17 +237,17 @@ fn add_regions(
 pub fn add_ends(
     alloc: Global,
     out: &mut String,
-    names: &[Name],
+    naming: &Naming<'_>,
     caps: &[Cap],
 ) -> Result<(), AllocError>
-    ensures { OnOk result (string_bytes out.new ≡ string_bytes out.old ++ spec.ends_lines (names_view names.now) caps.now) }
+    ensures { OnOk result (string_bytes out.new ≡ string_bytes out.old ++ spec.ends_lines (naming_view naming.now) caps.now) }
 {
     let threads = numbers_asked(alloc, Asked::Thread, caps)?;
     let endpoints = numbers_asked(alloc, Asked::Endpoint, caps)?;
     let nodes = numbers_asked(alloc, Asked::CNode, caps)?;
     let regions = numbers_asked(alloc, Asked::Untyped, caps)?;
-    add_threads(out, names, &threads)?;
-    add_objects(out, "endpoint", &endpoints)?;
-    add_objects(out, "cnode", &nodes)?;
-    add_regions(alloc, out, caps, &regions)
+    add_threads(out, naming, &threads)?;
+    add_endpoints(out, naming, &endpoints)?;
+    add_nodes(out, naming, &nodes)?;
+    add_regions(alloc, out, naming, caps, &regions)
 }

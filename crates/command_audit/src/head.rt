@@ -20,7 +20,7 @@ pub fn add_head(
     made: usize,
     slot: Option<u64>,
 ) -> Result<(), AllocError>
-    ensures { OnOk result (string_bytes out.new ≡ string_bytes out.old ++ spec.head_line setup.now made slot) }
+    ensures { OnOk result (string_bytes out.new ≡ string_bytes out.old ++ spec.audit_head_line setup.now made slot) }
 {
     let profile = profile_text(setup.profile());
     let memory_bits = setup.plan().memory_bits();

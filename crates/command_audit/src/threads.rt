@@ -1,19 +1,21 @@
 //! What each thread can name.
-ghost use Rattle.std.specs.Prelude.{◌≡◌, ◌++◌, IfOk, OnOk, All, flat_map, map, string_bytes};
+ghost use Rattle.std.specs.Prelude.{◌≡◌, ◌++◌, ◌==◌, IfOk, OnOk, All, filter, flat_map, map, not, string_bytes};
+ghost use Rattle.std.specs.List.{list_any};
+ghost use Rattle.setup_report.specs.State.{is_in as is_in_list};
 ghost use Rattle.kernel_forest.specs.Forest.{Forest};
 ghost use Rattle.kernel_forest.specs.Entries.{Entry};
 ghost use Rattle.query_reach.specs.FullSlots.{AreFullSlots, AreLawful, AreRising};
-ghost use Rattle.setup_values.specs.Names.{names_view};
+ghost use Rattle.command_audit.specs.Naming.{naming_view};
 ghost use Rattle.command_audit.specs.Threads as spec;
 
-use crate::text::HeldSlot;
+use crate::naming::{Naming, add_naming};
+use crate::objects::Object;
+use crate::text::{DoingText, HeldSlot};
 use cap_core::Profile;
 use command_trace_lines::OfferText;
 use ipc_core::Waiters;
 use kernel_core::Kernel;
 use query_reach::{FullSlot, Held, Reached, held_slots, reached_slots};
-use setup_report::StateText;
-use setup_values::{Name, thread_name};
 use slot_core::CapStore;
 use std::alloc::{AllocError, Global};
 use std::collections::BTreeSet;
@@ -47,6 +49,25 @@ fn slots_of_thread<P: Profile>(
     })
 }
 
+fn reaches(list: &[Reached], slot: u64) -> bool
+    ensures { result ≡ list_any (λ r. r.slot == slot) list.now }
+{
+    list.iter().any(|reached| reached.slot == slot)
+}
+
+fn holds(list: &[Held], slot: u64) -> bool
+    ensures { result ≡ list_any (λ h. h.slot == slot) list.now }
+{
+    list.iter().any(|held| held.slot == slot)
+}
+
+/// Whether a thread can name a slot.
+pub fn can_name(thread: &ThreadSlots, slot: u64) -> bool
+    ensures { result ≡ spec.can_name slot thread.now }
+{
+    reaches(thread.reached.as_slice(), slot) || holds(thread.held.as_slice(), slot)
+}
+
 /// What each of some threads can name. `filled` has all full slots, as `full_slots` of `query_reach` gives them.
 ///
 /// # Errors
@@ -55,11 +76,11 @@ fn slots_of_thread<P: Profile>(
 pub fn thread_slots<P: Profile>(
     alloc: Global,
     filled: &[FullSlot],
-    threads: &BTreeSet<u64>,
+    threads: &[u64],
 ) -> Result<Vec<ThreadSlots>, AllocError>
     requires lawful { AreLawful P.profile filled.now }
     requires rising { AreRising filled.now }
-    ensures threads { IfOk result (λ list. map (λ t. t.thread) list.items ≡ threads.now.keys) }
+    ensures threads { IfOk result (λ list. map (λ t. t.thread) list.items ≡ threads.now) }
     ensures slots { IfOk result (λ list. (f : Forest Entry) → AreFullSlots f filled.now → All (spec.AreSlotsOf P.profile f) list.items) }
 {
     let mut list = Vec::new(alloc);
@@ -72,62 +93,71 @@ pub fn thread_slots<P: Profile>(
 
 fn add_thread<P: Profile, S: CapStore<P> + Drop, W: Waiters<P> + Drop>(
     out: &mut String,
-    names: &[Name],
+    naming: &Naming<'_>,
     address: u64,
     kernel: &Kernel<P, S, W>,
 ) -> Result<(), AllocError>
     ensures { OnOk result (string_bytes out.new ≡ string_bytes out.old
-        ++ spec.thread_line (names_view names.now) kernel.now address) }
+        ++ spec.live_thread_line (naming_view naming.now) kernel.now address) }
 {
     let Some(state) = kernel.thread_state(address) else {
         return Ok(());
     };
-    let thread = thread_name(names, address);
-    let state = StateText(state);
+    let thread = naming.about(address);
+    let state = DoingText {
+        naming: &*naming,
+        state,
+    };
     let offer = OfferText(kernel.offer(address));
     writeln!(out, "thread {thread} {state}{offer}")
 }
 
 fn add_reached<P: Profile, S: CapStore<P> + Drop, W: Waiters<P> + Drop>(
     out: &mut String,
+    naming: &Naming<'_>,
     thread: u64,
     list: &[Reached],
     kernel: &Kernel<P, S, W>,
 ) -> Result<(), AllocError>
     ensures { OnOk result (string_bytes out.new ≡ string_bytes out.old
-        ++ flat_map (spec.reach_line kernel.now.derivations thread) list.now) }
+        ++ flat_map (spec.reach_line (naming_view naming.now) kernel.now.derivations thread) list.now) }
 {
     for reached in list {
+        let told = naming.object(Object::Thread(thread));
         let word = reached.word;
         let slot = HeldSlot {
+            naming: &*naming,
             slot: reached.slot,
             cap: kernel.cap_at(reached.slot),
         };
-        writeln!(out, "  reach {thread} {word} slot {slot}")?;
+        writeln!(out, "  reach {told} {word} slot {slot}")?;
     }
     Ok(())
 }
 
 fn add_held<P: Profile, S: CapStore<P> + Drop, W: Waiters<P> + Drop>(
     out: &mut String,
+    naming: &Naming<'_>,
     thread: u64,
     list: &[Held],
     kernel: &Kernel<P, S, W>,
 ) -> Result<(), AllocError>
     ensures { OnOk result (string_bytes out.new ≡ string_bytes out.old
-        ++ flat_map (spec.hold_line kernel.now.derivations thread) list.now) }
+        ++ flat_map (spec.hold_line (naming_view naming.now) kernel.now.derivations thread) list.now) }
 {
     for held in list {
+        let told = naming.object(Object::Thread(thread));
         let word = held.word;
         let index = held.index;
         let depth = held.depth;
         let slot = HeldSlot {
+            naming: &*naming,
             slot: held.slot,
             cap: kernel.cap_at(held.slot),
         };
         writeln!(
             out,
-            "  hold {thread} {word} index {index} depth {depth} slot {slot}"
+            "  hold {told} {word} index {index} depth {depth} slot {slot}"
         )?;
     }
     Ok(())
@@ -135,17 +165,17 @@ fn add_held<P: Profile, S: CapStore<P> + Drop, W: Waiters<P> + Drop>(
 
 fn add_one<P: Profile, S: CapStore<P> + Drop, W: Waiters<P> + Drop>(
     out: &mut String,
-    names: &[Name],
+    naming: &Naming<'_>,
     slots: &ThreadSlots,
     kernel: &Kernel<P, S, W>,
 ) -> Result<(), AllocError>
     ensures { OnOk result (string_bytes out.new ≡ string_bytes out.old
-        ++ spec.slots_lines (names_view names.now) kernel.now slots.now) }
+        ++ spec.slots_lines (naming_view naming.now) kernel.now slots.now) }
 {
     let thread = slots.thread;
-    add_thread::<P, S, W>(out, names, thread, kernel)?;
-    add_reached::<P, S, W>(out, thread, slots.reached.as_slice(), kernel)?;
-    add_held::<P, S, W>(out, thread, slots.held.as_slice(), kernel)
+    add_thread::<P, S, W>(out, naming, thread, kernel)?;
+    add_reached::<P, S, W>(out, naming, thread, slots.reached.as_slice(), kernel)?;
+    add_held::<P, S, W>(out, naming, thread, slots.held.as_slice(), kernel)
 }
 
 /// Adds what threads do, and below each thread a line for each full slot that it can name.
@@ -155,15 +185,62 @@ fn add_one<P: Profile, S: CapStore<P> + Drop, W: Waiters<P> + Drop>(
 /// Memory was refused.
 pub fn add_threads<P: Profile, S: CapStore<P> + Drop, W: Waiters<P> + Drop>(
     out: &mut String,
-    names: &[Name],
+    naming: &Naming<'_>,
     list: &[ThreadSlots],
     kernel: &Kernel<P, S, W>,
 ) -> Result<(), AllocError>
     ensures { OnOk result (string_bytes out.new ≡ string_bytes out.old
-        ++ flat_map (spec.slots_lines (names_view names.now) kernel.now) list.now) }
+        ++ flat_map (spec.slots_lines (naming_view naming.now) kernel.now) list.now) }
 {
     for slots in list {
-        add_one::<P, S, W>(out, names, slots, kernel)?;
+        add_one::<P, S, W>(out, naming, slots, kernel)?;
     }
     Ok(())
+}
+
+/// Adds what the names are the addresses of, and a line for each trusted thread.
+///
+/// # Errors
+///
+/// Memory was refused.
+pub fn add_opening(out: &mut String, naming: &Naming<'_>, trusted: &[u64]) -> Result<(), AllocError>
+    ensures { OnOk result (string_bytes out.new ≡ string_bytes out.old ++ spec.opening (naming_view naming.now) trusted.now) }
+{
+    add_naming(out, naming)?;
+    add_trusted(out, naming, trusted)
+}
+
+fn add_trusted(out: &mut String, naming: &Naming<'_>, trusted: &[u64]) -> Result<(), AllocError>
+    ensures { OnOk result (string_bytes out.new ≡ string_bytes out.old ++ flat_map (spec.trusted_line (naming_view naming.now)) trusted.now) }
+{
+    for thread in trusted {
+        let told = naming.about(*thread);
+        writeln!(out, "without {told}")?;
+    }
+    Ok(())
+}
+
+fn is_in(list: &[u64], number: u64) -> bool
+    ensures { result ≡ is_in_list number list.now }
+{
+    list.iter().any(|other| number == *other)
+}
+
+/// The live threads that are not trusted.
+///
+/// # Errors
+///
+/// Memory was refused.
+pub fn others(
+    alloc: Global,
+    threads: &BTreeSet<u64>,
+    trusted: &[u64],
+) -> Result<Vec<u64>, AllocError>
+    ensures { IfOk result (λ v. v.items ≡ filter (λ thread. not (is_in_list thread trusted.now)) threads.now.keys) }
+{
+    threads
+        .iter()
+        .filter(|thread| !is_in(trusted, **thread))
+        .copied()
+        .collect(alloc)
 }

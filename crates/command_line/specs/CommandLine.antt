@@ -98,11 +98,11 @@ why_command = with_rule (with_file (codes "why")) (number_rule (codes "call"))
 
 abbrev pub audit_command : App
 audit_command =
-    with_rule (with_rule (with_rule (with_rule (with_rule (with_rule (with_rule (with_rule (with_rule (with_rule (with_rule (with_rule (with_rule (with_rule (with_file (codes "audit"))
+    with_rule (with_rule (with_rule (with_rule (with_rule (with_rule (with_rule (with_rule (with_rule (with_rule (with_rule (with_rule (with_rule (with_rule (with_rule (with_file (codes "audit"))
     (number_rule (codes "after"))) (text_rule (codes "slot"))) (flag_rule (codes "ever"))) (text_rule (codes "without")))
-    (text_rule (codes "messages"))) (text_rule (codes "never"))) (text_rule (codes "by"))) (text_rule (codes "policy")))
-    (text_rule (codes "how"))) (flag_rule (codes "message"))) (flag_rule (codes "hold"))) (flag_rule (codes "loss")))
-    (number_rule (codes "badge"))) (number_rule (codes "states"))
+    (flag_rule (codes "names"))) (text_rule (codes "messages"))) (text_rule (codes "never"))) (text_rule (codes "by")))
+    (text_rule (codes "policy"))) (text_rule (codes "how"))) (flag_rule (codes "message"))) (flag_rule (codes "hold")))
+    (flag_rule (codes "loss"))) (number_rule (codes "badge"))) (number_rule (codes "states"))
 
 abbrev pub explore_command : App
 explore_command =
@@ -233,6 +233,7 @@ pub record HasOptions (rows : List Row) (options : Options) : Type 0 where
   pub without : option_map (λ s. s.now) options.without ≡ first_of (codes "without") rows
   pub messages : option_map (λ s. s.now) options.messages ≡ first_of (codes "messages") rows
   pub policy : option_map (λ s. s.now) options.policy ≡ first_of (codes "policy") rows
+  pub names : options.names ≡ is_set (first_of (codes "names") rows)
   pub first : Says (first_of (codes "first") rows) options.first
   pub states : Says (first_of (codes "states") rows) options.states
   pub witness : option_map (λ s. s.now) options.witness ≡ first_of (codes "witness") rows
@@ -262,17 +263,19 @@ agrees_how options =
     && ((is_some options.how || not (options.message || (options.hold || options.loss)))
     && (asks_message options || not (is_some options.badge))))
 
--- the options go together: `--ever` and `--never` not with each other, and not with `--slot`; `--without` needs one of them or
--- `--how`, `--messages` one of the two, and `--by` needs `--never` or a question of messages; `--policy` goes with none of
--- these
-abbrev pub agrees : Options → Bool
+-- the options go together: `--ever` and `--never` not with each other, and not with `--slot`; `--names` not with these two or
+-- `--how`; `--slot` not with `--without` or `--names`; `--messages` needs one of the first two, and `--by` needs `--never` or a
+-- question of messages; `--policy` goes with none of these
+unfoldable pub agrees : Options → Bool
 agrees options =
     not (options.ever && is_some options.never)
     && (not (is_of_parts options && is_some options.slot)
-    && (((is_of_parts options || is_some options.how) || not (is_some options.without))
+    && (not (is_some options.slot && (is_some options.without || options.names))
+    && (not ((is_of_parts options || is_some options.how) && options.names)
     && ((is_of_parts options || not (is_some options.messages))
     && (((is_some options.never || asks_message options) || not (is_some options.by))
-    && (not (is_some options.policy && (is_of_parts options || is_some options.slot)) && agrees_how options)))))
+    && (not (is_some options.policy && (is_of_parts options || (is_some options.slot || (is_some options.without || options.names))))
+    && agrees_how options))))))
 
 -- the matches of the subcommand that is met
 abbrev pub own_rows : Option (Text × List Row) → List Row

@@ -57,14 +57,15 @@ pub struct Options<'a> {
     /// `--by` of `audit --never` and `audit --how`: the endpoints by which the parts may have to do with each other, with commas
     /// between them.
     pub by: Option<&'a str>,
-    /// `--without` of `audit --ever`, `audit --never` and `audit --how`: the threads that are trusted to make no more calls, with
-    /// commas between them.
+    /// `--without` of `audit`: the threads that are trusted to make no more calls, with commas between them.
     pub without: Option<&'a str>,
     /// `--messages` of `audit --ever` and `audit --never`: the threads that are trusted to go on to send and receive, and to do
     /// nothing else, with commas between them.
     pub messages: Option<&'a str>,
     /// `--policy` of `audit`: the name of a file, to whose policy the layout is held.
     pub policy: Option<&'a str>,
+    /// Whether `--names` of `audit` is there: objects are told by their names, in place of their addresses.
+    pub names: bool,
     /// `--first` of `explore` and `threads`: how many calls are made before the clients begin.
     pub first: Option<u64>,
     /// `--states` of `explore`: the most states that are kept; of `audit --how`: the most copies of the kernel that are tried.

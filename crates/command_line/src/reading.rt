@@ -57,7 +57,9 @@ const EVER_WITH_NEVER: &str = "--ever and --never do not go together";
 
 const SLOT_WITH_PARTS: &str = "--slot goes neither with --ever nor with --never";
 
-const WITHOUT_ALONE: &str = "--without goes with --ever, --never or --how alone";
+const SLOT_WITH_OTHERS: &str = "--slot goes neither with --without nor with --names";
+
+const NAMES_WITH_CALLS: &str = "--names goes with none of --ever, --never and --how";
 
 const MESSAGES_ALONE: &str = "--messages goes with --ever or --never alone";
 
@@ -239,9 +241,15 @@ fn audit<'a>(alloc: Global) -> Result<Command<'a>, AllocError>
         alloc,
         "without",
         "WHO",
-        "With --ever, --never or --how: these threads, with commas between them, make no more calls",
+        "Trust these threads, with commas between them, to make no more calls",
     );
-    and_how(alloc, and_never(alloc, and_argument(with_ever, without)))
+    let with_without = and_argument(with_ever, without);
+    let names = flag(
+        alloc,
+        "names",
+        "Tell objects by their names, in place of their addresses",
+    );
+    and_how(alloc, and_never(alloc, and_argument(with_without, names)))
 }
 
 /// The option `--first`.
@@ -454,6 +462,7 @@ fn options_in<'a>(matches: &ArgMatches<'a>) -> Options<'a>
         without: text_given(matches, "without"),
         messages: text_given(matches, "messages"),
         policy: text_given(matches, "policy"),
+        names: flag_given(matches, "names"),
         first: number_given(matches, "first"),
         states: number_given(matches, "states"),
         witness: text_given(matches, "witness"),
@@ -549,6 +558,7 @@ fn bare_line<'a>(alloc: Global, matches: &ArgMatches<'a>) -> Result<Line<'a>, Al
             without: None,
             messages: None,
             policy: None,
+            names: false,
             first: None,
             states: None,
             witness: None,
@@ -633,13 +643,17 @@ fn conflict_of(options: &Options) -> Option<&'static str>
         Some(EVER_WITH_NEVER)
     } else if is_of_parts && options.slot.is_some() {
         Some(SLOT_WITH_PARTS)
-    } else if !is_of_parts && options.how.is_none() && options.without.is_some() {
-        Some(WITHOUT_ALONE)
+    } else if options.slot.is_some() && (options.without.is_some() || options.names) {
+        Some(SLOT_WITH_OTHERS)
+    } else if (is_of_parts || options.how.is_some()) && options.names {
+        Some(NAMES_WITH_CALLS)
     } else if !is_of_parts && options.messages.is_some() {
         Some(MESSAGES_ALONE)
     } else if options.never.is_none() && !asks_message(options) && options.by.is_some() {
         Some(BY_ALONE)
-    } else if options.policy.is_some() && (is_of_parts || options.slot.is_some()) {
+    } else if options.policy.is_some()
+        && (is_of_parts || options.slot.is_some() || options.without.is_some() || options.names)
+    {
         Some(POLICY_ALONE)
     } else {
         conflict_of_how(options)

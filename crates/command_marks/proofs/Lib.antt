@@ -3,3 +3,6 @@ pub mod Sequences
 pub mod Reports
 pub mod Same
 pub mod Questions
+pub mod Counted
+pub mod Fronts
+pub mod Places

@@ -1,11 +1,12 @@
--- What the marks tell of the report, and that they tell no reply.
-use Rattle.std.specs.Prelude.{◌≡◌, ◌↔◌, codes, List, ℕ, length, Some, false}
+-- What the marks tell of the report, that they tell no reply, and that another set-up is told by a place.
+use Rattle.std.specs.Prelude.{◌≡◌, ◌≢◌, ◌↔◌, codes, List, ℕ, length, Some, false}
 use Rattle.kernel_abstract.specs.declared.call.Reply.{Reply}
-use Rattle.setup_format.specs.Views.{CallView}
+use Rattle.setup_format.specs.Views.{CallView, ReadView}
 use Rattle.setup_report.specs.Report.{met_count}
 use Rattle.setup_report.specs.Text.{begins_as, expectation_text, reply_text}
 use Rattle.command_marks.specs.declared.mark.Mark.TheVariants.{Right}
-use Rattle.command_marks.specs.Against.{is_short, mark_by_question}
+use Rattle.command_marks.specs.Against.{is_same, is_short, mark_by_question}
+use Rattle.command_marks.specs.Differences.{differs_text}
 use Rattle.command_marks.specs.Marks.{mark_of, marks_of, numbers_of}
 
 -- the marks of a set-up are those that its report shows: right where it says that an expectation is met
@@ -22,3 +23,7 @@ abbrev pub AreThoseOfTheExercise : Type 0
 AreThoseOfTheExercise =
     (question answer : List ℕ) (reply : Reply) → (mark_by_question (Some question) (Some answer) reply ≡ Right)
     ↔ ((expectation_text (Some answer) (reply_text reply) ≡ codes " [met]") × (is_short question answer reply ≡ false))
+
+-- of each set-up that is another one than the exercise a place is told, and not only that it differs
+abbrev pub HasPlaceWhereItDiffers : Type 0
+HasPlaceWhereItDiffers = (exercise read : ReadView) → is_same exercise.setup read.setup ≡ false → differs_text exercise read ≢ codes "differs"

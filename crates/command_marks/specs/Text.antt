@@ -33,12 +33,12 @@ mark_lines number (call ∷ calls) [] = []
 mark_lines number (call ∷ calls) (mark ∷ marks) = mark_line number call.call call.expect mark ++ mark_lines (number + 1) calls marks
 
 -- how many are right, of how many, and how many are open
-abbrev pub count_line : ℕ → ℕ → ℕ → List ℕ
-count_line right expected asked =
+abbrev pub marks_count_line : ℕ → ℕ → ℕ → List ℕ
+marks_count_line right expected asked =
     terminated (codes "marks " ++ (decimal right ++ (codes " of " ++ (decimal expected ++ (codes " open " ++ decimal asked)))))
 
 abbrev pub text_with : List CallView → List Mark → ℕ → ℕ → List ℕ
-text_with calls marks right expected = mark_lines 1 calls marks ++ count_line right expected (length (numbers_of Open 1 marks))
+text_with calls marks right expected = mark_lines 1 calls marks ++ marks_count_line right expected (length (numbers_of Open 1 marks))
 
 -- the marks of a set-up's run
 abbrev pub marks_in : ProfileName → SetupView → List Mark

@@ -1,12 +1,16 @@
 //! The marks of answers that were handed in, as a table: a row for each file.
-ghost use Rattle.std.specs.Prelude.{◌≡◌, [], false, map, option_map, IfOk, Some, length};
+ghost use Rattle.std.specs.Prelude.{◌≡◌, ◌++◌, [], codes, false, map, option_map, IfOk, Some, length};
 ghost use Rattle.kernel_abstract.specs.Plan.{IsPlan};
-ghost use Rattle.setup_format.specs.Setups.{setup_of_bytes};
+ghost use Rattle.setup_format.specs.Laws.{setup_in};
+ghost use Rattle.setup_format.specs.Read.{read_view};
+ghost use Rattle.setup_format.specs.Setups.{read_of_bytes};
 ghost use Rattle.command_check.specs.Program.{HasCounts, replies_to};
 ghost use Rattle.command_files.specs.Files.{HasCountOf, IsInput};
 ghost use Rattle.command_marks.specs.Answers as spec;
+ghost use Rattle.command_marks.specs.Differences as differences;
 
 use crate::against::{is_same, marks_by};
+use crate::differences::differs_text;
 use crate::field::add_field;
 use crate::mark::{Mark, is_mark, numbers_of};
 use crate::table::ListText;
@@ -16,7 +20,7 @@ use command_core::{Notes, RunFault, Sink};
 use command_files::{Inputs, Listener, Tally, Telling, tell_files};
 use ipc_core::{LinkedWaiters, MakeWaiters};
 use kernel_core::Reply;
-use setup_format::{Setup, SetupFault, read_setup};
+use setup_format::{ReadSetup, SetupFault, read};
 use setup_report::expectations;
 use slot_core::{LinkedStore, MakeStore};
 use std::alloc::{AllocError, Global};
@@ -28,7 +32,7 @@ const HEAD: &[u8] = b"file,right,of,wrong,too short,open,note\n";
 /// What stands behind the name of a file of which nothing is marked, and why.
 const EXERCISE_REFUSED: &[u8] = b",,,,,exercise refused";
 
-const DIFFERS: &[u8] = b",,,,,differs";
+const DIFFERS: &[u8] = b",,,,,";
 
 const REFUSED: &[u8] = b",,,,,refused";
 
@@ -56,7 +60,7 @@ fn asked_count(marks: &[Mark]) -> usize
 
 /// What stands behind the name of a file whose answers were marked.
 fn cells(alloc: Global, marks: &[Mark]) -> Result<Vec<u8>, AllocError>
-    ensures { IfOk result (λ text. text.items ≡ spec.cells_of marks.now) }
+    ensures { IfOk result (λ text. text.items ≡ spec.answer_cells_of marks.now) }
 {
     let right = right_count(marks);
     let asked = asked_count(marks);
@@ -71,24 +75,37 @@ fn cells(alloc: Global, marks: &[Mark]) -> Result<Vec<u8>, AllocError>
     Ok(out.into_bytes())
 }
 
+/// What stands behind the name of a file whose set-up is another one.
+fn differing_cells(
+    alloc: Global,
+    exercise: &ReadSetup,
+    read: &ReadSetup,
+) -> Result<Vec<u8>, AllocError>
+    ensures { IfOk result (λ text. text.items ≡ codes ",,,,," ++ differences.differs_text (read_view exercise.now) (read_view read.now)) }
+{
+    let mut cells = Vec::from_slice(alloc, DIFFERS)?;
+    cells.extend_from_slice(differs_text(alloc, exercise, read)?.as_slice())?;
+    Ok(cells)
+}
+
 /// What stands behind the name of a file whose set-up was run, given the replies to its calls.
 #[tactic(auto, using(crate::proofs::Same::same_lengths))]
 fn cells_by(
     alloc: Global,
-    exercise: Option<&Setup>,
-    setup: &Setup,
+    exercise: Option<&ReadSetup>,
+    read: &ReadSetup,
     replies: &[Reply],
 ) -> Result<Vec<u8>, AllocError>
-    requires { length replies.now ≡ length setup.now.calls }
-    ensures { IfOk result (λ text. text.items ≡ spec.cells_by (option_map (λ s. s.now) exercise.entry) setup.now replies.now) }
+    requires { length replies.now ≡ length read.now.setup.calls }
+    ensures { IfOk result (λ text. text.items ≡ spec.cells_by (option_map (λ s. read_view s.now) exercise.entry) (read_view read.now) replies.now) }
 {
     let Some(exercise) = exercise else {
         return Vec::from_slice(alloc, EXERCISE_REFUSED);
     };
-    if !is_same(exercise, setup) {
-        return Vec::from_slice(alloc, DIFFERS);
+    if !is_same(&exercise.setup, &read.setup) {
+        return differing_cells(alloc, exercise, read);
     }
-    let marks = marks_by(alloc, exercise, setup, replies)?;
+    let marks = marks_by(alloc, &exercise.setup, &read.setup, replies)?;
     cells(alloc, marks.as_slice())
 }
 
@@ -96,17 +113,17 @@ fn cells_by(
 #[tactic(auto, using(crate::proofs::Sequences::replies_length))]
 fn run_setup<P: Profile, S: MakeStore<P>, W: MakeWaiters<P>>(
     alloc: Global,
-    exercise: Option<&Setup>,
-    setup: &Setup,
+    exercise: Option<&ReadSetup>,
+    read: &ReadSetup,
 ) -> Result<CountedText, AllocError>
-    requires { IsPlan P.profile setup.now.plan }
-    ensures text { IfOk result (λ made. made.text.items ≡ spec.cells_in P.profile (option_map (λ s. s.now) exercise.entry) setup.now) }
-    ensures count { IfOk result (λ made. HasCounts P.profile setup.now made.count) }
+    requires { IsPlan P.profile read.now.setup.plan }
+    ensures text { IfOk result (λ made. made.text.items ≡ spec.answer_cells_in P.profile (option_map (λ s. read_view s.now) exercise.entry) (read_view read.now)) }
+    ensures count { IfOk result (λ made. HasCounts P.profile read.now.setup made.count) }
 {
-    let (_, replies) = run_calls::<P, S, W>(alloc, setup)?;
-    let count = expectations(alloc, setup, replies.as_slice())?;
+    let (_, replies) = run_calls::<P, S, W>(alloc, &read.setup)?;
+    let count = expectations(alloc, &read.setup, replies.as_slice())?;
     Ok(CountedText {
-        text: cells_by(alloc, exercise, setup, replies.as_slice())?,
+        text: cells_by(alloc, exercise, read, replies.as_slice())?,
         count: Some(count),
         notes: Notes::none(alloc),
     })
@@ -115,20 +132,20 @@ fn run_setup<P: Profile, S: MakeStore<P>, W: MakeWaiters<P>>(
 /// What stands behind the name of a file with these bytes, and how many of its expectations are met.
 fn run_bytes(
     alloc: Global,
-    exercise: Option<&Setup>,
+    exercise: Option<&ReadSetup>,
     bytes: &[u8],
 ) -> Result<CountedText, AllocError>
-    ensures text { IfOk result (λ made. made.text.items ≡ spec.cells_for (option_map (λ s. s.now) exercise.entry) (setup_of_bytes bytes.now)) }
-    ensures count { IfOk result (λ made. HasCountOf (setup_of_bytes bytes.now) made.count) }
+    ensures text { IfOk result (λ made. made.text.items ≡ spec.answer_cells_for (option_map (λ s. read_view s.now) exercise.entry) (read_of_bytes bytes.now)) }
+    ensures count { IfOk result (λ made. HasCountOf (setup_in (read_of_bytes bytes.now)) made.count) }
 {
-    match read_setup(alloc, bytes) {
-        Ok(setup) => match setup.profile() {
+    match read(alloc, bytes) {
+        Ok(read) => match read.setup.profile() {
             ProfileName::Wide => {
-                run_setup::<Wide, LinkedStore<Wide>, LinkedWaiters<Wide>>(alloc, exercise, &setup)
+                run_setup::<Wide, LinkedStore<Wide>, LinkedWaiters<Wide>>(alloc, exercise, &read)
             }
             ProfileName::Narrow => {
                 run_setup::<Narrow, LinkedStore<Narrow>, LinkedWaiters<Narrow>>(
-                    alloc, exercise, &setup,
+                    alloc, exercise, &read,
                 )
             }
         },
@@ -144,17 +161,17 @@ fn run_bytes(
 /// A row for each file, by the questions of an exercise; of one that is refused there is no set-up.
 #[derive(Clone, Copy)]
 struct Answers<'a> {
-    exercise: Option<&'a Setup>,
+    exercise: Option<&'a ReadSetup>,
 }
 
 impl Telling for Answers<'_> {
     ghost strict = { λ table. false };
 
-    ghost is_made = { λ table bytes made. made.text.items ≡ spec.cells_for (option_map (λ s. s.now) table.exercise) (setup_of_bytes bytes) };
+    ghost is_made = { λ table bytes made. made.text.items ≡ spec.answer_cells_for (option_map (λ s. read_view s.now) table.exercise) (read_of_bytes bytes) };
 
-    ghost head = { λ table. spec.head };
+    ghost head = { λ table. spec.answer_head };
 
-    ghost line = { λ table. spec.row (option_map (λ s. s.now) table.exercise) };
+    ghost line = { λ table. spec.answer_row (option_map (λ s. read_view s.now) table.exercise) };
 
     ghost last = { λ table files tally. [] };
 
@@ -162,6 +179,7 @@ impl Telling for Answers<'_> {
         false
     }
 
+    #[tactic(auto, using(crate::proofs::Counted::counted))]
     fn make(&self, alloc: Global, bytes: &[u8]) -> Result<CountedText, AllocError> {
         run_bytes(alloc, self.exercise, bytes)
     }
@@ -198,11 +216,11 @@ impl Telling for Answers<'_> {
 }
 
 /// The set-up of an exercise, where it is not refused.
-fn exercise_in(alloc: Global, bytes: &[u8]) -> Result<Option<Setup>, AllocError>
-    ensures { IfOk result (λ found. found ≡ spec.exercise_in (setup_of_bytes bytes.now)) }
+fn exercise_in(alloc: Global, bytes: &[u8]) -> Result<Option<ReadSetup>, AllocError>
+    ensures { IfOk result (λ found. option_map read_view found ≡ spec.exercise_in (read_of_bytes bytes.now)) }
 {
-    match read_setup(alloc, bytes) {
-        Ok(setup) => Ok(Some(setup)),
+    match read(alloc, bytes) {
+        Ok(read) => Ok(Some(read)),
         Err(SetupFault::Memory) => Err(AllocError),
         Err(_) => Ok(None),
     }
@@ -211,7 +229,8 @@ fn exercise_in(alloc: Global, bytes: &[u8]) -> Result<Option<Setup>, AllocError>
 /// Runs the set-up in each of the files, as `mark_files` does, and writes a table to the sink in which they are marked by the
 /// questions of the exercise whose set-up these bytes are, or by its key: how many answers are right, of how many, and the
 /// numbers of the calls whose answers are wrong, say less than is asked for, or are not given. Nothing is marked of a set-up that
-/// is another one in more than what its calls expect, and nothing where the exercise is refused.
+/// is another one in more than what its calls expect; its row says where it differs first. Nothing is marked either where the
+/// exercise is refused.
 ///
 /// # Errors
 /// As of `mark_files`.

@@ -1,5 +1,5 @@
 //! Laws of the marks, over the definitions alone. Nothing is done.
-ghost use Rattle.command_marks.specs.Laws.{AreThoseOfTheExercise, AreThoseOfTheReport};
+ghost use Rattle.command_marks.specs.Laws.{AreThoseOfTheExercise, AreThoseOfTheReport, HasPlaceWhereItDiffers};
 
 /// A call is right exactly where the report says ` [met]` of it, and as many are right as the report counts. Of two replies
 /// that are both as expected, or both not, a mark is the same.
@@ -11,4 +11,9 @@ pub fn marks_are_those_of_the_report()
 /// as is asked for.
 pub fn answers_are_right_where_they_say_enough()
     ensures { AreThoseOfTheExercise }
+{}
+
+/// Of a set-up that is another one than the exercise it is told where: by a key of what is booted, or by a call.
+pub fn another_set_up_has_a_place()
+    ensures { HasPlaceWhereItDiffers }
 {}

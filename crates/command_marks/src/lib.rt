@@ -5,6 +5,7 @@
 mod against;
 mod answers;
 mod command;
+mod differences;
 mod field;
 mod laws;
 mod mark;
@@ -14,6 +15,9 @@ mod text;
 
 pub use answers::mark_answers;
 pub use command::Marks;
-pub use laws::{answers_are_right_where_they_say_enough, marks_are_those_of_the_report};
+pub use laws::{
+    another_set_up_has_a_place, answers_are_right_where_they_say_enough,
+    marks_are_those_of_the_report,
+};
 pub use mark::Mark;
 pub use table::mark_files;

@@ -13,15 +13,15 @@ use Rattle.command_line.specs.CommandLine.{Says}
 use Rattle.command_line.specs.declared.arguments.Options.{Options}
 use Rattle.command_core.specs.declared.fault.Verdict.{Verdict}
 use Rattle.command_core.specs.declared.fault.Verdict.TheVariants.{AllMet, NotMet, Refused, Absent}
-use Rattle.command_new.specs.New.{IsMade, NoneFits}
+use Rattle.command_new.specs.New.{IsNewText, NoneFits}
 use Rattle.command_new.specs.declared.asked.NewSetup.{NewSetup}
 use Rattle.program.specs.Texts.{before_mark, behind_mark}
 use Rattle.program.specs.Commas.{words_in}
-use Rattle.program.specs.NewWords.{AreRegions, AsksFor, IsNewOf, IsProfileNamed, IsRegion, NothingFits}
+use Rattle.program.specs.NewWords.{AreRegionWords, AsksFor, IsNewOf, IsProfileNamed, IsRegionWord, NothingFits}
 use Rattle.program.specs.Private.{SayNoSizes}
 
-one_more : (words : List (List ℕ)) (regions : List (ℕ × ℕ)) (word : List ℕ) (region : ℕ × ℕ) → AreRegions words regions → IsRegion word region →
-    AreRegions (words ++ word ∷ []) (regions ++ region ∷ [])
+one_more : (words : List (List ℕ)) (regions : List (ℕ × ℕ)) (word : List ℕ) (region : ℕ × ℕ) → AreRegionWords words regions → IsRegionWord word region →
+    AreRegionWords (words ++ word ∷ []) (regions ++ region ∷ [])
 one_more [] [] word region are is = (is, tt)
 one_more [] (r ∷ regions) word region are is = absurd are
 one_more (w ∷ words) [] word region are is = absurd are
@@ -29,17 +29,17 @@ one_more (w ∷ words) (r ∷ regions) word region are is = (are.0, one_more wor
 
 -- the words that are looked at, with one more
 pub more : (words : List (Bor (List ℕ))) (i : ℕ) (d : Bor (List ℕ)) (regions regions' : List (ℕ × ℕ)) (region : ℕ × ℕ) → i < length words →
-    AreRegions (map (λ w. w.now) (take i words)) regions → IsRegion (get_or words i d).now region → regions' ≡ regions ++ region ∷ [] →
-    AreRegions (map (λ w. w.now) (take (i + 1) words)) regions'
+    AreRegionWords (map (λ w. w.now) (take i words)) regions → IsRegionWord (get_or words i d).now region → regions' ≡ regions ++ region ∷ [] →
+    AreRegionWords (map (λ w. w.now) (take (i + 1) words)) regions'
 more words i d regions regions' region within are is pushed =
-    subst (λ ws. AreRegions ws regions')
+    subst (λ ws. AreRegionWords ws regions')
     (sym (ap (map (λ (w : Bor (List ℕ)). w.now)) (take_more words i d within) ∙ map-append (λ (w : Bor (List ℕ)). w.now) (take i words) (get_or words i d ∷ [])))
-    (subst (AreRegions (map (λ (w : Bor (List ℕ)). w.now) (take i words) ++ (get_or words i d).now ∷ [])) (sym pushed)
+    (subst (AreRegionWords (map (λ (w : Bor (List ℕ)). w.now) (take i words) ++ (get_or words i d).now ∷ [])) (sym pushed)
     (one_more (map (λ (w : Bor (List ℕ)). w.now) (take i words)) regions (get_or words i d).now region are is))
 
 -- the region that a word says among others
-at_word : (words : List (List ℕ)) (regions : List (ℕ × ℕ)) (i : ℕ) (d : List ℕ) (e : ℕ × ℕ) → AreRegions words regions → i < length words →
-    (i < length regions) × IsRegion (get_or words i d) (get_or regions i e)
+at_word : (words : List (List ℕ)) (regions : List (ℕ × ℕ)) (i : ℕ) (d : List ℕ) (e : ℕ × ℕ) → AreRegionWords words regions → i < length words →
+    (i < length regions) × IsRegionWord (get_or words i d) (get_or regions i e)
 at_word [] regions i d e are within = absurd (omega arith)
 at_word (w ∷ words) [] i d e are within = absurd are
 at_word (w ∷ words) (r ∷ regions) zero d e are within = (omega arith, are.0)
@@ -53,12 +53,12 @@ few_bits Narrow = lit< tt
 
 -- one word says no bits that a profile has, so the words say no sizes
 pub no_sizes : (words : List (Bor (List ℕ))) (i : ℕ) (d : Bor (List ℕ)) → i < length words →
-    ((region : ℕ × ℕ) → IsRegion (get_or words i d).now region → 2 ^ 32 ≤ region.1) → SayNoSizes (map (λ w. w.now) words)
+    ((region : ℕ × ℕ) → IsRegionWord (get_or words i d).now region → 2 ^ 32 ≤ region.1) → SayNoSizes (map (λ w. w.now) words)
 no_sizes words i d within many regions are p sized =
     let names : List (List ℕ) = map (λ (w : Bor (List ℕ)). w.now) words in
     let here = at_word names regions i d.now (0, 0) are (omega (arith, length-map words (λ (w : Bor (List ℕ)). w.now))) in
     let word : get_or names i d.now ≡ (get_or words i d).now = get_or-map (λ (w : Bor (List ℕ)). w.now) words i d d.now within in
-    let bits : 2 ^ 32 ≤ (get_or regions i (0, 0)).1 = many (get_or regions i (0, 0)) (subst (λ w. IsRegion w (get_or regions i (0, 0))) word here.1) in
+    let bits : 2 ^ 32 ≤ (get_or regions i (0, 0)).1 = many (get_or regions i (0, 0)) (subst (λ w. IsRegionWord w (get_or regions i (0, 0))) word here.1) in
     let size : (get_or regions i (0, 0)).1 ≤ max_object_bits p = (sized i (0, 0) here.0).most in
     absurd (omega (arith, few_bits p))
 
@@ -67,7 +67,7 @@ no_sizes words i d within many regions are p sized =
 same_number : (t : List ℕ) (m n : ℕ) → Says (Some t) (Some m) → Says (Some t) (Some n) → m ≡ n
 same_number t m n a b = a.1 ∙ sym b.1
 
-same_regions : (words : List (List ℕ)) (some others : List (ℕ × ℕ)) → AreRegions words some → AreRegions words others → some ≡ others
+same_regions : (words : List (List ℕ)) (some others : List (ℕ × ℕ)) → AreRegionWords words some → AreRegionWords words others → some ≡ others
 same_regions [] [] [] a b = refl
 same_regions [] [] (r ∷ others) a b = absurd b
 same_regions [] (r ∷ some) others a b = absurd a
@@ -114,7 +114,7 @@ no_regions options none asked asks plan fits =
 
 -- what is made for the sizes is what the options ask for
 pub asked_is_made : (options : Options) (asked : Option NewSetup) → MatchOption asked (NothingFits options) (AsksFor options) → (input text : List ℕ) (verdict : Verdict) →
-    IsMade asked input text verdict → IsNewOf options text verdict
+    IsNewText asked input text verdict → IsNewOf options text verdict
 unfolding IsNewOf
 asked_is_made options None asks input text verdict made = subst (IsNewOf options text) (sym made.1) (made.0, asks)
 asked_is_made options (Some asked) asks input text AllMet made = (asked, asks, made)

@@ -7,7 +7,7 @@ use Rattle.command_core.specs.declared.fault.Verdict.{Verdict}
 use Rattle.command_files.specs.Strict.{checked}
 use Rattle.command_check.specs.Commands.{IsAnswerTo, IsStateAnswer}
 use Rattle.command_check.specs.Migrations.{IsMigration}
-use Rattle.command_audit.specs.Audits.{IsAudited, IsSlotAudited}
+use Rattle.command_audit.specs.Audits.{IsSlotAudited, IsStateAudited}
 use Rattle.command_parts.specs.Told.{IsEver}
 use Rattle.command_parts.specs.Threads.{Trusted}
 use Rattle.command_policy.specs.Policies.{IsPolicyOf}
@@ -52,9 +52,10 @@ question_of options threads = record {
   by = by_of options;
 }
 
--- an audit of a state, or of the slot that a word stands for
+-- an audit of a state, but for the threads of `--without`, or of the slot that a word stands for
 abbrev pub IsAuditAt : Options → Option (List ℕ) → List ℕ → List ℕ → Verdict → Type 0
-IsAuditAt options None input text verdict = IsAnswerTo (IsStateAnswer (IsAudited None) options.after) input text verdict
+IsAuditAt options None input text verdict =
+    IsAnswerTo (IsStateAnswer (IsStateAudited (without_of options) options.names) options.after) input text verdict
 IsAuditAt options (Some slot) input text verdict = IsAnswerTo (IsSlotAudited slot options.after) input text verdict
 
 abbrev pub IsAuditNow : Options → List ℕ → List ℕ → Verdict → Type 0
@@ -102,23 +103,23 @@ IsAudit options input text verdict =
     MatchBool (is_some options.policy) (IsAnswerTo (IsPolicyOf options.after) input text verdict) (IsAuditOfParts options input text verdict)
 
 -- the calls that are made before the clients begin, and the states that are kept at the most
-abbrev pub first_of : Options → ℕ
-first_of options = unwrap_or options.first 0
+abbrev pub first_calls_of : Options → ℕ
+first_calls_of options = unwrap_or options.first 0
 
 abbrev pub states_of : Options → ℕ
 states_of options = unwrap_or options.states 100000
 
 -- the report on every order, or, with `--witness`, the set-up of the order that its text names
-abbrev pub IsExplored : Options → Option (List ℕ) → List ℕ → List ℕ → Verdict → Type 0
-IsExplored options None input text verdict = IsAnswerTo (IsExploration (first_of options) (states_of options)) input text verdict
-IsExplored options (Some which) input text verdict = IsNamedWitness which (first_of options) (states_of options) input text verdict
+abbrev pub IsExploreAnswer : Options → Option (List ℕ) → List ℕ → List ℕ → Verdict → Type 0
+IsExploreAnswer options None input text verdict = IsAnswerTo (IsExploration (first_calls_of options) (states_of options)) input text verdict
+IsExploreAnswer options (Some which) input text verdict = IsNamedWitness which (first_calls_of options) (states_of options) input text verdict
 
 abbrev pub IsExplorationBy : Options → List ℕ → List ℕ → Verdict → Type 0
-IsExplorationBy options = IsExplored options (option_map (λ s. s.now) options.witness)
+IsExplorationBy options = IsExploreAnswer options (option_map (λ s. s.now) options.witness)
 
 -- the report of clients that share a kernel, by the option
 abbrev pub IsShared : Options → List ℕ → List ℕ → Verdict → Type 0
-IsShared options = IsSharedProgram (λ _ _. ⊥) (first_of options)
+IsShared options = IsSharedProgram (λ _ _. ⊥) (first_calls_of options)
 
 -- the form of a derivation forest, by the option
 abbrev pub form_of : Options → Form

@@ -21,21 +21,21 @@ IsProfileNamed (Some name) Wide = bytes_eq name (codes "wide") ≡ true
 IsProfileNamed (Some name) Narrow = bytes_eq name (codes "narrow") ≡ true
 
 -- a word says the base of a region and, behind a colon (58), its bits
-abbrev pub IsRegion : List ℕ → ℕ × ℕ → Type 0
-IsRegion word region = Says (Some (before_mark 58 word)) (Some region.0) × Says (Some (behind_mark 58 word)) (Some region.1)
+abbrev pub IsRegionWord : List ℕ → ℕ × ℕ → Type 0
+IsRegionWord word region = Says (Some (before_mark 58 word)) (Some region.0) × Says (Some (behind_mark 58 word)) (Some region.1)
 
-abbrev pub AreRegions : List (List ℕ) → List (ℕ × ℕ) → Type 0
-AreRegions [] [] = ⊤
-AreRegions [] (region ∷ regions) = ⊥
-AreRegions (word ∷ words) [] = ⊥
-AreRegions (word ∷ words) (region ∷ regions) = IsRegion word region × AreRegions words regions
+abbrev pub AreRegionWords : List (List ℕ) → List (ℕ × ℕ) → Type 0
+AreRegionWords [] [] = ⊤
+AreRegionWords [] (region ∷ regions) = ⊥
+AreRegionWords (word ∷ words) [] = ⊥
+AreRegionWords (word ∷ words) (region ∷ regions) = IsRegionWord word region × AreRegionWords words regions
 
 -- the sizes: two threads and one endpoint, where no numbers are given, and the regions between commas
 pub record AsksFor (options : Options) (asked : NewSetup) : Type 0 where
   pub profile : IsProfileNamed (option_map (λ s. s.now) options.profile) asked.profile
   pub threads : asked.threads ≡ unwrap_or options.threads 2
   pub endpoints : asked.endpoints ≡ unwrap_or options.endpoints 1
-  pub untypeds : AreRegions (words_in (option_map (λ s. s.now) options.untyped)) asked.untypeds.items
+  pub untypeds : AreRegionWords (words_in (option_map (λ s. s.now) options.untyped)) asked.untypeds.items
 
 -- whatever the options ask for, no plan fits it: they may ask for nothing, where a word says no number
 abbrev pub NothingFits : Options → Type 0

@@ -4,7 +4,7 @@ use Rattle.std.specs.Str.{bytes_eq}
 use Rattle.command_line.specs.CommandLine.{Says}
 use Rattle.command_core.specs.declared.fault.Verdict.{Verdict}
 use Rattle.command_check.specs.Commands.{IsAnswerTo}
-use Rattle.command_explore.specs.Witnessed.{IsWitness}
+use Rattle.command_explore.specs.Witnessed.{IsExploreWitness}
 use Rattle.command_explore_text.specs.declared.witness.Witness.{Witness}
 use Rattle.command_explore_text.specs.declared.witness.Witness.TheVariants.{Answer, Stuck}
 use Rattle.program.specs.Texts.{before_mark, behind_mark}
@@ -22,12 +22,12 @@ Numbers text n = (said : Option ℕ) × Says (Some text) said × (n ≡ unwrap_o
 
 -- `I.J` names the answer J of call I, and `stuck.J` the J-th way to end stuck; any other text names what the report does not tell, since
 -- it counts calls, answers and ways from 1 on
-abbrev pub Names : List ℕ → Witness → Type 0
-Names which (Answer call place) =
+abbrev pub NamesWitness : List ℕ → Witness → Type 0
+NamesWitness which (Answer call place) =
     (bytes_eq (before_dot which) (codes "stuck") ≡ false) × Numbers (before_dot which) call × Numbers (behind_dot which) place
-Names which (Stuck place) = (bytes_eq (before_dot which) (codes "stuck") ≡ true) × Numbers (behind_dot which) place
+NamesWitness which (Stuck place) = (bytes_eq (before_dot which) (codes "stuck") ≡ true) × Numbers (behind_dot which) place
 
 -- the set-up with the calls of the order that the text names
 abbrev pub IsNamedWitness : List ℕ → ℕ → ℕ → List ℕ → List ℕ → Verdict → Type 0
 IsNamedWitness which first states input text verdict =
-    (witness : Witness) × Names which witness × IsAnswerTo (IsWitness first states witness) input text verdict
+    (witness : Witness) × NamesWitness which witness × IsAnswerTo (IsExploreWitness first states witness) input text verdict

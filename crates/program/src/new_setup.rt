@@ -1,7 +1,7 @@
 //! The sizes that the options of `new` ask for.
 ghost use Rattle.std.specs.Prelude.{◌≡◌, ◌≤◌, ◌^◌, ℕ, IfOk, MatchOption, map, option_map, unwrap_or};
 ghost use Rattle.program.specs.Commas.{words_in as words_in_definition};
-ghost use Rattle.program.specs.NewWords.{AreRegions, AsksFor, IsProfileNamed, IsRegion, NothingFits};
+ghost use Rattle.program.specs.NewWords.{AreRegionWords, AsksFor, IsProfileNamed, IsRegionWord, NothingFits};
 ghost use Rattle.program.specs.Private.{SayNoSizes};
 ghost use Rattle.cap_core.specs.declared.profile.ProfileName.{ProfileName as Profile};
 
@@ -39,7 +39,7 @@ fn profile_named(name: Option<&str>) -> Option<ProfileName>
 /// The region whose base and bits a word says, with a colon between them; none where it says none whose bits are a number of 32
 /// bits.
 fn region_in(word: &str) -> Option<(u64, u32)>
-    ensures { MatchOption result ((region : ℕ × ℕ) → IsRegion word.now region → 2 ^ 32 ≤ region.1) (λ region. IsRegion word.now (region.0, region.1)) }
+    ensures { MatchOption result ((region : ℕ × ℕ) → IsRegionWord word.now region → 2 ^ 32 ≤ region.1) (λ region. IsRegionWord word.now (region.0, region.1)) }
 {
     let (before, behind) = around(word, ':');
     let base = number_said(before)?;
@@ -50,7 +50,7 @@ fn region_in(word: &str) -> Option<(u64, u32)>
 
 /// The regions that words say; none where a word says no region.
 fn regions_of(alloc: Global, words: &[&str]) -> Result<Option<Vec<(u64, u32)>>, AllocError>
-    ensures { IfOk result (λ found. MatchOption found (SayNoSizes (map (λ w. w.now) words.now)) (λ v. AreRegions (map (λ w. w.now) words.now) v.items)) }
+    ensures { IfOk result (λ found. MatchOption found (SayNoSizes (map (λ w. w.now) words.now)) (λ v. AreRegionWords (map (λ w. w.now) words.now) v.items)) }
 {
     let mut regions = Vec::new(alloc);
     for word in words {
@@ -64,7 +64,7 @@ fn regions_of(alloc: Global, words: &[&str]) -> Result<Option<Vec<(u64, u32)>>, 
 
 /// The regions that a text says, with commas between them.
 fn regions_in(alloc: Global, text: Option<&str>) -> Result<Option<Vec<(u64, u32)>>, AllocError>
-    ensures { IfOk result (λ found. MatchOption found (SayNoSizes (words_in_definition (option_map (λ s. s.now) text.entry))) (λ v. AreRegions (words_in_definition (option_map (λ s. s.now) text.entry)) v.items)) }
+    ensures { IfOk result (λ found. MatchOption found (SayNoSizes (words_in_definition (option_map (λ s. s.now) text.entry))) (λ v. AreRegionWords (words_in_definition (option_map (λ s. s.now) text.entry)) v.items)) }
 {
     let words = words_in(alloc, text)?;
     regions_of(alloc, words.as_slice())
@@ -79,7 +79,7 @@ fn count_in(given: Option<u64>, usual: u64) -> Option<u32>
 
 /// A set-up of these sizes, where the options give them all; none where no plan fits what they give.
 fn with_regions(options: Options<'_>, untypeds: Vec<(u64, u32)>) -> Option<NewSetup>
-    requires { AreRegions (words_in_definition (option_map (λ s. s.now) options.untyped)) untypeds.items }
+    requires { AreRegionWords (words_in_definition (option_map (λ s. s.now) options.untyped)) untypeds.items }
     ensures { MatchOption result (NothingFits options.entry) (AsksFor options.entry) }
 {
     let profile = profile_named(options.profile)?;

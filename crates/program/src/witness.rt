@@ -1,5 +1,5 @@
 //! The order that `--witness` names.
-ghost use Rattle.program.specs.WitnessWords.{Names, Numbers};
+ghost use Rattle.program.specs.WitnessWords.{NamesWitness, Numbers};
 
 use crate::marks::{around, number_said};
 use command_explore_text::Witness;
@@ -14,7 +14,7 @@ fn number_in(text: &str) -> usize
 /// What a text names: `I.J` the answer J of call I, and `stuck.J` the J-th way to end stuck. For any other text it is a witness
 /// that no report has, since reports count from 1 on.
 pub(crate) fn witness_named(which: &str) -> Witness
-    ensures { Names which.now result }
+    ensures { NamesWitness which.now result }
 {
     let (before, behind) = around(which, '.');
     let place = number_in(behind);

@@ -8,12 +8,13 @@ ghost use Rattle.program.specs.WitnessWords.{IsNamedWitness};
 ghost use Rattle.command_parts.specs.Told.{IsEver};
 ghost use Rattle.command_never.specs.Never.{IsNever};
 ghost use Rattle.command_how.specs.How.{IsHow};
+ghost use Rattle.command_audit.specs.Audits.{IsStateAudited};
 
 use crate::commas::words_in;
 use crate::marks::around;
 use crate::new_setup::asked_by;
 use crate::witness::witness_named;
-use command_audit::{Audit, SlotAudit};
+use command_audit::{SlotAudit, StateAudit};
 use command_check::{Command, Migrator, OnSetup, OnState, StateCommand};
 use command_core::{Answer, Engine, RunFault};
 use command_explore::{Explore, ExploreOptions, WriteWitness};
@@ -93,6 +94,26 @@ fn make_ever_trusting(
     on_setup(alloc, Ever { trust, after }, input)
 }
 
+/// The audit of a state without the threads of `--without`.
+fn make_others_audit(
+    alloc: Global,
+    options: Options<'_>,
+    without: &[&str],
+    input: &[u8],
+) -> Result<Answer, RunFault>
+    requires { map (λ w. w.now) without.now ≡ without_of options }
+    ensures made { IfOk result (λ made. IsAnswerTo (IsStateAnswer (IsStateAudited (without_of options.entry) options.entry.names) options.entry.after) input.now made.text.items made.verdict) }
+    ensures memory { IfErr result (λ fault. fault ≡ RunFault.Memory) }
+{
+    let Options { names, after, .. } = options;
+    let audit = StateAudit {
+        without,
+        names,
+        after,
+    };
+    on_setup(alloc, audit, input)
+}
+
 /// The audit of a state or of one slot.
 fn make_audit_now(alloc: Global, options: Options<'_>, input: &[u8]) -> Result<Answer, RunFault>
     ensures made { IfOk result (λ made. IsAuditNow options.entry input.now made.text.items made.verdict) }
@@ -100,7 +121,10 @@ fn make_audit_now(alloc: Global, options: Options<'_>, input: &[u8]) -> Result<A
 {
     let Options { after, slot, .. } = options;
     match slot {
-        None => on_state(alloc, after, Audit { slot: None }, input),
+        None => match words_in(alloc, options.without) {
+            Ok(without) => make_others_audit(alloc, options, without.as_slice(), input),
+            Err(_) => Err(RunFault::Memory),
+        },
         Some(slot) => on_setup(alloc, SlotAudit { slot, after }, input),
     }
 }

@@ -2,7 +2,7 @@ use Rattle.std.proofs.Common.{◌≡◌, ◌++◌, true, map, ap, sym, ◌∙◌
 use Rattle.kernel_forest.specs.Derivation.{names_same}
 use Rattle.kernel_forest.specs.Entries.{derivations_of}
 use Rattle.slot_core.specs.Calls.{derivation_view}
-use Rattle.command_audit.specs.Ends.{is_named}
+use Rattle.command_audit.specs.Ends.{is_object_named}
 use Rattle.command_audit.proofs.Ended.{ends, named_seen, slot_names, stays}
 use Rattle.command_audit.proofs.ends.add_ended.Goals as goal
 
@@ -12,9 +12,9 @@ returns-then-names_same g c =
     let cap = c.args.derivation.now.cap in
     let new = map (derivation_view p) c.args.left.now in
     let same : names_same c.cap_at.result cap ≡ true = sym c.names_same.ensures ∙ c.if-names_same.true in
-    let named : is_named cap (derivations_of c.args.new.now.derivations) ≡ true =
+    let named : is_object_named cap (derivations_of c.args.new.now.derivations) ≡ true =
     slot_names c.args.new.now.derivations c.address.result cap (ap (λ x. names_same x cap) (sym c.cap_at.ensures.cap) ∙ same) in
-    stays cap new c.args.caps.now.items (ap (is_named cap) c.requires ∙ named)
+    stays cap new c.args.caps.now.items (ap (is_object_named cap) c.requires ∙ named)
 
 pub returns-then-contains : goal.returns-then-contains
 returns-then-contains g c =

@@ -1,8 +1,9 @@
 use Rattle.std.proofs.Common.{◌≡◌, ◌++◌, map, string_bytes}
 use Rattle.std.specs.List.{flat_map}
 use Rattle.std.specs.Map.Iter.{deref}
+use Rattle.command_audit.specs.Naming.{naming_view}
 use Rattle.command_audit.specs.Ends.{regions_at}
 use Rattle.command_audit.proofs.ends.add_regions.Given as goal
 
 abbrev pub invariant-loop-address : goal.invariant-loop-address
-invariant-loop-address l = string_bytes l.out ≡ string_bytes l.initial.out ++ flat_map (regions_at l.caps) (map deref l.yielded)
+invariant-loop-address l = string_bytes l.out ≡ string_bytes l.initial.out ++ flat_map (regions_at (naming_view l.naming) l.caps) (map deref l.yielded)

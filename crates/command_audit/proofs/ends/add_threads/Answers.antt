@@ -1,10 +1,10 @@
 use Rattle.std.proofs.Common.{string_bytes}
 use Rattle.std.specs.Map.Iter.{deref}
-use Rattle.setup_values.specs.Names.{names_view}
-use Rattle.command_audit.specs.Ends.{thread_line}
+use Rattle.command_audit.specs.Naming.{naming_view}
+use Rattle.command_audit.specs.Ends.{ended_thread_line}
 use Rattle.command_audit.proofs.Joined.{flat_yielded}
 use Rattle.command_audit.proofs.ends.add_threads.Goals as goal
 
 pub loop-address-preserved : goal.loop-address-preserved
 loop-address-preserved c =
-    flat_yielded (thread_line (names_view c.args.names.now)) deref c.loop-address.yielded c.in-Some.address (string_bytes c.args.out.now) _ _ c.loop-address.invariant c.in_ok-add_thread.ensures
+    flat_yielded (ended_thread_line (naming_view c.args.naming.now)) deref c.loop-address.yielded c.in-Some.address (string_bytes c.args.out.now) _ _ c.loop-address.invariant c.in_ok-add_thread.ensures

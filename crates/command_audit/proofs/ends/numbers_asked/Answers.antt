@@ -4,7 +4,7 @@ use Rattle.cap_core.specs.declared.capability.Cap.{Cap}
 use Rattle.setup_report.specs.State.{rising}
 use Rattle.setup_report.proofs.Addresses.Named.{named_some, named_none}
 use Rattle.command_trace_lines.proofs.Steps.{take_whole}
-use Rattle.command_audit.specs.Ends.{all_asked, asked_of}
+use Rattle.command_audit.specs.Ends.{all_asked, asked_object}
 use Rattle.command_audit.proofs.ends.numbers_asked.Goals.{in-Some+in_ok-insert, in_default}
 use Rattle.command_audit.proofs.ends.numbers_asked.Goals as goal
 
@@ -20,11 +20,11 @@ loop-cap-preserved c =
       | in-Some+in_ok-insert w ↦
           let some : c.asked_of.result ≡ Some w.in-Some.number = search rules in
           let after : c.match-asked_of.numbers.keys ≡ insert_key nat_cmp c.loop-cap.numbers.keys w.in-Some.number = cc (w.numbers-is, w.in_ok-insert.ensures.keys) in
-          named_some (asked_of c.args.asked) (λ (x : Cap). x) list i _ w.in-Some.number c.loop-cap.numbers.keys c.match-asked_of.numbers.keys c.loop-cap-test.true c.loop-cap.invariant (sym c.asked_of.ensures ∙ some) after
+          named_some (asked_object c.args.asked) (λ (x : Cap). x) list i _ w.in-Some.number c.loop-cap.numbers.keys c.match-asked_of.numbers.keys c.loop-cap-test.true c.loop-cap.invariant (sym c.asked_of.ensures ∙ some) after
       | in_default w ↦
           let none : c.asked_of.result ≡ None = search rules in
           let same : c.match-asked_of.numbers.keys ≡ c.loop-cap.numbers.keys = cc (w.numbers-is) in
-          same ∙ named_none (asked_of c.args.asked) (λ (x : Cap). x) list i _ c.loop-cap.numbers.keys c.loop-cap-test.true c.loop-cap.invariant (sym c.asked_of.ensures ∙ none)
+          same ∙ named_none (asked_object c.args.asked) (λ (x : Cap). x) list i _ c.loop-cap.numbers.keys c.loop-cap-test.true c.loop-cap.invariant (sym c.asked_of.ensures ∙ none)
     ]
 
 pub returns : goal.returns

@@ -1,24 +1,25 @@
 use Rattle.std.proofs.Common.{◌≡◌, ◌++◌, Some, string_bytes, ap, ◌∙◌}
 use Rattle.setup_values.specs.Names.{names_view}
-use Rattle.command_trace_lines.specs.Changes.{changes, state_lines}
-use Rattle.command_audit.specs.Text.{head_line}
-use Rattle.command_audit.specs.Revokes.{revoked, revoke_lines}
+use Rattle.command_trace_lines.specs.Changes.{changes, lines_of_state}
+use Rattle.command_audit.specs.Naming.{by_addresses}
+use Rattle.command_audit.specs.Text.{audit_head_line}
+use Rattle.command_audit.specs.Revokes.{shown_after_revoke, revoke_lines}
 use Rattle.command_audit.proofs.Joined.{joined_three}
 use Rattle.command_audit.proofs.state.audit_of_slot.Goals as goal
 
 pub returns : goal.returns
 returns g c = λ A reached shows.
     let p = g.P.Profile.profile in
-    let names = names_view c.args.names.now in
+    let texts = by_addresses (names_view c.args.names.now) in
     let setup = c.args.setup.now in
     let made = c.args.made in
     let slot = c.args.slot in
-    let new : c.in_ok-new.new ≡ revoked p A slot = c.in_ok-new.ensures A reached shows in
+    let new : c.in_ok-new.new ≡ shown_after_revoke p A slot = c.in_ok-new.ensures A reached shows in
     (λ i. (c.into_bytes.ensures.value i).items)
     ∙ (joined_three (string_bytes c.add_head.new.out) (string_bytes c.add_revoke.new.out) (string_bytes c.add_changes_between.new.out)
     _ _ _
-    (c.in_ok-add_head.ensures ∙ ap (λ l. l ++ head_line setup made (Some slot)) c.new-out.ensures.bytes)
+    (c.in_ok-add_head.ensures ∙ ap (λ l. l ++ audit_head_line setup made (Some slot)) c.new-out.ensures.bytes)
     c.in_ok-add_revoke.ensures
     c.in_ok-add_changes_between.ensures
-    ∙ (λ i. head_line setup made (Some slot)
-    ++ (revoke_lines names (shows i) (new i) slot ++ changes (state_lines p (shows i)) (state_lines p (new i)))))
+    ∙ (λ i. audit_head_line setup made (Some slot)
+    ++ (revoke_lines texts (shows i) (new i) slot ++ changes (lines_of_state p (shows i)) (lines_of_state p (new i)))))

@@ -1,0 +1,9 @@
+use Rattle.std.proofs.Common.{◌≡◌, ◌++◌, map, string_bytes}
+use Rattle.std.specs.List.{flat_map}
+use Rattle.std.specs.Map.Iter.{deref}
+use Rattle.command_audit.specs.Naming.{naming_view}
+use Rattle.command_audit.specs.Ends.{ended_node_line}
+use Rattle.command_audit.proofs.ends.add_nodes.Given as goal
+
+abbrev pub invariant-loop-address : goal.invariant-loop-address
+invariant-loop-address l = string_bytes l.out ≡ string_bytes l.initial.out ++ flat_map (ended_node_line (naming_view l.naming)) (map deref l.yielded)

@@ -1,8 +1,0 @@
-use Rattle.std.proofs.Common.{◌≡◌, ◌++◌, map, string_bytes}
-use Rattle.std.specs.List.{flat_map}
-use Rattle.std.specs.Map.Iter.{deref}
-use Rattle.command_audit.specs.Ends.{object_line}
-use Rattle.command_audit.proofs.ends.add_objects.Given as goal
-
-abbrev pub invariant-loop-address : goal.invariant-loop-address
-invariant-loop-address l = string_bytes l.out ≡ string_bytes l.initial.out ++ flat_map (object_line l.kind) (map deref l.yielded)

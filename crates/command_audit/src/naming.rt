@@ -1,0 +1,127 @@
+//! How the texts of an audit tell objects, slots and threads: by addresses, or by names.
+ghost use Rattle.std.specs.Prelude.{◌≡◌, ◌++◌, OnOk, Some, string_bytes};
+ghost use Rattle.command_audit.specs.Naming as spec;
+
+use crate::known::ObjectNames;
+use crate::objects::Object;
+use command_trace_lines::add_names;
+use setup_values::{Name, ThreadName, thread_name};
+use std::alloc::AllocError;
+use std::fmt;
+
+/// How addresses are told.
+#[derive(Clone, Copy)]
+pub enum Naming<'a> {
+    /// As numbers, a thread that a line is about also by its name.
+    Addresses(&'a [Name]),
+    /// By the name of the object that is there, where it has one.
+    Named(&'a ObjectNames<'a>),
+}
+
+/// An address, as it is told.
+#[derive(Clone, Copy)]
+pub enum Told<'a> {
+    /// As a number.
+    Number(u64),
+    /// As a number with a name behind it, where there is one.
+    Thread(ThreadName<'a>),
+    /// By the name of the object.
+    Name(&'a str),
+    /// The slot of the CSpace of a thread of that name.
+    Space(&'a str),
+    /// The slot with that index of a CNode of that name.
+    Index(&'a str, u64),
+}
+
+impl fmt::Display for Told<'_> {
+    ghost output = { λ t. Some (spec.told_as t) };
+
+    fn fmt<W: fmt::Write>(&self, f: &mut fmt::Formatter<W>) -> fmt::Result {
+        match self {
+            Told::Number(number) => write!(f, "{number}"),
+            Told::Thread(thread) => write!(f, "{thread}"),
+            Told::Name(name) => write!(f, "@{name}"),
+            Told::Space(name) => write!(f, "@{name}.cspace"),
+            Told::Index(name, index) => write!(f, "@{name}[{index}]"),
+        }
+    }
+}
+
+/// An object, by its name where it has one.
+fn object_told<'a>(known: &'a ObjectNames<'a>, object: Object) -> Told<'a>
+    ensures { spec.told_as result ≡ spec.object_told (spec.name_by known.entry.now) object }
+{
+    match known.name_of(object) {
+        None => Told::Number(object.base()),
+        Some(name) => Told::Name(name),
+    }
+}
+
+/// The slot of a thread's CSpace, by the thread's name where it has one.
+fn space_told<'a>(known: &'a ObjectNames<'a>, slot: u64) -> Told<'a>
+    ensures { spec.told_as result ≡ spec.space_or_number slot (spec.name_by known.entry.now (Object.Thread slot)) }
+{
+    match known.name_of(Object::Thread(slot)) {
+        None => Told::Number(slot),
+        Some(name) => Told::Space(name),
+    }
+}
+
+/// A slot, by the name of the CNode or of the thread that has it.
+fn slot_told<'a>(known: &'a ObjectNames<'a>, slot: u64) -> Told<'a>
+    ensures { spec.told_as result ≡ (spec.naming_view (Naming.Named known.entry)).slot slot }
+{
+    let Some(node) = known.node_around(slot) else {
+        return space_told(known, slot);
+    };
+    match known.name_of(Object::CNode(node.base)) {
+        None => Told::Number(slot),
+        Some(name) => Told::Index(name, slot.saturating_sub(node.base) >> known.slot_bits),
+    }
+}
+
+impl<'a> Naming<'a> {
+    /// The thread that a line is about.
+    pub fn about(&self, address: u64) -> Told<'_>
+        ensures { spec.told_as result ≡ (spec.naming_view self.entry.now).about address }
+    {
+        match self {
+            Naming::Addresses(names) => Told::Thread(thread_name(names, address)),
+            Naming::Named(known) => object_told(known, Object::Thread(address)),
+        }
+    }
+
+    /// Another object.
+    pub fn object(&self, object: Object) -> Told<'_>
+        ensures { spec.told_as result ≡ (spec.naming_view self.entry.now).object object }
+    {
+        match self {
+            Naming::Addresses(_) => Told::Number(object.base()),
+            Naming::Named(known) => object_told(known, object),
+        }
+    }
+
+    /// A slot.
+    pub fn slot(&self, address: u64) -> Told<'_>
+        ensures { spec.told_as result ≡ (spec.naming_view self.entry.now).slot address }
+    {
+        match self {
+            Naming::Addresses(_) => Told::Number(address),
+            Naming::Named(known) => slot_told(known, address),
+        }
+    }
+}
+
+/// Adds a line for each name of the set-up, with what it is the address of; none, where addresses are told by names.
+///
+/// # Errors
+///
+/// Memory was refused.
+pub fn add_naming(out: &mut String, naming: &Naming<'_>) -> Result<(), AllocError>
+    ensures { OnOk result (string_bytes out.new ≡ string_bytes out.old ++ (spec.naming_view naming.now).names) }
+{
+    match naming {
+        Naming::Addresses(names) => add_names(out, names),
+        Naming::Named(_) => Ok(()),
+    }
+}

@@ -1,0 +1,150 @@
+//! The audit of a state without the threads that are trusted, by addresses or by names, as the answer of a command.
+ghost use Rattle.std.specs.Prelude.{◌≡◌, ℕ, IfOk, map, true};
+ghost use Rattle.kernel_abstract.specs.Memory.{IsInMemory};
+ghost use Rattle.kernel_abstract.specs.Plan.{IsPlan};
+ghost use Rattle.kernel_abstract.specs.Reached.{IsReached};
+ghost use Rattle.kernel_abstract.specs.State.{State, shown};
+ghost use Rattle.setup_values.specs.Names.{names_view};
+ghost use Rattle.command_audit.specs.Naming.{texts_of};
+ghost use Rattle.command_audit.specs.Audit.{IsWholeAudit};
+ghost use Rattle.command_audit.specs.Audits.{IsStateAudited};
+
+use crate::known::ObjectNames;
+use crate::naming::Naming;
+use crate::objects::{boot_rows, live_nodes};
+use crate::state::{Heading, whole_audit};
+use cap_core::Profile;
+use command_check::Command;
+use command_core::{Answer, Verdict};
+use ipc_core::MakeWaiters;
+use kernel_core::Kernel;
+use setup_format::{ReadSetup, Setup};
+use setup_objects::{ObjectKind, absent_object, are_meant, objects_meant};
+use setup_report::{calls_made, kernel_after};
+use setup_values::Name;
+use slot_core::{DerivationStore, MakeStore};
+use std::alloc::{AllocError, Global};
+
+/// The audit of the state behind the first `after` calls of a set-up, or behind all, without the threads that the words stand for:
+/// each is a thread's address, its name, or a slot of the root CNode (`object_meant`). If `names` is set, objects that have a name
+/// are told by it. The verdict is `AllMet`, or `Absent` with nothing written where the set-up has fewer calls, and where a word
+/// stands for no thread.
+#[derive(Clone, Copy, Drop)]
+pub struct StateAudit<'a> {
+    pub without: &'a [&'a str],
+    pub names: bool,
+    pub after: Option<u64>,
+}
+
+/// The audit of a kernel, by the names of objects.
+fn told_by_names<P: Profile, S: MakeStore<P> + DerivationStore<P>, W: MakeWaiters<P>>(
+    alloc: Global,
+    names: &[Name],
+    trusted: &[u64],
+    setup: &Setup,
+    made: usize,
+    kernel: &Kernel<P, S, W>,
+) -> Result<Vec<u8>, AllocError>
+    requires plan { IsPlan P.profile setup.now.plan }
+    requires memory { (memory : ℕ) × IsInMemory P.profile memory kernel.now }
+    ensures { IfOk result (λ text. (A : State) → IsReached P.profile A → kernel.now ≡ shown A
+        → IsWholeAudit P.profile (texts_of true P.profile (names_view names.now) setup.now.plan (shown A)) trusted.now setup.now made A text.items) }
+{
+    let boot = boot_rows::<P, S, W>(alloc, setup.plan())?;
+    let rows = kernel.derivations(alloc)?;
+    let nodes = live_nodes(alloc, rows.as_slice())?;
+    let (boot, nodes) = (boot.as_slice(), nodes.as_slice());
+    let known = ObjectNames::new::<P>(names, setup.plan(), boot, nodes);
+    let heading = Heading {
+        naming: &Naming::Named(&known),
+        trusted,
+        setup,
+        made,
+    };
+    let text = whole_audit::<P, S, W>(alloc, heading, kernel)?;
+    Ok(text)
+}
+
+/// The audit of a kernel, by addresses or by names.
+fn told_by<P: Profile, S: MakeStore<P> + DerivationStore<P>, W: MakeWaiters<P>>(
+    alloc: Global,
+    by_name: bool,
+    names: &[Name],
+    trusted: &[u64],
+    setup: &Setup,
+    made: usize,
+    kernel: &Kernel<P, S, W>,
+) -> Result<Vec<u8>, AllocError>
+    requires plan { IsPlan P.profile setup.now.plan }
+    requires memory { (memory : ℕ) × IsInMemory P.profile memory kernel.now }
+    ensures { IfOk result (λ text. (A : State) → IsReached P.profile A → kernel.now ≡ shown A
+        → IsWholeAudit P.profile (texts_of by_name P.profile (names_view names.now) setup.now.plan (shown A)) trusted.now setup.now made A text.items) }
+{
+    if by_name {
+        let told = told_by_names::<P, S, W>(alloc, names, trusted, setup, made, kernel)?;
+        return Ok(told);
+    }
+    let heading = Heading {
+        naming: &Naming::Addresses(names),
+        trusted,
+        setup,
+        made,
+    };
+    let text = whole_audit::<P, S, W>(alloc, heading, kernel)?;
+    Ok(text)
+}
+
+impl StateAudit<'_> {
+    /// The answer by a kernel.
+    fn answer_of<P: Profile, S: MakeStore<P> + DerivationStore<P>, W: MakeWaiters<P>>(
+        &self,
+        alloc: Global,
+        names: &[Name],
+        setup: &Setup,
+        made: usize,
+        kernel: &Kernel<P, S, W>,
+    ) -> Result<Answer, AllocError>
+        requires plan { IsPlan P.profile setup.now.plan }
+        requires memory { (memory : ℕ) × IsInMemory P.profile memory kernel.now }
+        ensures { IfOk result (λ answer. (A : State) → IsReached P.profile A → kernel.now ≡ shown A
+            → IsStateAudited (map (λ w. w.now) self.now.without.now) self.now.names P.profile (names_view names.now) setup.now made A answer.text.items answer.verdict) }
+    {
+        let (kind, words) = (ObjectKind::Thread, self.without);
+        if !are_meant::<P, S, W>(names, setup, kernel, kind, words) {
+            let option = "--without";
+            let absent = absent_object::<P, S, W>(
+                alloc, names, setup, kernel, kind, option, words,
+            )?;
+            let none = Answer::absent(alloc, absent.unwrap_or(String::new(alloc)));
+            return Ok(none);
+        }
+        let trusted = objects_meant::<P, S, W>(alloc, names, setup, kernel, kind, words)?;
+        let trusted = trusted.as_slice();
+        let text = told_by::<P, S, W>(alloc, self.names, names, trusted, setup, made, kernel)?;
+        let answer = Answer::new(alloc, text, Verdict::AllMet);
+        Ok(answer)
+    }
+}
+
+impl Command for StateAudit<'_> {
+    ghost use Rattle.std.specs.Prelude.{map};
+    ghost use Rattle.command_check.specs.Commands.{IsStateAnswer};
+    ghost use Rattle.command_audit.specs.Audits.{IsStateAudited};
+
+    ghost answers = { λ audit. IsStateAnswer (IsStateAudited (map (λ w. w.now) audit.without.now) audit.names) audit.after };
+
+    fn answer<P: Profile, S: MakeStore<P> + DerivationStore<P>, W: MakeWaiters<P>>(
+        &self,
+        alloc: Global,
+        read: ReadSetup,
+    ) -> Result<Answer, AllocError> {
+        let (names, setup) = (read.names.as_slice(), &read.setup);
+        let Some(made) = calls_made(setup, self.after) else {
+            let (asked, calls) = (self.after.unwrap_or(0), setup.calls().len());
+            let absent = format!(in alloc; "--after {asked}: the set-up has {calls} calls")?;
+            return Ok(Answer::absent(alloc, absent));
+        };
+        let kernel = kernel_after::<P, S, W>(alloc, setup, made)?;
+        self.answer_of::<P, S, W>(alloc, names, setup, made, &kernel)
+    }
+}

@@ -1,0 +1,12 @@
+-- The counts of a set-up that was read with its table are those of the set-up that its bytes are.
+use Rattle.std.proofs.Common.{ℕ, List, Option, Result, subst}
+use Rattle.setup_format.specs.Faults.{Fault}
+use Rattle.setup_format.specs.Laws.{setup_in}
+use Rattle.setup_format.specs.Setups.{read_of_bytes, setup_of_bytes}
+use Rattle.setup_format.specs.Views.{SetupView}
+use Rattle.setup_format.proofs.Grammar.Reads.{reads_its_setup}
+use Rattle.setup_report.specs.declared.calls.ExpectationCount.{ExpectationCount}
+use Rattle.command_files.specs.Files.{HasCountOf}
+
+pub counted : (bytes : List ℕ) (count : Option ExpectationCount) → HasCountOf (setup_in (read_of_bytes bytes)) count → HasCountOf (setup_of_bytes bytes) count
+counted bytes count has = subst (λ (s : Result SetupView Fault). HasCountOf s count) (reads_its_setup bytes) has

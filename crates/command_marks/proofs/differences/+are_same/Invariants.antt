@@ -1,0 +1,6 @@
+-- Fewer values are left.
+use Rattle.std.proofs.Common.{length}
+use Rattle.command_marks.proofs.differences.+are_same.Given as goal
+
+abbrev pub decreases-are_same : goal.decreases-are_same
+decreases-are_same l = length l.a.now
