@@ -175,6 +175,14 @@ const OPTIONS: &[(&[&str], Told)] = &[
         Told::Parts(true, Some("loader")),
     ),
     (
+        &["sel4sim", "audit", "--without", "loader"],
+        Told::Parts(false, Some("loader")),
+    ),
+    (
+        &["sel4sim", "audit", "--names", "--without", ""],
+        Told::Parts(false, Some("")),
+    ),
+    (
         &["sel4sim", "audit", "--without=@a,2048", "--ever"],
         Told::Parts(true, Some("@a,2048")),
     ),
@@ -229,16 +237,16 @@ const FAULTS_OF_LINES: &[(&[&str], Told)] = &[
         Told::Conflict("--ever"),
     ),
     (
-        &["sel4sim", "audit", "--without", "loader"],
-        Told::Conflict("--without"),
-    ),
-    (
         &["sel4sim", "audit", "--without", "loader", "--slot", "160"],
-        Told::Conflict("--ever"),
+        Told::Conflict("--without"),
     ),
     (
-        &["sel4sim", "audit", "--without", ""],
-        Told::Conflict("--without"),
+        &["sel4sim", "audit", "--slot=160", "--names"],
+        Told::Conflict("--names"),
+    ),
+    (
+        &["sel4sim", "audit", "--ever", "--names"],
+        Told::Conflict("--names"),
     ),
     // calls for help
     (&["sel4sim", "--help"], Told::Help),

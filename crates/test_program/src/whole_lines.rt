@@ -201,7 +201,7 @@ const REASONS_AND_AUDITS: &[(&[&str], Wanted<'_>)] = &[
 const PARTS: &[(&[&str], Wanted<'_>)] = &[
     (
         &["sel4sim", "audit", "--ever"],
-        Wanted::Done(0, "ever 2 wide memory_bits 16 calls 2 after 2\npart 1\n"),
+        Wanted::Done(0, "ever 3 wide memory_bits 16 calls 2 after 2\npart 1\n"),
     ),
     (
         &["sel4sim", "audit", "--ever", "--after", "1"],
@@ -233,6 +233,10 @@ const PARTS: &[(&[&str], Wanted<'_>)] = &[
     ),
     (
         &["sel4sim", "audit", "--without", "2048"],
+        Wanted::Done(0, "audit 1 wide memory_bits 16 calls 2 after 2\nwithout 2048\n"),
+    ),
+    (
+        &["sel4sim", "audit", "--without", ""],
         Wanted::Fault(4, REFUSED),
     ),
 ];
