@@ -143,7 +143,7 @@ def faults(page, program):
     yield from lost_links(page)
     with tempfile.TemporaryDirectory() as name:
         folder = pathlib.Path(name)
-        for top in ("crates", "examples"):
+        for top in ("crates", "examples", "tests"):
             (folder / top).symlink_to(ROOT / top)
         runner = Runner(folder, program)
         for number, words, lines in blocks(page):

@@ -3,15 +3,23 @@
 
 The two are the same text but for what their calls expect. In the exercise that is one question throughout, "?" or "? LAST", where
 LAST is the last part of a delivery that some answer of the key tells: so no question tells which calls deliver. The first line is
-the title. The report of the exercise is that of the key with no answer met, and its status is 1.
+the title. The report of the exercise is that of the key with no answer met, and its status is 1. The link that tools/links.py
+writes for it has its title and its text.
 """
+import base64
 import pathlib
 import re
 import sys
+import zlib
+
+sys.path.append(str(pathlib.Path(__file__).resolve().parent.parent / "tools"))
+
+import links  # noqa: E402
 
 EXPECT = re.compile(r'(\bexpect\s*=\s*)"([^"\n]*)"')
 PARTS = ("from", "to", "badge", "label", "words")
 TITLE = "# exercise: "
+LINK = re.compile(r"- \[(.*)\]\(ADDRESS#name=[\w.]+&setup=([\w-]+)\)")
 
 
 def parts_told(answer):
@@ -31,6 +39,12 @@ def unanswered(report, question):
     return re.sub(r"expected \d+ of (\d+)\n$", r"expected 0 of \1\n", told)
 
 
+def linked(path):
+    """The title and the text that a link has in it."""
+    title, packed = LINK.fullmatch(links.line("ADDRESS", path)).groups()
+    return title, zlib.decompress(base64.urlsafe_b64decode(packed + "=" * (-len(packed) % 4)), -15).decode()
+
+
 def faults(exercise, key):
     text, answers = exercise.read_text(), key.read_text()
     question = question_for(answers)
@@ -42,6 +56,8 @@ def faults(exercise, key):
         yield "its report is not that of its key without an answer met"
     if exercise.with_suffix(".status").read_text() != "1\n":
         yield "its status is not 1"
+    if linked(exercise) != (text.splitlines()[0].removeprefix(TITLE), text):
+        yield "its link has another title or text"
 
 
 def main():

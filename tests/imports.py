@@ -1,11 +1,13 @@
 #!/usr/bin/env python3
 """imports.py PROGRAM FOLDER SEED COUNT: imports layouts, runs the set-ups, and compares their ends with what the layouts say.
 
-FOLDER has layouts, each with what its slots hold in a file `.listing`, and with `--flows` in a file `.flows`, written by another
-reader; and in `wrong` layouts with one fault each. COUNT random layouts are drawn from SEED. The end of each set-up is
+FOLDER has layouts, each with its listing in a file `.listing`, and with `--flows` in a file `.flows`, written by another
+reader; and in `wrong` layouts with one fault each. COUNT random layouts are drawn from SEED, and their listings are
+compared with what was drawn. The end of each set-up is
 read off the report of `check`: each slot of the layout holds its capability, no other slot is full but the loader's, threads are ready
 or inactive as asked, and nobody waits on an endpoint; what the slots have to hold is drawn here, or read by a few expressions that know
 nothing of the program. The set-up is also given to `check -`. A call of it is taken out or changed in some: then the end has to differ."""
+import difflib
 import pathlib
 import random
 import re
@@ -92,6 +94,14 @@ def layout(seed):
             text.append(f"{name} {{ cspace: {root} (guard: 0, guard_size: {size}) }}")
             want[name, 0] = (root, f"radix {objects[root][1]} guard 0 size {size}")
     return "\n".join([*text, "}", ""]), objects, want, inactive, 32 if word == 64 else 16
+
+
+def listing(objects, want, inactive):
+    """Returns the lines of the listing of a layout."""
+    kinds = {"cnode": "cnode", "tcb": "tcb", "ep": "endpoint", "ut": "untyped"}
+    places = {(holder, slot): f"{holder}.cspace" if objects[holder][0] == "tcb" else f"{holder}[{slot}]" for holder, slot in want}
+    slots = [f"{places[at]} {kinds[objects[name][0]]} {name} {told}".rstrip() for at, (name, told) in want.items()]
+    return slots + [f"{name} inactive" for name in inactive]
 
 
 def run(program, words, text):
@@ -181,11 +191,25 @@ def faults_of(program, folder):
             yield f"{path.name}: its listing has other lines"
         if not made.stdout.startswith("".join(f"# {line}\n" for line in listed.splitlines()) + "#\n"):
             yield f"{path.name}: its set-up begins with another listing"
+    yield from faults_by_name(program, folder)
     for path in sorted((folder / "wrong").glob("*.cdl")):
         made = run(program, ["import", str(path)], "")
         line = FAULTS[path.stem]
         if made.returncode != 2 or made.stdout != f"layout refused at {line}\n" or f"{path.name}:{line}:" not in made.stderr:
             yield f"{path.name}: {made.returncode} {made.stdout!r} {made.stderr[:200]!r}"
+
+
+def faults_by_name(program, folder):
+    """Yields what is wrong with the audits of two versions of a layout by names: the second has a client more, and nothing else differs."""
+    one, more = [run(program, ["audit", "--names", "--without", "loader", "-"], run(program, ["import", str(folder / f"{name}.cdl")], "").stdout).stdout.splitlines()
+                 for name in ("file_server", "file_server_5")]
+    news = ["thread @tcb_client_e ready", "  reach @tcb_client_e 1 slot @cnode_client_e[1] endpoint @fs_ep badge 5 rights w--p",
+            "  reach @tcb_client_e 2 slot @cnode_client_e[2] tcb @tcb_client_e", "channel @tcb_client_e 1 -> @fs_ep badge 5 rights w--p -> @tcb_fs 1"]
+    told = [line for line in difflib.ndiff(one[1:], more[1:]) if line[0] in "+-"]
+    if not one or told != [f"+ {line}" for line in news]:
+        yield f"file_server by names: {told}"
+    if one != (folder / "file_server.names").read_text().splitlines():
+        yield f"file_server by names: {one}"
 
 
 def main(program, folder, seed, count):
@@ -199,6 +223,9 @@ def main(program, folder, seed, count):
             continue
         report = run(program, ["check", "-"], made.stdout).stdout
         wrong += [f"layout {number} of {seed}: {it}" for it in differences(report, made.stdout, *said)]
+        if number % 10 == 3:
+            listed = run(program, ["import", "--listing"], text).stdout.splitlines()
+            wrong += [f"layout {number} of {seed}: its listing has other lines"] * (sorted(listed) != sorted(listing(*said[:3])))
         calls = made.stdout.split("\n\n# ")
         if number % 10 == 5:
             flows = run(program, ["import", "--flows"], text)

@@ -6,11 +6,13 @@ with `?`, else `not` and what was expected; and the counts. The exit status is t
 of FOLDER/exercise_answers is all right, each exercise of FOLDER/exercises all open, and a key with one answer changed tells that one
 alone. The table is read as CSV, also with file names that have commas, quotation marks and line ends.
 
-`marks --of` each exercise, and of each key in its place, is asked for the key, for the exercise, and for keys with answers that are
-cut short, taken out or wrong, and with a call more; its rows have to be those that a model here makes of the files and the report.
+`marks --of` each exercise, and of each key in its place, is asked for the key, for the exercise, for keys with answers that are
+cut short, taken out or wrong, and for other set-ups: with a call more or less, another word, memory or name. Its rows have to be
+those that a model here makes of the files and the report.
 """
 import csv
 import io
+import itertools
 import os
 import pathlib
 import re
@@ -26,6 +28,9 @@ EXPECT = re.compile(r'(\bexpect\s*=\s*)"[^"\n]*"')
 HEAD = ["file", "right", "of", "wrong", "open", "note"]
 HEAD_OF = ["file", "right", "of", "wrong", "too short", "open", "note"]
 REPLY = re.compile(r"\d+ \d+ [a-z_]+: ([a-z0-9 /]+?)(?: \[(?:met|not met: .*)\])?")
+BOOT = ["profile", "memory_bits", "root_radix", "threads", "endpoints", "untyped"]
+WORDS = ["thread", "op", "cap", "kind", "size_bits", "root", "index", "depth", "offset", "count", "src_root", "src_index", "src_depth", "rights", "word",
+         "label", "words"]
 NAMES = ["a, b.toml", 'a "b".toml', "a\nb.toml", "\u00e9 \u4e2d.toml"]
 
 
@@ -110,9 +115,23 @@ def faults_of_names(program, key):
             yield "files with such names have other rows"
 
 
-def without_answers(setup):
-    calls = [{key: value for key, value in call.items() if key != "expect"} for call in setup["call"]]
-    return {**setup, "call": calls}
+def made(setup, call):
+    """A call without its answer and its client, each name as its word."""
+    return {key: setup["names"].get(str(value).removeprefix("@"), value) for key, value in call.items() if key in WORDS}
+
+
+def difference(asked, given):
+    """Where a set-up is another one than the exercise, answers left out."""
+    for key in BOOT:
+        if asked.get(key) != given.get(key):
+            return f"differs at top key {key}"
+    for number, (call, other) in enumerate(itertools.zip_longest(asked["call"], given["call"]), 1):
+        if not call or not other:
+            return f"differs at call {number} {'missing' if call else 'added'}"
+        if made(asked, call) != made(given, other):
+            key = next((key for key in WORDS if call.get(key) != other.get(key)), None)
+            return f"differs at call {number} key {key}" if key else "differs at top key names"
+    return None
 
 
 def is_whole(question, answer, reply):
@@ -135,8 +154,8 @@ def mark_of(question, answer, reply):
 def row_of(program, exercise, answers):
     """The row of answers by an exercise, without the name."""
     asked, given = tomllib.loads(exercise), tomllib.loads(answers)
-    if without_answers(asked) != without_answers(given):
-        return ["", "", "", "", "", "differs"]
+    if found := difference(asked, given):
+        return ["", "", "", "", "", found]
     report = run(program, "check", "-", text=answers.encode())[1].splitlines()
     marks = [(number, mark_of(question["expect"], call.get("expect"), REPLY.fullmatch(line)[1]))
              for number, (question, call, line) in enumerate(zip(asked["call"], given["call"], report), 1) if "expect" in question]
@@ -155,6 +174,12 @@ def answers_of(key, exercise):
     yield "taken out", re.sub(r',\s*expect = "[^"]*"', "", key, count=1)
     end = key.rindex("]")
     yield "more", key[:end] + '{ thread = 2048, op = "suspend", cap = 2 },\n' + key[end:]
+    yield "less", key[:key.rindex("{ thread")] + "]\n"
+    last = key.rindex("cap = ")
+    yield "word", key[:last] + re.sub(r'cap = [^,]*', "cap = 77", key[last:], count=1)
+    yield "operation", re.sub(r'op = "\w+", (cap = [^,]*),[^\n]*', r'op = "suspend", \1 },', key, count=1)
+    yield "memory", key.replace("memory_bits = 16", "memory_bits = 17", 1)
+    yield "name", key.replace("root = 1", "root = 2", 1)
     yield "client", key.replace("format = 2", "format = 2\nlimit = 60000", 1)
 
 

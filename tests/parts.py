@@ -6,7 +6,8 @@ the threads that its NAME.args trusts as `--without`, and once with the same thr
 (20 where no number is given) are made behind it: of threads in parts by any operation, and with `--messages` also sends and receives
 of the trusted threads. By the report of `check` no message of an excluded pair may have been delivered, and no slot of the one's part
 may hold a capability to an object that has a byte in the other's. The first list is also looked at with a pair's answer turned round:
-somewhere that has to show.
+somewhere that has to show. A part that is told with `only messages` may get no capability. In every second list one part makes no
+calls, and where no line says that another may take slots from it, each of its slots holds what it held.
 """
 import pathlib
 import random
@@ -17,6 +18,8 @@ import sys
 CALLS = 40
 MESSAGES = ("send", "nbsend", "recv", "nbrecv")
 OTHERS = ("copy", "mint", "move", "mutate", "delete", "revoke", "cancel_badged", "retype", "set_space", "suspend", "resume")
+HELD = re.compile(r"slot (\d+) (.*?)(?: children)?$")
+TAKE = re.compile(r"^take (\d+) -> (\d+)$", re.M)
 SLOT = re.compile(r"slot (\d+) (\w+) (\d+)(?: (?:radix|bits) (\d+))?")
 DELIVERED = re.compile(r"\d+ \d+ \w+: delivered (\d+) from (\d+) to (\d+) ")
 
@@ -44,6 +47,32 @@ def parts_of(text):
         elif line.startswith("  memory "):
             memory.append((int(words[1]), int(words[3]), part))
     return threads, memory
+
+
+def only_messages(text):
+    """The parts that are told to only pass messages."""
+    part, alone = None, set()
+    for line in text.splitlines():
+        if line.startswith("part "):
+            part = int(line.split()[1])
+        elif line == "  only messages":
+            alone.add(part)
+    return alone
+
+
+def held(report):
+    """What each full slot holds."""
+    return {int(told[1]): told[2] for told in map(HELD.match, report.splitlines()) if told}
+
+
+def changed(before, after, memory, alone, kept):
+    """What slots got in parts that only pass messages, and what was lost in a part from which nothing may be taken."""
+    for slot, cap in after.items():
+        if part_at(memory, slot) in alone and before.get(slot) != cap:
+            yield f"slot {slot} of a part of only messages got {cap}"
+    for slot, cap in before.items():
+        if kept is not None and part_at(memory, slot) == kept and after.get(slot) != cap:
+            yield f"slot {slot} of part {kept}, from which nothing may be taken, lost {cap}"
 
 
 def size_of(kind, bits, narrow):
@@ -109,14 +138,20 @@ def tried(program, layout, how, who, count):
         for other in threads:
             if one != other:
                 answers[threads[one], threads[other]] = " excluded" in run(program, ["audit", "--never", f"{one},{other}", *trust, "-"], text)
+    alone, takes = only_messages(ever), {(int(one), int(other)) for one, other in TAKE.findall(ever)}
+    before = held(run(program, ["check", "-"], text))
     for seed in range(count):
         chance = random.Random(f"{layout.name} {how} {seed}")
         calls = ""
+        quiet = chance.choice(sorted(set(threads.values()))) if seed % 2 and len(set(threads.values())) > 1 else None
+        callers = [thread for thread, part in threads.items() if part != quiet]
         for _ in range(CALLS):
             passes = how == "messages" and free and chance.random() < 0.3
             calls += random_call(chance, chance.choice(free), MESSAGES) if passes else \
-                random_call(chance, chance.choice(list(threads)), MESSAGES if chance.random() < 0.5 else OTHERS)
+                random_call(chance, chance.choice(callers), MESSAGES if chance.random() < 0.5 else OTHERS)
         report = run(program, ["check", "-"], text + "\n" + calls)
+        kept = quiet if all(other != quiet for one, other in takes) else None
+        yield True, [f"{layout.name} --{how} {seed}: {line}" for line in changed(before, held(report), memory, alone, kept)]
         for pair, excluded in answers.items():
             yield excluded, [f"{layout.name} --{how} {seed}: part {pair[0]} -> {pair[1]}: {line}" for line in broken(report, made, memory, pair, narrow)]
 
@@ -138,7 +173,7 @@ def main():
                 faults += wrong if excluded else []
     for fault in faults[:20]:
         print(fault)
-    print(f"{looked} excluded pairs behind random calls, {len(faults)} broken; {seen} pairs that are not excluded, in which it happened")
+    print(f"{looked} excluded pairs and lists of random calls, {len(faults)} broken; {seen} pairs that are not excluded, in which it happened")
     sys.exit(1 if faults or not seen or not looked else 0)
 
 
