@@ -64,6 +64,7 @@ rows-python:
 	python3 tools/definitions.py --check
 	python3 tests/exercises.py $(setups)
 	python3 tests/run.py $(program) $(setups)
+	python3 tests/command_lines.py $(program)
 	python3 tests/several_files.py $(program) $(setups)
 	python3 tests/marks.py $(program) $(setups)
 	python3 tests/migrate.py $(program) $(setups)

@@ -1,0 +1,123 @@
+#!/usr/bin/env python3
+"""command_lines.py PROGRAM: whole command lines, by their exit status and by a part of what is written.
+
+A stored set-up of two calls, whose one expectation is met, is on standard input; the folder has one file, text.toml, which
+is no set-up. Where the command line is refused, or the input cannot be read, standard error says so and nothing is
+written.
+"""
+import pathlib
+import shlex
+import subprocess
+import sys
+import tempfile
+
+STORED = """format = 1
+memory_bits = 16
+root_radix = 4
+threads = 2
+endpoints = 1
+[[call]]
+thread = 2048
+op = "send"
+cap = 4
+[[call]]
+thread = 4096
+op = "recv"
+cap = 4
+expect = "delivered 6144 from 2048"
+"""
+REFUSED, UNREAD = "command line refused", "reading failed"
+# the words, the status, and a part of what is written, or the fault
+LINES = [
+    # subcommands, also with files that are no set-ups or are not there
+    ("", 0, "1 2048 send: waiting\n"),
+    ("trace", 0, "  + endpoint 6144 sending 2048\n"),
+    ("threads", 0, "entries 2 of 2\n"),
+    ("threads --first 2", 0, "2 client 0 number 1: 4096 recv: delivered"),
+    ("migrate", 0, "format = 2\n"),
+    ("import", 2, "layout refused at 1\n"),
+    ("check text.toml", 2, "set-up refused 200 at text\n"),
+    ("trace text.toml", 2, "set-up refused 200 at text\n"),
+    ("check none.toml", 3, UNREAD),
+    ("text.toml", 2, "set-up refused 200 at text\n"),
+    ("trace -", 0, "  + endpoint 6144 sending 2048\n"),
+    ("chek", 3, UNREAD),
+    ("-x", 4, REFUSED),
+    ("--help", 0, "Usage: sel4sim"),
+    ("explore text.toml", 2, "set-up refused 200 at text\n"),
+    ("audit --ever text.toml", 2, "set-up refused 200 at text\n"),
+    # reasons and audits
+    ("why", 0, "refused 0 of 2\nexpected 1 of 1\n"),
+    ("why --call 2", 0, "2 4096 recv: delivered 6144"),
+    ("why --call 3", 4, REFUSED),
+    ("why --call 0", 4, REFUSED),
+    ("why --call 3 text.toml", 2, "set-up refused"),
+    ("audit", 0, "audit 1 wide memory_bits 16 calls 2 after 2\n"),
+    ("audit --after 0", 0, "audit 1 wide memory_bits 16 calls 2 after 0\n"),
+    ("audit --after 1", 0, "thread 2048 sending 6144 badge 0"),
+    ("audit --after 3", 4, REFUSED),
+    ("audit --slot 33", 4, REFUSED),
+    ("audit --slot 33 text.toml", 2, "set-up refused"),
+    ("audit --ever --slot 33", 4, REFUSED),
+    # parts
+    ("audit --ever", 0, "ever 3 wide memory_bits 16 calls 2 after 2\npart 1\n"),
+    ("audit --ever --after 1", 0, "waiting 2048 -> 6144 badge 0\n"),
+    ("audit --ever --without 4096,2048", 0, "after 2\nwithout 2048\nwithout 4096\n"),
+    ("audit --ever --without 2049", 0, "after 2\nwithout 2049 none\n"),
+    ("audit --ever --without nobody", 4, REFUSED),
+    ("audit --ever --without 2048,", 4, REFUSED),
+    ("audit --ever --without ''", 4, REFUSED),
+    ("audit --ever --after 3", 4, REFUSED),
+    ("audit --without 2048", 0, "audit 1 wide memory_bits 16 calls 2 after 2\nwithout 2048\n"),
+    ("audit --without ''", 4, REFUSED),
+    # orders
+    ("explore", 0, "explore 1 wide clients 1 calls 2\n"),
+    ("explore --witness 2.1", 0, "format = 2\n"),
+    ("explore --witness 2.2", 4, REFUSED),
+    ("explore --witness stuck.1", 4, REFUSED),
+    ("explore --witness 2", 4, REFUSED),
+    ("explore --witness 2.1 text.toml", 2, "set-up refused 200 at text\n"),
+    ("explore", 0, "orders 1 stuck 0\nexpected 1 of 1\n"),
+    ("explore --first 1", 0, "orders 1 stuck 0\nexpected 1 of 1\n"),
+    ("explore --states 0", 1, "states 0 limit calls "),
+    ("explore none.toml", 3, UNREAD),
+    # several files
+    ("check - text.toml", 2, "-: expected 1 of 1\ntext.toml: set-up refused 200 at text\nfiles 2 met 1 unmet 0 refused 1 unread 0\n"),
+    ("none.toml - text.toml", 3, "none.toml: cannot be read\n-: expected 1 of 1\ntext.toml: set-up refused 200 at text\nfiles 3 met 1 unmet 0 refused 1 unread 1\n"),
+    ("text.toml check", 2, "set-up refused 200 at text\n"),
+    ("check -- - --help", 3, "-: expected 1 of 1\n--help: cannot be read\nfiles 2 met 1 unmet 0 refused 0 unread 1\n"),
+    ("check - -", 4, REFUSED),
+    ("- text.toml -", 4, REFUSED),
+    ("trace - text.toml", 4, REFUSED),
+]
+
+
+def fault_of(program, folder, words, status, part):
+    """Returns what is wrong with how the words end, or None."""
+    done = subprocess.run(
+        [program, *shlex.split(words)], input=STORED, capture_output=True, text=True, cwd=folder, timeout=600
+    )
+    is_fault = part in (REFUSED, UNREAD)
+    if done.returncode != status:
+        return f"status {done.returncode}, wanted {status}"
+    if is_fault and done.stdout:
+        return f"{part} is wanted, and this was written: {done.stdout[:200]!r}"
+    if part not in (done.stderr if is_fault else done.stdout):
+        return f"{part!r} is wanted; written was {done.stdout[:400]!r}, and on standard error {done.stderr[:400]!r}"
+    return None
+
+
+def main():
+    program, failed = str(pathlib.Path(sys.argv[1]).resolve()), 0
+    with tempfile.TemporaryDirectory() as folder:
+        pathlib.Path(folder, "text.toml").write_text("format\n", encoding="utf-8")
+        for words, status, part in LINES:
+            fault = fault_of(program, folder, words, status, part)
+            if fault:
+                failed += 1
+                print(f"sel4sim {words}: {fault}")
+    print(f"{len(LINES)} command lines, {failed} wrong")
+    return 1 if failed else 0
+
+
+sys.exit(main())
