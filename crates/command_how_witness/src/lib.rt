@@ -2,7 +2,6 @@
 //! the test of a text that is to be a set-up of such calls; and what says that there are none.
 #![tactic(auto)]
 
-mod alike;
 mod asked;
 mod callers;
 mod excluded;

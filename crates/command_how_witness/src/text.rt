@@ -6,7 +6,6 @@ ghost use Rattle.kernel_abstract.specs.State.{shown};
 ghost use Rattle.command_how_witness.specs.Witness.{asking_of};
 ghost use Rattle.command_how_witness.specs.Text as spec;
 
-use crate::alike::are_calls_alike;
 use crate::asked::Asked;
 use crate::shown::is_shown;
 use cap_core::Profile;
@@ -18,6 +17,12 @@ use slot_core::{DerivationStore, MakeStore};
 use std::alloc::{AllocError, Global};
 
 fn are_regions_alike(some: &[(u64, u32)], others: &[(u64, u32)]) -> bool
+    ensures { result ≡ true → some.now ≡ others.now }
+{
+    some == others
+}
+
+fn are_calls_alike(some: &[Call], others: &[Call]) -> bool
     ensures { result ≡ true → some.now ≡ others.now }
 {
     some == others

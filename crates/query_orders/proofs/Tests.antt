@@ -30,25 +30,25 @@ use Rattle.query_orders.specs.contracts.answer.AnswerPartialEq.TheImpl as answer
 use Rattle.query_orders.specs.contracts.left.LeftCallPartialEq.TheImpl as left_eq
 
 -- a test that passes no two values
-record Exact (A : Type 0) : Type 0 where
+pub record Exact (A : Type 0) : Type 0 where
   pub test : A → A → Bool
   pub one : (a b : A) → test a b ≡ true → a ≡ b
 
-abbrev Exacts : List Field → Type 0
+abbrev pub Exacts : List Field → Type 0
 Exacts [] = Unit {0}
 Exacts (F ∷ Fs) = Exact F.Value × Exacts Fs
 
 -- all fields are tested, in order
-abbrev tested : (Fs : List Field) → Exacts Fs → Values Fs → Values Fs → Bool
+abbrev pub tested : (Fs : List Field) → Exacts Fs → Values Fs → Values Fs → Bool
 tested [] es x y = true
 tested (F ∷ []) es x y = es.0.test x.0 y.0
 tested (F ∷ G ∷ Fs) es x y = es.0.test x.0 y.0 && tested (G ∷ Fs) es.1 x.1 y.1
 
-parts : (s t : Bool) → (s && t) ≡ true → (s ≡ true) × (t ≡ true)
+pub parts : (s t : Bool) → (s && t) ≡ true → (s ≡ true) × (t ≡ true)
 parts true t p = (refl, p)
 parts false t p = cc
 
-fields : (Fs : List Field) (es : Exacts Fs) (x y : Values Fs) → tested Fs es x y ≡ true → x ≡ y
+pub fields : (Fs : List Field) (es : Exacts Fs) (x y : Values Fs) → tested Fs es x y ≡ true → x ≡ y
 fields [] es x y e = refl
 fields (F ∷ []) es x y e = λ i. (es.0.one x.0 y.0 e i, tt)
 fields (F ∷ G ∷ Fs) es x y e =
@@ -56,21 +56,21 @@ fields (F ∷ G ∷ Fs) es x y e =
     let rest = fields (G ∷ Fs) es.1 x.1 y.1 p.1 in
     λ i. (es.0.one x.0 y.0 p.0 i, rest i)
 
-abbrev IsExact : (Fss : List (List Field)) → Each Bool Fss → Type 0
+abbrev pub IsExact : (Fss : List (List Field)) → Each Bool Fss → Type 0
 IsExact [] each = Unit {0}
 IsExact (Fs ∷ Fss) each = ((x y : Values Fs) → each.0 x y ≡ true → x ≡ y) × IsExact Fss each.1
 
-by_exact : (Fss : List (List Field)) (each : Each Bool Fss) (c d : Choice Fss) → by false false Fss each c d ≡ true → IsExact Fss each → c ≡ d
+pub by_exact : (Fss : List (List Field)) (each : Each Bool Fss) (c d : Choice Fss) → by false false Fss each c d ≡ true → IsExact Fss each → c ≡ d
 by_exact [] each c d e exact = absurd c
 by_exact (Fs ∷ Fss) each (inl x) (inl y) e exact = ap inl (exact.0 x y e)
 by_exact (Fs ∷ Fss) each (inl x) (inr d) e exact = absurd (true≢false (sym e))
 by_exact (Fs ∷ Fss) each (inr c) (inl y) e exact = absurd (true≢false (sym e))
 by_exact (Fs ∷ Fss) each (inr c) (inr d) e exact = ap inr (by_exact Fss each.1 c d e exact.1)
 
-same_word : (a b : ℕ) → (a == b) ≡ true → a ≡ b
+pub same_word : (a b : ℕ) → (a == b) ≡ true → a ≡ b
 same_word a b e = grind (arith, nat_tests)
 
-abbrev word : Exact ℕ
+abbrev pub word : Exact ℕ
 word = record { test = ◌==◌; one = same_word }
 
 same_badge : (a b : Badge) → badge_eq.ghosts.eq a b ≡ true → a ≡ b
@@ -79,10 +79,10 @@ same_badge a b e = search rules
 abbrev badge : Exact Badge
 badge = record { test = badge_eq.ghosts.eq; one = same_badge }
 
-same_message : (a b : Message) → message_eq.ghosts.eq a b ≡ true → a ≡ b
+pub same_message : (a b : Message) → message_eq.ghosts.eq a b ≡ true → a ≡ b
 same_message a b e = search rules
 
-abbrev message : Exact Message
+abbrev pub message : Exact Message
 message = record { test = message_eq.ghosts.eq; one = same_message }
 
 same_refusal : (a b : Refusal) → refusal_eq.ghosts.eq a b ≡ true → a ≡ b
