@@ -14,12 +14,10 @@ import set_ups
 import shared
 from measures import counts_of_functions, instructions, least_seconds, output, peak_kib
 
-# The functions whose instructions are those of a part; the C compiler puts the first of these into its callers, or does not.
-WHOLE = ["engine::run::counted_text_of", "engine::run::text_of", "engine::checking::CheckerEngine::make"]
-BOOT = "engine::run::boot"
-AUDITS = ["engine_audit::auditing::Auditor::text_of", "engine_audit::auditing::AuditorEngine::make"]
-EVERS = ["command_parts::telling::Teller::text_of", "command_parts::telling::TellerEngine::make"]
-READ = "setup_format::read::read_named_setup"
+# The functions whose instructions, with those of what they call, are a part of a run.
+WHOLE = "program::work::WorkEngine::make"
+SETUP, CALLS, BOOT = (f"command_check::run::{name}" for name in ("run_setup", "run_calls", "boot"))
+READ = "setup_format::reading::read"
 REVOKES = "command_audit::revokes::add_revokes"
 
 # The subjects whose set-ups are audited too.
@@ -35,8 +33,7 @@ PLAIN_PARTS = {
 
 def proved_parts(command):
     counts = counts_of_functions(command)
-    made = next(counts[name] for name in WHOLE if name in counts)
-    setup, calls, boot = counts["engine::run::run_setup"], counts["engine::run::run_calls"], counts[BOOT]
+    made, setup, calls, boot = (counts[name] for name in (WHOLE, SETUP, CALLS, BOOT))
     parts = {"reading": made - setup, "booting": boot, "running": calls - boot, "reporting": setup - calls}
     return {"instructions": counts[None], **parts}
 
@@ -47,12 +44,11 @@ def plain_parts(command):
     return {"instructions": counts[None], **parts}
 
 
-def told_parts(counts, names, calls):
-    """The parts of a run whose text one of these functions makes, where `calls` has those of `check` for the same set-up: the
-    calls are the same. Reporting is all that is told."""
-    made = next(counts[name] for name in names if name in counts)
+def text_parts(counts, calls):
+    """The parts of a run of another command, where `calls` has those of `check` for the same set-up: the calls are the
+    same. Reporting is all that is left."""
     parts = {"reading": counts[READ], "booting": calls["booting"], "running": calls["running"]}
-    return {"instructions": counts[None], **parts, "reporting": made - sum(parts.values())}
+    return {"instructions": counts[None], **parts, "reporting": counts[WHOLE] - sum(parts.values())}
 
 
 def audit_rows(proved, path, size):
@@ -60,11 +56,11 @@ def audit_rows(proved, path, size):
     and what threads can never get there."""
     calls = proved_parts([proved, "check", path])
     counts = counts_of_functions([proved, "audit", path])
-    parts, revoking = told_parts(counts, AUDITS, calls), counts[REVOKES]
+    parts, revoking = text_parts(counts, calls), counts[REVOKES]
     parts["reporting"] -= revoking
     yield {"subject": "audits", "size": size, "program": "proved", **parts}
     yield {"subject": "audits, revokes", "size": size, "program": "proved", "reporting": revoking}
-    ever = told_parts(counts_of_functions([proved, "audit", "--ever", path]), EVERS, calls)
+    ever = text_parts(counts_of_functions([proved, "audit", "--ever", path]), calls)
     yield {"subject": "audits, ever", "size": size, "program": "proved", **ever}
 
 

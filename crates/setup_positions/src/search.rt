@@ -81,8 +81,11 @@ struct Search<'t, 's> {
 }
 
 impl<'t> Search<'t, '_> {
-    /// Passes the head of a table, and gives the text behind it.
+    /// Passes the head of a table, and gives the text behind it: none where the table in which the key stands has ended.
     fn pass_head(&mut self, alloc: Global, at: &'t str) -> Result<&'t str, Unfound> {
+        if self.table.is_some() {
+            return Ok("");
+        }
         let (key, is_element, rest) = head_of(alloc, at)?;
         self.is_top = false;
         self.is_inside = false;
@@ -100,7 +103,7 @@ impl<'t> Search<'t, '_> {
         Ok(rest)
     }
 
-    /// Passes a key with its value, and gives the text behind it.
+    /// Passes a key with its value, and gives the text behind it: none where the table was in that value.
     fn pass_entry(&mut self, alloc: Global, at: &'t str) -> Result<&'t str, Unfound> {
         let (key, value) = entry_of(alloc, at)?;
         match self.array {
@@ -109,6 +112,7 @@ impl<'t> Search<'t, '_> {
                 if let Some(table) = found(element_at(alloc, value, n))? {
                     self.key = found(key_within(alloc, table, self.name))?;
                     self.table = Some(table);
+                    return Ok("");
                 }
             }
             _ => {}
