@@ -1,7 +1,8 @@
 """growth.py PROGRAM PLAIN: measures how cost grows with the work, of the proved PROGRAM beside the same in plain Rust
 (PLAIN, the built program of bench/check_plain): of `check` for the set-ups of set_ups.py, at four sizes each, and of
 the kernel's steps and revocations, and of kernels that clients share; and of `audit` beside the report of `check`. Both
-programs have to write the same report, byte for byte. Measures `explore` too, by itself. Writes docs/performance.csv."""
+programs have to write the same report, byte for byte. Measures by themselves `explore`, and `audit --ever` of endpoints
+that a thread has. Writes docs/performance.csv."""
 
 import pathlib
 import sys
@@ -68,6 +69,17 @@ def whole(command):
     return {"instructions": instructions(command)}
 
 
+def held_rows(proved, path):
+    """Audits with `--ever` of a thread that only passes messages, by how many endpoints it has: each one is a use."""
+    for size in set_ups.HELD:
+        path.write_text(set_ups.held_endpoints(size))
+        command = [proved, "audit", "--ever", "--without", set_ups.MAKER, path]
+        assert output(command).count(b"  use ") == size, f"{size} endpoints: a use is missing"
+        (time,) = least_seconds([command])
+        costs = {"seconds": f"{time:.6f}", "peak_kib": peak_kib(command)}
+        yield {"subject": "audits, ever, held endpoints", "size": size, "program": "proved", **whole(command), **costs}
+
+
 def counters(subject):
     # To tell the parts apart takes some three times as long, and the parts are the same however the calls are spelt.
     return (whole, whole) if subject.endswith("headers") else (proved_parts, plain_parts)
@@ -92,6 +104,7 @@ def growth_rows(proved, plain):
                 yield from check_rows(proved, plain, path, subject, size)
                 if subject in AUDITED:
                     yield from audit_rows(proved, path, size)
+        yield from held_rows(proved, path)
 
 
 def told(rows):

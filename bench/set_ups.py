@@ -156,6 +156,24 @@ def forest(slots, deep):
     return inline(top(memory_bits, 4, 1, 1), regions, calls)
 
 
+# The boot thread that makes what another one has.
+MAKER = 2048
+
+
+def held_endpoints(slots):
+    """A thread whose CNode of so many slots is full, with an endpoint in each; another thread made them."""
+    radix = slots.bit_length() - 1
+    bits = max(radix + SLOT_BITS, 14)
+    cnode = (MAKER, "retype", {"cap": 5, "kind": 4, "size_bits": radix, "root": 1, "offset": 6, "count": 1})
+    endpoints = [
+        (MAKER, "retype", {"cap": 4, "kind": 2, "root": 6, "offset": first, "count": min(slots, MAX_COUNT)})
+        for first in range(0, slots, MAX_COUNT)
+    ]
+    space = (MAKER, "set_space", {"cap": 3, "root": 6})
+    regions = [(1 << (bits - 1), bits - 1), (1 << bits, bits)]
+    return inline(top(bits + 1, 4, 2, 0), regions, [cnode, *endpoints, space])
+
+
 # Each subject: its sizes, and its text by the size.
 CALLS = [1000, 4096, 16384, 65536]
 SUBJECTS = {
@@ -166,6 +184,10 @@ SUBJECTS = {
     "forests, wide": ([16, 256, 2048, 16384], lambda size: forest(size, False)),
     "forests, deep": ([16, 256, 2048, 16384], lambda size: forest(size, True)),
 }
+
+
+# How many endpoints the thread has that `audit --ever` tells of.
+HELD = [128, 512, 2048, 8192]
 
 
 # What the clients of a set-up do in turn, each beginning elsewhere: they fill and empty the same three slots, and use

@@ -1,6 +1,6 @@
 -- What a call gives, in the words of the definitions.
-use Rattle.std.proofs.Common.{◌≡◌, ℕ, Bool, List, [], ◌∷◌, ◌++◌, map, append_assoc, refl, sym, ap, subst, ◌∙◌}
-use Rattle.std.specs.Prelude.{Result, Ok, Err, IfOk, OnOk}
+use Rattle.std.proofs.Common.{◌≡◌, ℕ, List, [], ◌∷◌, map, refl, sym, ap, subst, ◌∙◌}
+use Rattle.std.specs.Prelude.{Result, Ok, Err, OnOk}
 use Rattle.std.specs.List.{list_any}
 use Rattle.cap_core.specs.declared.profile.ProfileName.{ProfileName}
 use Rattle.cap_core.specs.declared.capability.Guard.{Guard}
@@ -11,7 +11,6 @@ use Rattle.kernel_forest.specs.Entries.{Entry, derivations_of}
 use Rattle.slot_core.specs.declared.derivations.Derivation.{Derivation}
 use Rattle.slot_core.specs.Calls.{derivation_view}
 use Rattle.query_parts.specs.declared.listed.PartMemory.{PartMemory}
-use Rattle.query_parts.specs.declared.listed.PartUse.{PartUse}
 use Rattle.command_parts.specs.declared.takes.PartSlot.{PartSlot}
 use Rattle.command_parts.specs.Takes.{part_slot, part_slots}
 use Rattle.command_parts.specs.Messages.{holds_more, gives_more}
@@ -20,12 +19,6 @@ pub given_node : (p : ProfileName) (slots : List PartSlot) (cap : Cap) (base rad
     list_any (λ (s : PartSlot). holds_more p cap s) slots ≡ gives_more p slots cap
 given_node p slots cap base radix guard is =
     subst (λ (c : Cap). list_any (λ (s : PartSlot). holds_more p c s) slots ≡ gives_more p slots c) (sym is) refl
-
-pub put_between : (before behind last : List PartUse) (u : PartUse) (x y z : List PartUse) → x ≡ before → y ≡ x ++ u ∷ [] → z ≡ y ++ last → last ≡ behind →
-    z ≡ before ++ u ∷ behind
-put_between before behind last u x y z e f h k =
-    h ∙ ap (λ (l : List PartUse). l ++ last) (f ∙ ap (λ (l : List PartUse). l ++ u ∷ []) e)
-    ∙ append_assoc before (u ∷ []) last ∙ ap (λ (l : List PartUse). before ++ u ∷ l) k
 
 mapped_twice : (p : ProfileName) (memory : List PartMemory) (ds : List Derivation) →
     map (λ (d : Derivation). part_slot memory (derivation_view p d)) ds ≡ map (part_slot memory) (map (derivation_view p) ds)

@@ -1,7 +1,6 @@
 //! Parts that only pass messages: what they may use is what their slots hold.
 ghost use Rattle.std.specs.Prelude.{◌≡◌, ◌++◌, IfOk, OnOk, filter};
 ghost use Rattle.std.specs.List.{flat_map};
-ghost use Rattle.query_parts.specs.Order as order;
 ghost use Rattle.command_parts.specs.Messages as spec;
 
 use crate::takes::{PartSlot, is_number};
@@ -114,45 +113,6 @@ fn uses_by_slots(
     Ok(uses)
 }
 
-fn comes_before(u: &PartUse, w: &PartUse) -> bool
-    ensures { result ≡ order.comes_before u.now w.now }
-{
-    u.part < w.part
-        || (u.part == w.part
-            && (u.endpoint < w.endpoint
-                || (u.endpoint == w.endpoint
-                    && (u.badge.0 < w.badge.0
-                        || (u.badge.0 == w.badge.0 && u.rights.0 < w.rights.0)))))
-}
-
-fn uses_before(alloc: Global, list: &[PartUse], u: &PartUse) -> Result<Vec<PartUse>, AllocError>
-    ensures { IfOk result (λ v. v.items ≡ filter (λ w. order.comes_before w u.now) list.now) }
-{
-    list.iter()
-        .filter(|w| comes_before(w, u))
-        .copied()
-        .collect(alloc)
-}
-
-fn uses_behind(alloc: Global, list: &[PartUse], u: &PartUse) -> Result<Vec<PartUse>, AllocError>
-    ensures { IfOk result (λ v. v.items ≡ filter (order.comes_before u.now) list.now) }
-{
-    list.iter()
-        .filter(|w| comes_before(u, w))
-        .copied()
-        .collect(alloc)
-}
-
-fn with_use(alloc: Global, list: &[PartUse], u: &PartUse) -> Result<Vec<PartUse>, AllocError>
-    ensures { IfOk result (λ v. v.items ≡ spec.with_use u.now list.now) }
-{
-    let mut all = uses_before(alloc, list, u)?;
-    let behind = uses_behind(alloc, list, u)?;
-    all.push(*u)?;
-    all.extend_from_slice(behind.as_slice())?;
-    Ok(all)
-}
-
 /// The uses of a part that only passes messages.
 ///
 /// # Errors
@@ -165,11 +125,8 @@ pub fn uses_held(
 ) -> Result<Vec<PartUse>, AllocError>
     ensures { IfOk result (λ v. v.items ≡ spec.uses_held part_slots.now part) }
 {
-    let all = uses_by_slots(alloc, part_slots, part)?;
-    let all = all.as_slice();
-    let mut list = Vec::new(alloc);
-    for u in all {
-        list = with_use(alloc, list.as_slice(), u)?;
-    }
-    Ok(list)
+    let mut uses = uses_by_slots(alloc, part_slots, part)?;
+    uses.sort_unstable_by_key(|u| (u.part, u.endpoint, u.badge.0, u.rights.0));
+    uses.dedup();
+    Ok(uses)
 }
