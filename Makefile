@@ -90,6 +90,7 @@ rows-python:
 	python3 tests/run_clients.py --first 5 $(program) tests/four_clients.toml 20
 	python3 tests/run_clients.py --first 1000 $(program) tests/four_clients.toml 5
 	python3 tests/run_clients.py --first 5 $(program) tests/three_of_four_calls.toml 5
+	python3 tests/unmet_by_threads.py $(program)
 	python3 tests/problem_matcher.py $(program)
 	python3 tests/documents.py $(dir $(program)) README.md CONTRIBUTING.md docs/*.md
 

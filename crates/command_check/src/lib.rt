@@ -16,6 +16,6 @@ pub use command_core::{
     Source, Verdict, WriterSink, read_below, run_engine, status_of, write_all,
 };
 pub use migrating::{Migrator, table_text};
-pub use notes::{notes_on, unmet_calls};
+pub use notes::{add_unmet, notes_on, unmet_calls};
 pub use run::{CountedText, counted_text_of, refused, run_calls, text_of, verdict_on};
 pub use state::{OnState, StateCommand};

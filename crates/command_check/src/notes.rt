@@ -1,5 +1,6 @@
 //! What standard error tells of a run: which calls were refused and had no expectation, and whose expectation is not met.
 ghost use Rattle.std.specs.Prelude.{◌≡◌, ◌++◌, length, option_copied, IfOk, OnOk};
+ghost use Rattle.setup_report.specs.Text.{begins_as};
 ghost use Rattle.command_check.specs.Notes as spec;
 
 use command_core::{CallNote, Notes};
@@ -43,21 +44,31 @@ fn unexpected_refusals(
 }
 
 /// Whether a reply meets an expectation: it is the expected text, or begins with it followed by a space.
-fn is_met(shown: &str, expected: &str) -> bool {
-    match shown.strip_prefix(expected) {
+#[tactic(auto, using(setup_report::proofs::Sequences::Begins::begins_not, setup_report::proofs::Sequences::Begins::begins_whole, setup_report::proofs::Sequences::Begins::begins_first))]
+fn is_met(shown: &str, expected: &str) -> bool
+    ensures { result ≡ begins_as shown.now expected.now }
+{
+    match shown.as_bytes().strip_prefix(expected.as_bytes()) {
         None => false,
-        Some(rest) => rest.is_empty() || rest.starts_with(' '),
+        Some([]) => true,
+        Some([byte, ..]) => *byte == b' ',
     }
 }
 
 /// Adds what is told of a call, where its reply is not the expected one. Of an expectation that asks nothing is told.
-fn add_unmet(
+///
+/// # Errors
+///
+/// Memory was refused.
+pub fn add_unmet(
     alloc: Global,
     unmet: &mut Vec<CallNote>,
     call: usize,
     expected: Option<&str>,
     reply: Reply,
-) -> Result<(), AllocError> {
+) -> Result<(), AllocError>
+    ensures { OnOk result (spec.noted unmet.new.items ≡ spec.noted unmet.old.items ++ spec.unmet_at call (option_copied expected.entry) reply) }
+{
     let Some(expected) = expected else {
         return Ok(());
     };

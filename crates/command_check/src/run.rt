@@ -1,5 +1,5 @@
 //! The run of a set-up: from the bytes of an input to the text that is written for it.
-ghost use Rattle.std.specs.Prelude.{◌≡◌, IfOk, codes, ◌++◌};
+ghost use Rattle.std.specs.Prelude.{◌≡◌, IfOk, codes, ◌++◌, []};
 ghost use Rattle.kernel_abstract.specs.Boot.{boot as boot_state};
 ghost use Rattle.kernel_abstract.specs.Plan.{IsPlan};
 ghost use Rattle.kernel_abstract.specs.State.{shown};
@@ -120,6 +120,7 @@ pub fn refusal(alloc: Global, fault: &SetupFault) -> Result<Vec<u8>, AllocError>
 pub fn refused(alloc: Global, fault: &SetupFault) -> Result<Answer, AllocError>
     ensures text { IfOk result (λ made. made.text.items ≡ setup_fault_text fault.now ++ codes "\n") }
     ensures verdict { IfOk result (λ made. made.verdict ≡ Verdict.Refused) }
+    ensures unmet { IfOk result (λ made. made.notes.unmet.items ≡ []) }
 {
     let text = refusal(alloc, fault)?;
     Ok(Answer::new(alloc, text, Verdict::Refused))

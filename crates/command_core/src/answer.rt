@@ -68,6 +68,7 @@ impl Answer {
     pub fn new(alloc: Global, text: Vec<u8>, verdict: Verdict) -> Answer
         ensures text { result.text ≡ text }
         ensures verdict { result.verdict ≡ verdict }
+        ensures unmet { result.notes.unmet.items ≡ [] }
     {
         Answer {
             text,
@@ -85,6 +86,7 @@ impl Answer {
     ) -> Answer
         ensures text { result.text ≡ text }
         ensures verdict { result.verdict ≡ verdict }
+        ensures unmet { result.notes.unmet ≡ unmet }
     {
         let notes = Notes {
             unmet,
@@ -114,7 +116,8 @@ impl Answer {
 
     /// What is left when the text is written.
     pub fn found(self) -> Found
-        ensures { result.verdict ≡ self.verdict }
+        ensures verdict { result.verdict ≡ self.verdict }
+        ensures notes { result.notes ≡ self.notes }
     {
         Found {
             verdict: self.verdict,

@@ -6,3 +6,4 @@ pub mod Entries
 pub mod NoLonger
 pub mod Limits
 pub mod Replay
+pub mod Numbered

@@ -1,5 +1,5 @@
 -- What the set-up of a witness is, and what a run of it comes to.
-use Rattle.std.specs.Prelude.{◌≡◌, ℕ, zero, suc, ◌==◌, max, Bool, true, false, cond, List, [], ◌∷◌, ◌++◌, map, length, Option, None, Some, slice_get, Ok, ◌⊎◌}
+use Rattle.std.specs.Prelude.{◌≡◌, ℕ, ◌==◌, max, Bool, true, false, cond, List, [], ◌∷◌, ◌++◌, map, length, Option, None, Some, slice_get, Ok, ◌⊎◌}
 use Rattle.std.specs.List.{flat_map}
 use Rattle.toml.specs.Data.{Members, members_are_sorted}
 use Rattle.kernel_abstract.specs.declared.call.Call.{Call}
@@ -24,17 +24,12 @@ use Rattle.command_explore_text.specs.declared.witness.Witness.{Witness}
 use Rattle.command_explore_text.specs.declared.witness.Witness.TheVariants as witnesses
 use Rattle.command_explore_text.specs.Clients.{calls_of_each}
 use Rattle.command_explore_text.specs.Laws.{begins}
-use Rattle.command_explore_text.specs.Numbers.{client_numbers_of, order_numbers}
+use Rattle.command_explore_text.specs.Numbers.{client_numbers_of, order_numbers, view_numbered}
 use Rattle.command_explore_text.specs.Report.{exploration}
 use Rattle.command_explore_text.specs.Views.{ExploredView}
 use Rattle.command_explore_text.specs.Witnesses.{answer_numbered, stuck_numbered, named_order, expecting, witness_of}
 
 -- ---- its calls
-
--- the call with a number, from 1 on
-abbrev pub view_numbered : List CallView → ℕ → Option CallView
-view_numbered calls zero = None
-view_numbered calls (suc n) = slice_get calls n
 
 -- a call with its expectation or without it
 abbrev pub view_as : Bool → CallView → CallView

@@ -19,6 +19,7 @@ mod witness;
 pub use answers::AnswerText;
 pub use clients::{calls_of_clients, first_clients};
 pub use making::make_witness;
-pub use numbers::numbers_of_clients;
+pub use numbers::{number_at, numbers_of_clients};
 pub use run::{ExploredText, explored_report};
+pub use unmet::expected_of;
 pub use witness::Witness;

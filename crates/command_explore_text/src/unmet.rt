@@ -1,4 +1,7 @@
 //! Answers that do not meet the expectation of their call, as standard error tells them.
+ghost use Rattle.std.specs.Prelude.{◌≡◌, option_copied};
+ghost use Rattle.command_explore_text.specs.Numbers.{expectation_of};
+
 use crate::answers::{AnswerText, misses};
 use crate::numbers::{add_order, number_at};
 use command_core::CallNote;
@@ -6,8 +9,11 @@ use query_orders::FoundAnswer;
 use setup_format::{Setup, asks};
 use std::alloc::{AllocError, Global};
 
-/// What is expected of the call with a number; nothing where there is no such call.
-fn expected_of(setup: &Setup, number: usize) -> Option<&str> {
+/// What is expected of the call with a number, from 1 on; nothing where there is no such call.
+#[tactic(auto, using(crate::proofs::Numbered::expected_at, crate::proofs::Numbered::none_expected_past, crate::proofs::Numbered::none_expected_of_none))]
+pub fn expected_of(setup: &Setup, number: usize) -> Option<&str>
+    ensures { option_copied result ≡ expectation_of setup.now.calls number }
+{
     let i = number.checked_sub(1)?;
     if i < setup.calls().len() {
         setup.expect(i)

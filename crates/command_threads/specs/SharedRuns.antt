@@ -1,5 +1,5 @@
 -- What the program writes for the bytes that it reads where the clients of a set-up share one kernel, and its verdict.
-use Rattle.std.specs.Prelude.{◌≡◌, ℕ, ◌<◌, ◌≤◌, ◌==◌, ◌⊎◌, min, true, List, [], ◌++◌, map, filter, length, take, Result, Ok, Err}
+use Rattle.std.specs.Prelude.{◌≡◌, ℕ, ◌<◌, ◌≤◌, ◌==◌, ◌⊎◌, min, true, List, [], ◌∷◌, ◌++◌, map, filter, length, take, Result, Ok, Err}
 use Rattle.cap_core.specs.declared.profile.ProfileName.{ProfileName}
 use Rattle.kernel_abstract.specs.declared.call.Call.{Call}
 use Rattle.kernel_abstract.specs.Boot.{boot}
@@ -12,9 +12,15 @@ use Rattle.setup_format.specs.Faults.{Fault}
 use Rattle.setup_format.specs.Setups.{setup_of_bytes}
 use Rattle.setup_format.specs.Refusal.{refusal_line}
 use Rattle.setup_threads.specs.SharedReport.{shared_report_of}
+use Rattle.command_check.specs.Notes.{noted, unmet_at}
 use Rattle.command_check.specs.Program.{verdict_on}
+use Rattle.command_core.specs.Devices.{Gave, Took}
+use Rattle.command_core.specs.declared.answer.Found.{Found}
 use Rattle.command_core.specs.declared.fault.Verdict.{Verdict}
 use Rattle.command_core.specs.declared.fault.Verdict.TheVariants.{Refused}
+use Rattle.command_core.specs.declared.sink.Sink.{Ghosts as SinkGhosts}
+use Rattle.command_core.specs.declared.source.Source.{Ghosts as SourceGhosts}
+use Rattle.command_explore_text.specs.Numbers.{call_number_at, client_numbers_of, expectation_of}
 
 -- the calls of a client in a set-up, in order
 abbrev pub client_calls : ℕ → List CallView → List Call
@@ -85,3 +91,33 @@ IsOutcome ends first (Err fault) text verdict = (text ≡ refusal_line fault) ×
 -- what is right to write for the bytes of an input, in the profile that its set-up names, where so many calls are made first
 unfoldable pub IsSharedProgram : (ℕ → ℕ → Type 0) → ℕ → List ℕ → List ℕ → Verdict → Type 0
 IsSharedProgram ends first input text verdict = IsOutcome ends first (setup_of_bytes input) text verdict
+
+-- the number, from 1 on, of the call of a set-up that an entry of a history carries
+abbrev pub number_of : SetupView → Entry → ℕ
+number_of setup e = call_number_at (client_numbers_of setup) e.client e.number
+
+-- the numbers of the calls whose expectation is not met in a history, in its order
+abbrev pub unmet_in : SetupView → List Entry → List ℕ
+unmet_in setup [] = []
+unmet_in setup (e ∷ es) = unmet_at (number_of setup e) (expectation_of setup.calls (number_of setup e)) e.reply ++ unmet_in setup es
+
+-- the report of some shared run of the set-up, and the numbers of the calls whose expectation is not met in its history
+abbrev pub IsToldIn : (ℕ → ℕ → Type 0) → ℕ → ProfileName → SetupView → List ℕ → Verdict → List ℕ → Type 0
+IsToldIn ends first p setup text verdict unmet =
+    (history : List Entry) × IsSharedRun ends first p setup history × IsReportOf p setup history text verdict
+    × (unmet ≡ unmet_in setup history)
+
+-- or of no call, where the set-up is refused
+abbrev pub IsToldOf : (ℕ → ℕ → Type 0) → ℕ → Result SetupView Fault → List ℕ → Verdict → List ℕ → Type 0
+IsToldOf ends first (Ok setup) text verdict unmet = IsToldIn ends first setup.profile setup text verdict unmet
+IsToldOf ends first (Err fault) text verdict unmet = unmet ≡ []
+
+-- what is right to tell beside the text that is written for the bytes of an input
+unfoldable pub IsToldProgram : (ℕ → ℕ → Type 0) → ℕ → List ℕ → List ℕ → Verdict → List ℕ → Type 0
+IsToldProgram ends first input text verdict unmet = IsToldOf ends first (setup_of_bytes input) text verdict unmet
+
+-- a run from a source to a sink tells of just those calls whose expectation is not met in the history of its report
+abbrev pub TellsUnmet : {S K : Type 0} → (ℕ → ℕ → Type 0) → ℕ → SourceGhosts S → SinkGhosts K → S → S → K → K → Found → Type 0
+TellsUnmet ends first from to source_old source_new sink_old sink_new found = (input text : List ℕ)
+    × Gave from.left from.given source_old source_new input × Took to.taken to.written sink_old sink_new text
+    × IsToldProgram ends first input text found.verdict (noted found.notes.unmet.items)

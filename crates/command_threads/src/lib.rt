@@ -8,6 +8,7 @@ mod open_gate;
 mod returning;
 mod sharing;
 mod threads;
+mod unmet;
 
 pub use open_gate::OpenGate;
 pub use threads::{threads_run, threads_run_open};

@@ -1,19 +1,21 @@
 //! The run of a set-up's clients, over a source and a sink.
-ghost use Rattle.std.specs.Prelude.{◌≡◌, ◌++◌, ◌-◌, List, ℕ, Err, IsOk, false, IfOk, IfErr, codes, vec_len};
+ghost use Rattle.std.specs.Prelude.{◌≡◌, ◌++◌, ◌-◌, List, ℕ, Err, IsOk, [], false, IfOk, IfErr, codes, vec_len};
 ghost use Rattle.command_core.specs.Devices.{Gave};
 ghost use Rattle.setup_format.specs.Refusal.{setup_fault_text};
 ghost use Rattle.setup_format.specs.Setups.{setup_of_bytes};
 ghost use Rattle.kernel_abstract.specs.Plan.{IsPlan};
 ghost use Rattle.kernel_abstract.specs.State.{shown};
+ghost use Rattle.command_check.specs.Notes.{noted};
 ghost use Rattle.command_check.specs.Program.{verdict_on as verdict_of_counts};
 ghost use Rattle.command_core.specs.Runs.{IsRun};
 ghost use Rattle.command_threads.specs.Private.Begun.{IsBegunKernel, state_begun};
 ghost use Rattle.command_threads.specs.Private.Settled.{IsOwnFault};
-ghost use Rattle.command_threads.specs.SharedRuns.{IsOutcomeIn, IsSharedProgram, count_first};
+ghost use Rattle.command_threads.specs.SharedRuns.{IsOutcomeIn, IsSharedProgram, IsToldIn, IsToldProgram, TellsUnmet, count_first};
 
 use crate::beginning::{Begun, begin, whole_history};
 use crate::open_gate::OpenGate;
 use crate::sharing::shared_run;
+use crate::unmet::unmet_calls;
 use cap_core::{Narrow, Profile, ProfileName, Wide};
 use command_check::refused as refused_answer;
 use command_core::{
@@ -69,6 +71,7 @@ fn report_on<
     requires opening { N.opening ≡ shown (state_begun P.profile setup.now first) }
     requires limit { N.limit ≡ setup.now.limit - count_first first setup.now }
     ensures made { IfOk result (λ made. IsOutcomeIn G.ends first P.profile setup.now made.text.items made.verdict) }
+    ensures told { IfOk result (λ made. IsToldIn G.ends first P.profile setup.now made.text.items made.verdict (noted made.notes.unmet.items)) }
     ensures fault { IfErr result IsOwnFault }
 {
     let Begun { kernel, replies } = begun;
@@ -89,8 +92,11 @@ fn report_on<
     let Ok(text) = history_report(alloc, setup, history.as_slice(), &book.kernel) else {
         return Err(RunFault::Memory);
     };
+    let Ok(unmet) = unmet_calls(alloc, setup, history.as_slice()) else {
+        return Err(RunFault::Memory);
+    };
     let verdict = verdict_on(history.len(), setup.calls().len());
-    Ok(Answer::new(alloc, text, verdict))
+    Ok(Answer::with_unmet(alloc, text, verdict, unmet))
 }
 
 /// The same by the linked forms, from a boot on, under a name of its own.
@@ -103,6 +109,7 @@ fn report_by_links<P: Profile + Send + Sync, R: Threads + Wait + Sync, G: Gate +
 ) -> Result<Answer, RunFault>
     requires { IsPlan P.profile setup.now.plan }
     ensures made { IfOk result (λ made. IsOutcomeIn G.ends first P.profile setup.now made.text.items made.verdict) }
+    ensures told { IfOk result (λ made. IsToldIn G.ends first P.profile setup.now made.text.items made.verdict (noted made.notes.unmet.items)) }
     ensures fault { IfErr result IsOwnFault }
 {
     let Ok(begun) = begin::<P, LinkedStore<P>, LinkedWaiters<P>>(alloc, setup, first) else {
@@ -124,6 +131,7 @@ fn report_in_profile<R: Threads + Wait + Sync, G: Gate + Sync>(
 ) -> Result<Answer, RunFault>
     requires { IsPlan setup.now.profile setup.now.plan }
     ensures made { IfOk result (λ made. IsOutcomeIn G.ends first setup.now.profile setup.now made.text.items made.verdict) }
+    ensures told { IfOk result (λ made. IsToldIn G.ends first setup.now.profile setup.now made.text.items made.verdict (noted made.notes.unmet.items)) }
     ensures fault { IfErr result IsOwnFault }
 {
     match setup.profile() {
@@ -136,13 +144,14 @@ fn report_in_profile<R: Threads + Wait + Sync, G: Gate + Sync>(
 fn refused(alloc: Global, fault: &SetupFault) -> Result<Answer, RunFault>
     ensures text { IfOk result (λ made. made.text.items ≡ setup_fault_text fault.now ++ codes "\n") }
     ensures verdict { IfOk result (λ made. made.verdict ≡ Verdict.Refused) }
+    ensures unmet { IfOk result (λ made. made.notes.unmet.items ≡ []) }
     ensures memory { IfErr result (λ e. e ≡ RunFault.Memory) }
 {
     refused_answer(alloc, fault).map_err(|_| RunFault::Memory)
 }
 
 /// The text that is written for the bytes of an input, and the verdict.
-#[tactic(auto, unfolding(crate::specs::SharedRuns::IsSharedProgram))]
+#[tactic(auto, unfolding(crate::specs::SharedRuns::IsSharedProgram, crate::specs::SharedRuns::IsToldProgram))]
 fn report_of_input<R: Threads + Wait + Sync, G: Gate + Sync>(
     rt: &R,
     alloc: Global,
@@ -151,6 +160,7 @@ fn report_of_input<R: Threads + Wait + Sync, G: Gate + Sync>(
     gate: &G,
 ) -> Result<Answer, RunFault>
     ensures made { IfOk result (λ made. IsSharedProgram G.ends first input.now made.text.items made.verdict) }
+    ensures told { IfOk result (λ made. IsToldProgram G.ends first input.now made.text.items made.verdict (noted made.notes.unmet.items)) }
     ensures fault { IfErr result IsOwnFault }
     ensures accepted { result ≡ Err RunFault.Thread → IsOk (setup_of_bytes input.now) }
 {
@@ -162,7 +172,7 @@ fn report_of_input<R: Threads + Wait + Sync, G: Gate + Sync>(
 }
 
 /// The same with a gate that is always open.
-#[tactic(auto, unfolding(crate::specs::SharedRuns::IsSharedProgram))]
+#[tactic(auto, unfolding(crate::specs::SharedRuns::IsSharedProgram, crate::specs::SharedRuns::IsToldProgram))]
 fn report_of_input_open<R: Threads + Wait + Sync>(
     rt: &R,
     alloc: Global,
@@ -170,6 +180,7 @@ fn report_of_input_open<R: Threads + Wait + Sync>(
     input: &[u8],
 ) -> Result<Answer, RunFault>
     ensures made { IfOk result (λ made. IsSharedProgram (λ _ _. ⊥) first input.now made.text.items made.verdict) }
+    ensures told { IfOk result (λ made. IsToldProgram (λ _ _. ⊥) first input.now made.text.items made.verdict (noted made.notes.unmet.items)) }
     ensures fault { IfErr result IsOwnFault }
     ensures accepted { result ≡ Err RunFault.Thread → IsOk (setup_of_bytes input.now) }
 {
@@ -187,7 +198,7 @@ fn report_of_input_open<R: Threads + Wait + Sync>(
 /// says or as the history has room for, and lets the clients then make the others of one kernel, each its own calls in a
 /// thread of its own, with the gate before and after each call. It writes the report of the history to the sink, or the
 /// line by which the set-up is refused. It waits until the clients have ended. A history may lack calls where it is full,
-/// and where the gate ended a client.
+/// and where the gate ended a client. What it found notes the calls of the history whose expectation is not met.
 ///
 /// # Errors
 /// `Reading` where a read failed in this call, or where `INPUT_LIMIT` bytes came without an end; nothing is written
@@ -206,6 +217,7 @@ pub fn threads_run<R: Threads + Wait + Sync, S: Source, K: Sink, G: Gate + Sync>
     requires source { S.failed source.old ≡ false }
     requires sink { K.failed sink.old ≡ false }
     ensures run { IsRun (IsSharedProgram G.ends first) S.Source K.Sink source.old source.new sink.old sink.new result }
+    ensures unmet { IfOk result (TellsUnmet G.ends first S.Source K.Sink source.old source.new sink.old sink.new) }
     ensures accepted { result ≡ Err RunFault.Thread → (input : List ℕ) × Gave S.left S.given source.old source.new input × IsOk (setup_of_bytes input) }
 {
     let input = read_below(alloc, source, INPUT_LIMIT)?;
@@ -229,6 +241,7 @@ pub fn threads_run_open<R: Threads + Wait + Sync, S: Source, K: Sink>(
     requires source { S.failed source.old ≡ false }
     requires sink { K.failed sink.old ≡ false }
     ensures run { IsRun (IsSharedProgram (λ _ _. ⊥) first) S.Source K.Sink source.old source.new sink.old sink.new result }
+    ensures unmet { IfOk result (TellsUnmet (λ _ _. ⊥) first S.Source K.Sink source.old source.new sink.old sink.new) }
     ensures accepted { result ≡ Err RunFault.Thread → (input : List ℕ) × Gave S.left S.given source.old source.new input × IsOk (setup_of_bytes input) }
 {
     let input = read_below(alloc, source, INPUT_LIMIT)?;

@@ -12,9 +12,9 @@ use Rattle.query_orders.specs.World.{start}
 use Rattle.query_orders.specs.Laws.{calls_of_orders}
 use Rattle.command_explore_text.specs.declared.witness.Witness.{Witness}
 use Rattle.command_explore_text.specs.Clients.{calls_of_each}
-use Rattle.command_explore_text.specs.Numbers.{client_numbers_of, order_numbers}
+use Rattle.command_explore_text.specs.Numbers.{client_numbers_of, order_numbers, view_numbered}
 use Rattle.command_explore_text.specs.Witnesses.{named_order, expecting, with_calls, witness_of}
-use Rattle.command_explore_text.specs.Replays.{view_numbered, view_as, view_where, chosen_views, called, explored, IsWitnessAccepted}
+use Rattle.command_explore_text.specs.Replays.{view_as, view_where, chosen_views, called, explored, IsWitnessAccepted}
 use Rattle.command_explore_text.proofs.NoLonger.{no_more_calls}
 use Rattle.command_explore_text.proofs.Limits.{own-length}
 use Rattle.command_explore_text.proofs.Replay.Picks.{picked, pick}

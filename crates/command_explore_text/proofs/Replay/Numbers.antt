@@ -17,8 +17,8 @@ use Rattle.query_orders.specs.World.{World, start, call_of_client_at, next_clien
 use Rattle.query_orders.specs.Orders.{numbers_below}
 use Rattle.query_orders.specs.Laws.{made_by, calls_of_orders}
 use Rattle.command_explore_text.specs.Clients.{calls_of_client, calls_of_each}
-use Rattle.command_explore_text.specs.Numbers.{client_numbers, client_numbers_of, call_number_at, order_numbers}
-use Rattle.command_explore_text.specs.Replays.{view_numbered, view_where, chosen_views, called}
+use Rattle.command_explore_text.specs.Numbers.{client_numbers, client_numbers_of, call_number_at, order_numbers, view_numbered}
+use Rattle.command_explore_text.specs.Replays.{view_where, chosen_views, called}
 use Rattle.command_explore_text.proofs.Replay.Runs.{of_client, get_front, get_last, one_reply, after_last, behind, answers, made_of, made_past}
 use Rattle.command_explore_text.proofs.Replay.Waits.{of_client-last}
 

@@ -6,16 +6,17 @@ use Rattle.kernel_abstract.specs.Boot.{boot}
 use Rattle.kernel_abstract.proofs.Reached.Runs.{reached_after}
 use Rattle.setup_format.specs.Views.{CallView}
 use Rattle.setup_threads.specs.SharedReport.{shared_report_of}
+use Rattle.command_check.specs.Notes.{noted}
 use Rattle.command_check.specs.Program.{verdict_on}
 use Rattle.setup_report.proofs.Runs.{boot_reached}
 use Rattle.command_threads.specs.Private.Begun.{IsSharedFrom, calls_in, state_begun}
-use Rattle.command_threads.specs.SharedRuns.{count_first, first_calls}
+use Rattle.command_threads.specs.SharedRuns.{count_first, first_calls, unmet_in}
 use Rattle.command_threads.proofs.Reports.{book_shows}
 use Rattle.command_threads.proofs.Wholes.{shared_run_is, state_is, whole_is}
 use Rattle.command_threads.proofs.threads.report_on.Goals as goal
 
-pub returns-clause-made : goal.returns-clause-made
-returns-clause-made g c =
+pub returns-clause-told : goal.returns-clause-told
+returns-clause-told g c =
     let p = g.P.Profile.profile in
     let ends = g.G.Gate.ends in
     let setup = c.args.setup.now in
@@ -43,7 +44,11 @@ returns-clause-made g c =
       h,
       shared_run_is first setup replies.items later h whole ends p c.requires.begun.answered from,
       (
-        ap (λ v. v.items) c.new.ensures.text ∙ (c.in-Ok-history_report.ensures ∙ (told ∙ (shows ∙ state))),
-        c.new.ensures.verdict ∙ c.verdict_on-verdict.ensures ∙ ap₂ verdict_on (l ∙ sym counted) calls,
+        ap (λ v. v.items) c.with_unmet.ensures.text ∙ (c.in-Ok-history_report.ensures ∙ (told ∙ (shows ∙ state))),
+        c.with_unmet.ensures.verdict ∙ c.verdict_on-verdict.ensures ∙ ap₂ verdict_on (l ∙ sym counted) calls,
       ),
+      ap (λ v. noted v.items) c.with_unmet.ensures.unmet ∙ (c.in-Ok-unmet_calls.ensures ∙ ap (unmet_in setup) c.as_slice-3.ensures.value),
     )
+
+pub returns-clause-made : goal.returns-clause-made
+returns-clause-made g c = let t = returns-clause-told g c in (t.0, t.1, t.2)
