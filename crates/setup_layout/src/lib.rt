@@ -19,5 +19,5 @@ pub use fault::{Remark, Remarks};
 pub use layout::{Layout, Object, Reading, Slot};
 pub use machine::Machine;
 pub use places::{FIRST_REGION_SLOT, Places, Region, Source};
-pub use reading::{ReadLayout, layout_words, read_layout};
-pub use scanner::Spot;
+pub use reading::{ReadLayout, read_layout};
+pub use scanner::{Scanner, Spot, front_length, number_of};

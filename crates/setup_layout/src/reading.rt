@@ -5,7 +5,7 @@ use crate::kinds::{ARCHES, NARROW_ARCHES, place_of};
 use crate::layout::{Layout, Reading};
 use crate::objects::Objects;
 use crate::places::{Places, places_of};
-use crate::scanner::{Spot, Token, TokenKind};
+use crate::scanner::{Scanner, Token, TokenKind};
 use crate::slots::Slots;
 use crate::words::Words;
 use cap_core::{Kind, ProfileName};
@@ -166,13 +166,9 @@ pub fn read_layout(
         add_flows(alloc, &mut layout)?;
     }
     if text.is_err() {
-        let (start, length, line) = (0, 0, 1);
-        let spot = Spot {
-            start,
-            length,
-            line,
-        };
-        layout.faults.say(spot, "the bytes are no text in UTF-8");
+        layout
+            .faults
+            .say(Scanner::new("").spot(0), "the bytes are no text in UTF-8");
     }
     if layout.faults.told.is_empty() {
         places = places_of(alloc, &mut layout)?;
@@ -181,27 +177,4 @@ pub fn read_layout(
         return Err(AllocError);
     }
     Ok(ReadLayout { layout, places })
-}
-
-/// What is said of a layout, each remark with the line of the text where it stands: its faults, or its notes where it has none.
-/// `name` is the file's.
-///
-/// # Errors
-///
-/// Memory was refused.
-pub fn layout_words(
-    alloc: Global,
-    bytes: &[u8],
-    reading: Reading,
-    name: &str,
-) -> Result<String, AllocError> {
-    let layout = read_layout(alloc, bytes, reading)?.layout;
-    let text = std::str::from_utf8(bytes).unwrap_or("");
-    let mut words = String::new(alloc);
-    if layout.faults.told.is_empty() {
-        layout.notes.add_to(&mut words, name, text)?;
-    } else {
-        layout.faults.add_to(&mut words, name, text)?;
-    }
-    Ok(words)
 }

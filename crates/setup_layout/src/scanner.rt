@@ -44,10 +44,15 @@ impl Token<'_> {
         if self.kind != TokenKind::Number {
             return None;
         }
-        match self.text.strip_prefix("0x") {
-            Some(digits) => u64::from_str_radix(digits, 16).ok(),
-            None => self.text.parse::<u64>().ok(),
-        }
+        number_of(self.text)
+    }
+}
+
+/// The value of a number, decimal or hexadecimal; none of what is no number, and of one that has more than 64 bits.
+pub fn number_of(text: &str) -> Option<u64> {
+    match text.strip_prefix("0x") {
+        Some(digits) => u64::from_str_radix(digits, 16).ok(),
+        None => text.parse::<u64>().ok(),
     }
 }
 
@@ -67,7 +72,7 @@ fn gap_length(text: &str) -> usize {
 }
 
 /// How many letters, digits and bytes of these stand at the front of a text.
-fn front_length(text: &str, others: &[u8]) -> usize {
+pub fn front_length(text: &str, others: &[u8]) -> usize {
     let mut length = 0usize;
     for byte in text.bytes() {
         if !byte.is_ascii_alphanumeric() && !others.contains(&byte) {
@@ -126,8 +131,27 @@ pub struct Scanner<'a> {
 }
 
 impl<'a> Scanner<'a> {
+    /// A text of which nothing is read yet.
+    pub fn new(text: &'a str) -> Scanner<'a> {
+        Scanner {
+            rest: text,
+            start: 0,
+            line: 1,
+        }
+    }
+
+    /// The next bytes, so many.
+    pub fn spot(&self, length: usize) -> Spot {
+        let (start, line) = (self.start, self.line);
+        Spot {
+            start,
+            length,
+            line,
+        }
+    }
+
     /// Reads so many bytes.
-    fn take(&mut self, length: usize) -> &'a str {
+    pub fn take(&mut self, length: usize) -> &'a str {
         let (taken, rest) = self
             .rest
             .split_at_checked(length)
@@ -149,14 +173,9 @@ impl<'a> Scanner<'a> {
             self.take(length);
         }
         let (kind, length) = token_at(self.rest);
-        let (start, line) = (self.start, self.line);
+        let mut spot = self.spot(length);
         let text = self.take(length);
-        let length = text.len();
-        let spot = Spot {
-            start,
-            length,
-            line,
-        };
+        spot.length = text.len();
         Token { kind, text, spot }
     }
 }

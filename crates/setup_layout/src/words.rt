@@ -33,11 +33,7 @@ pub struct Words<'a> {
 impl<'a> Words<'a> {
     /// Nothing of the text is read yet.
     pub fn new(alloc: Global, text: &'a str) -> Words<'a> {
-        let mut scanner = Scanner {
-            rest: text,
-            start: 0,
-            line: 1,
-        };
+        let mut scanner = Scanner::new(text);
         let token = scanner.next_token();
         Words {
             alloc,

@@ -1,0 +1,443 @@
+//! The system that a `.system` file describes.
+use crate::elements::{Element, Elements};
+use crate::lines::Lines;
+use crate::making::{Domain, End, text_of};
+use setup_layout::{Remarks, Scanner, Spot, front_length, number_of};
+use std::alloc::{AllocError, Global};
+use std::collections::HashMap;
+
+/// The greatest number by which a domain knows a channel, an interrupt or a domain in it.
+const MOST_ID: u64 = 62;
+
+/// The most domains.
+const MOST_DOMAINS: usize = 63;
+
+/// The objects that are made of a domain.
+const OBJECTS: [&str; 5] = ["tcb", "cnode", "ntfn", "vspace", "ep"];
+
+/// What is told of what a file does not say.
+const ASSUMED: &str =
+    "what the file leaves to Microkit's tool is assumed: the places of slots, CNodes of 9 bits, and the monitor";
+
+/// The elements that are read.
+#[rattlefmt::skip]
+const ELEMENTS: [&str; 9] = [
+    "system", "memory_region", "protection_domain", "program_image", "map", "irq", "setvar", "channel", "end",
+];
+
+/// Their attributes. What is no name, number, permission or answer says nothing of capabilities.
+#[rattlefmt::skip]
+const ATTRIBUTES: [&str; 9] = [
+    "", "name size page_size phys_addr", "name id pp priority budget period stack_size passive", "path",
+    "mr vaddr perms cached setvar_vaddr setvar_size", "irq id trigger", "symbol region_paddr", "", "pd id pp notify setvar_id",
+];
+
+/// Where an element stands, as far as it decides what may stand in it.
+#[derive(Clone, Copy)]
+enum Place {
+    /// In no other element.
+    File,
+    System,
+    /// In a domain, by its place among them.
+    Domain(usize),
+    /// In a channel, by its place among them.
+    Channel(usize),
+    /// In an element in which nothing stands.
+    Inside,
+    /// In an element that is left out.
+    LeftOut,
+}
+
+/// A channel.
+#[derive(Drop)]
+struct Channel {
+    ends: Vec<End>,
+    spot: Spot,
+}
+
+/// Names, with their places among them.
+#[derive(Drop)]
+struct Names<'a> {
+    /// What they are names of.
+    kind: &'static str,
+    numbers: HashMap<&'a str, usize>,
+    list: Vec<&'a str>,
+}
+
+impl<'a> Names<'a> {
+    /// No names.
+    fn new(alloc: Global, kind: &'static str) -> Names<'a> {
+        Names {
+            kind,
+            numbers: HashMap::new(alloc),
+            list: Vec::new(alloc),
+        }
+    }
+
+    /// Adds a name.
+    fn add(&mut self, name: &'a str) -> Result<(), AllocError> {
+        self.numbers.insert(name, self.list.len())?;
+        self.list.push(name)?;
+        Ok(())
+    }
+
+    /// The place of a name.
+    fn find(&self, faults: &mut Remarks, spot: Spot, name: &str) -> Option<usize> {
+        let number = self.numbers.get(name).copied();
+        if number.is_none() {
+            let hint = faults.hint(name, self.list.as_slice());
+            let kind = self.kind;
+            faults.say(spot, format_args!("there is no {kind} {name}{hint}"));
+        }
+        number
+    }
+}
+
+/// What is read of a file.
+#[derive(Drop)]
+pub struct System<'a> {
+    alloc: Global,
+    /// Where the outermost element stands.
+    spot: Spot,
+    region_names: Names<'a>,
+    domain_names: Names<'a>,
+    /// The memory regions, as objects.
+    regions: Lines,
+    domains: Vec<Domain<'a>>,
+    channels: Vec<Channel>,
+    /// In which line a name is made, or an id is given.
+    taken: HashMap<String, usize>,
+    /// Where the elements stand that are read.
+    places: Vec<Place>,
+    pub faults: Remarks,
+    pub notes: Remarks,
+}
+
+impl<'a> System<'a> {
+    /// Takes what no other element may take. Answers whether none has.
+    fn take(&mut self, spot: Spot, what: String) -> Result<bool, AllocError> {
+        let first = self.taken.get(what.as_str()).copied();
+        match first {
+            Some(line) => {
+                let told = format_args!(
+                    "{what} is taken in line {line} already; change one of the two"
+                );
+                self.faults.say(spot, told);
+            }
+            None => {
+                self.taken.insert(what, spot.line)?;
+            }
+        }
+        Ok(first.is_none())
+    }
+
+    /// Takes the names of what is made of a domain.
+    fn take_objects(&mut self, spot: Spot, name: &str) -> Result<(), AllocError> {
+        for object in OBJECTS {
+            let made = format!(in self.alloc; "{name}_{object}")?;
+            if !self.take(spot, made)? {
+                break;
+            }
+        }
+        Ok(())
+    }
+
+    /// The value of an attribute that is needed.
+    fn needed(&mut self, element: &Element<'a>, name: &str) -> &'a str {
+        let value = element.value(name).unwrap_or("");
+        if value.is_empty() {
+            let kind = element.name;
+            let told = format_args!("this {kind} needs an attribute {name}");
+            self.faults.say(element.spot, told);
+        }
+        value
+    }
+
+    /// The name that an element gives to what it declares.
+    fn name(&mut self, element: &Element<'a>) -> &'a str {
+        let name = self.needed(element, "name");
+        let begins = matches!(name.bytes().next(), None | Some(b'a'..=b'z' | b'A'..=b'Z' | b'_'));
+        if !begins || front_length(name, b"_-.") < name.len() {
+            let told =
+                "a name begins with a letter or _, and has letters, digits, _, - and . alone";
+            self.faults.say(element.spot, told);
+        }
+        name
+    }
+
+    /// The number by which a domain knows something: a channel or an interrupt, or a domain in it.
+    fn id(&mut self, element: &Element<'a>, domain: usize, of: &str) -> Result<u32, AllocError> {
+        let id = number_of(self.needed(element, "id")).unwrap_or(u64::MAX);
+        if id > MOST_ID {
+            let told = format_args!("an id is a number from 0 to {MOST_ID}");
+            self.faults.say(element.spot, told);
+            return Ok(0);
+        }
+        let name = match self.domains.get(domain) {
+            Some(domain) => domain.name,
+            None => "",
+        };
+        let given = format!(in self.alloc; "id {id} of {of}{name}")?;
+        self.take(element.spot, given)?;
+        Ok(id as u32)
+    }
+
+    /// Whether an attribute says so.
+    fn is_so(&mut self, element: &Element<'a>, name: &str, is_else: bool) -> bool {
+        match element.value(name) {
+            None => is_else,
+            Some("true") => true,
+            Some("false") => false,
+            Some(_) => {
+                let told = format_args!("{name} is true or false");
+                self.faults.say(element.spot, told);
+                is_else
+            }
+        }
+    }
+
+    /// Says which attributes of an element are left out.
+    fn note_others(&mut self, element: &Element<'a>) -> Result<(), AllocError> {
+        let kind = element.name;
+        let number = ELEMENTS.iter().position(|name| *name == kind);
+        let words = ATTRIBUTES.get(number.unwrap_or(0)).copied().unwrap_or("");
+        let known: Vec<&str> = words.split(' ').collect(self.alloc)?;
+        for attribute in element.attributes.as_slice() {
+            let (name, spot) = (attribute.name, attribute.spot);
+            if !known.as_slice().contains(&name) {
+                let hint = self.notes.hint(name, known.as_slice());
+                self.notes.say(
+                    spot,
+                    format_args!("{name} of this {kind} is left out{hint}"),
+                );
+            }
+        }
+        Ok(())
+    }
+
+    /// Begins with the outermost element.
+    fn add_system(&mut self, element: &Element<'a>) -> Result<Place, AllocError> {
+        let (name, spot) = (element.name, element.spot);
+        self.spot = spot;
+        if name != "system" {
+            let told = format_args!("a .system file is one element system, and not {name}");
+            self.faults.say(spot, told);
+        }
+        self.notes.say(spot, ASSUMED);
+        self.take_objects(spot, "monitor")?;
+        Ok(Place::System)
+    }
+
+    /// Adds a memory region.
+    fn add_region(&mut self, element: &Element<'a>) -> Result<Place, AllocError> {
+        let (name, spot) = (self.name(element), element.spot);
+        self.take(spot, String::from_str(self.alloc, name)?)?;
+        self.region_names.add(name)?;
+        self.regions.put(spot, format_args!("{name} = frame"))?;
+        Ok(Place::Inside)
+    }
+
+    /// Adds a protection domain, which may stand in another one.
+    fn add_domain(
+        &mut self,
+        element: &Element<'a>,
+        outer: Option<usize>,
+    ) -> Result<Place, AllocError> {
+        let (name, spot, number) = (self.name(element), element.spot, self.domains.len());
+        self.take_objects(spot, name)?;
+        let is_server = self.is_so(element, "pp", false);
+        let mut domain = Domain::new(self.alloc, name, spot, is_server);
+        if let Some(outer) = outer {
+            let id = self.id(element, outer, "a domain in ")?;
+            if let Some(outer) = self.domains.get_mut(outer) {
+                outer.add_inner(&mut domain, id)?;
+            }
+        } else {
+            domain.add_to_monitor(number)?;
+        }
+        if number == MOST_DOMAINS {
+            let told = format_args!("a system has {MOST_DOMAINS} protection domains at most");
+            self.faults.say(spot, told);
+        }
+        self.domain_names.add(name)?;
+        self.domains.push(domain)?;
+        Ok(Place::Domain(number))
+    }
+
+    /// Adds a memory region that a domain sees.
+    fn add_map(&mut self, element: &Element<'a>, domain: usize) -> Result<Place, AllocError> {
+        let (region, spot) = (self.needed(element, "mr"), element.spot);
+        self.region_names.find(&mut self.faults, spot, region);
+        let letters = element.value("perms").unwrap_or("rw");
+        if letters.is_empty() || letters.bytes().any(|letter| !b"rwx".contains(&letter)) {
+            self.faults
+                .say(spot, "perms has letters of r, w and x, one at least");
+        }
+        let letters = letters.to_ascii_uppercase(self.alloc)?;
+        if let Some(domain) = self.domains.get_mut(domain) {
+            domain.add_map(region, letters.as_str(), spot)?;
+        }
+        Ok(Place::Inside)
+    }
+
+    /// Adds an interrupt that a domain hears.
+    fn add_interrupt(&mut self, element: &Element<'a>, domain: usize) -> Result<Place, AllocError> {
+        let (number, spot) = (number_of(self.needed(element, "irq")), element.spot);
+        let id = self.id(element, domain, "")?;
+        let Some(number) = number else {
+            self.faults.say(spot, "irq is the number of an interrupt");
+            return Ok(Place::Inside);
+        };
+        let made = format!(in self.alloc; "irq_{number}")?;
+        self.take(spot, made)?;
+        if let Some(domain) = self.domains.get_mut(domain) {
+            domain.add_interrupt(number, id, spot)?;
+        }
+        Ok(Place::Inside)
+    }
+
+    /// Adds a channel.
+    fn add_channel(&mut self, element: &Element<'a>) -> Result<Place, AllocError> {
+        let (ends, spot, number) = (Vec::new(self.alloc), element.spot, self.channels.len());
+        self.channels.push(Channel { ends, spot })?;
+        Ok(Place::Channel(number))
+    }
+
+    /// Adds an end of a channel.
+    fn add_end(&mut self, element: &Element<'a>, channel: usize) -> Result<Place, AllocError> {
+        let (name, spot) = (self.needed(element, "pd"), element.spot);
+        let Some(domain) = self.domain_names.find(&mut self.faults, spot, name) else {
+            return Ok(Place::Inside);
+        };
+        let end = End {
+            domain,
+            id: self.id(element, domain, "")?,
+            does_notify: self.is_so(element, "notify", true),
+            does_call: self.is_so(element, "pp", false),
+            spot,
+        };
+        if let Some(channel) = self.channels.get_mut(channel) {
+            channel.ends.push(end)?;
+        }
+        Ok(Place::Inside)
+    }
+
+    /// Leaves out an element.
+    fn leave_out(&mut self, element: &Element<'a>) -> Place {
+        let name = element.name;
+        let hint = self.notes.hint(name, &ELEMENTS);
+        let told = format_args!("{name} is left out here, with all that is in it{hint}");
+        self.notes.say(element.spot, told);
+        Place::LeftOut
+    }
+
+    /// Adds what an element describes. Answers where what is in it stands.
+    fn add(&mut self, element: &Element<'a>, place: Place) -> Result<Place, AllocError> {
+        let inside = match (place, element.name) {
+            (Place::LeftOut, _) => return Ok(Place::LeftOut),
+            (Place::File, _) => self.add_system(element)?,
+            (Place::System, "memory_region") => self.add_region(element)?,
+            (Place::System, "protection_domain") => self.add_domain(element, None)?,
+            (Place::System, "channel") => self.add_channel(element)?,
+            (Place::Domain(outer), "protection_domain") => self.add_domain(element, Some(outer))?,
+            (Place::Domain(domain), "map") => self.add_map(element, domain)?,
+            (Place::Domain(domain), "irq") => self.add_interrupt(element, domain)?,
+            (Place::Domain(_), "program_image" | "setvar") => Place::Inside,
+            (Place::Channel(channel), "end") => self.add_end(element, channel)?,
+            _ => return Ok(self.leave_out(element)),
+        };
+        self.note_others(element)?;
+        Ok(inside)
+    }
+
+    /// Adds what elements describe: those that name what may be declared behind them, or the others.
+    fn add_all(&mut self, elements: &[Element<'a>], are_late: bool) -> Result<(), AllocError> {
+        for element in elements {
+            let place = match element.outer {
+                None => Place::File,
+                Some(outer) => self.places.get(outer).copied().unwrap_or(Place::LeftOut),
+            };
+            let is_late = element.name == "map" || element.name == "end";
+            let mut inside = Place::Inside;
+            if is_late == are_late {
+                inside = self.add(element, place)?;
+            }
+            if !are_late {
+                self.places.push(inside)?;
+            }
+        }
+        Ok(())
+    }
+
+    /// Adds what an end of a channel may do to the other one.
+    fn join(&mut self, here: End, there: End) -> Result<(), AllocError> {
+        let mut name = "";
+        if let Some(domain) = self.domains.get_mut(there.domain) {
+            name = domain.name;
+            domain.is_server |= here.does_call;
+        }
+        match self.domains.get_mut(here.domain) {
+            Some(domain) => domain.add_channel(here, there, name),
+            None => Ok(()),
+        }
+    }
+
+    /// Joins the ends of all channels.
+    fn join_all(&mut self) -> Result<(), AllocError> {
+        for number in 0..self.channels.len() {
+            let Some(Channel { ends, spot }) = self.channels.get(number) else {
+                continue;
+            };
+            if let [one, other] = ends.as_slice() {
+                let (one, other) = (*one, *other);
+                self.join(one, other)?;
+                self.join(other, one)?;
+            } else {
+                let told = "a channel has two ends, of protection domains";
+                self.faults.say(*spot, told);
+            }
+        }
+        Ok(())
+    }
+
+    /// The capDL text of the system; that of none, where it has faults.
+    pub fn text(&self) -> Result<Lines, AllocError> {
+        let (alloc, spot, domains) = (self.alloc, self.spot, self.domains.as_slice());
+        if self.faults.told.is_empty() {
+            return text_of(alloc, spot, &self.regions, domains);
+        }
+        let mut nothing = Lines::new(alloc);
+        nothing.put(spot, "arch aarch64")?;
+        Ok(nothing)
+    }
+
+    /// Reads a file.
+    pub fn read(alloc: Global, text: &'a str) -> Result<System<'a>, AllocError> {
+        let Elements { list, faults, .. } = Elements::read(alloc, text)?;
+        let mut system = System {
+            alloc,
+            spot: Scanner::new(text).spot(0),
+            region_names: Names::new(alloc, "memory region"),
+            domain_names: Names::new(alloc, "protection domain"),
+            regions: Lines::new(alloc),
+            domains: Vec::new(alloc),
+            channels: Vec::new(alloc),
+            taken: HashMap::new(alloc),
+            places: Vec::new(alloc),
+            faults,
+            notes: Remarks::new(alloc),
+        };
+        if list.is_empty() && system.faults.told.is_empty() {
+            let told = "there is no element here; a .system file is one element system";
+            system.faults.say(Scanner::new(text).spot(0), told);
+        }
+        if system.faults.told.is_empty() {
+            system.add_all(list.as_slice(), false)?;
+            system.add_all(list.as_slice(), true)?;
+        }
+        if system.faults.told.is_empty() {
+            system.join_all()?;
+        }
+        Ok(system)
+    }
+}
