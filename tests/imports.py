@@ -3,10 +3,10 @@
 
 FOLDER has layouts, each with its listing in a file `.listing`, and with `--flows` in a file `.flows`, written by another
 reader; and in `wrong` layouts with one fault each. COUNT random layouts are drawn from SEED, and their listings are
-compared with what was drawn. The end of each set-up is
-read off the report of `check`: each slot of the layout holds its capability, no other slot is full but the loader's, threads are ready
-or inactive as asked, and nobody waits on an endpoint; what the slots have to hold is drawn here, or read by a few expressions that know
-nothing of the program. The set-up is also given to `check -`. A call of it is taken out or changed in some: then the end has to differ."""
+compared with what was drawn. A `.system` file NAME has to come to the set-up of the layout NAME_from_system, which another program
+made of it. The end of each set-up is read off the report of `check`: each slot of the layout holds its capability, no other slot is
+full but the loader's, threads are ready or inactive as asked, and nobody waits on an endpoint; what the slots have to hold is drawn
+here, or read by a few expressions that know nothing of the program. The set-up is also given to `check -`. A call of it is taken out or changed in some: then the end has to differ."""
 import difflib
 import pathlib
 import random
@@ -20,6 +20,12 @@ FAULTS = {
     "guard_value_too_long": 13, "kind_misspelt": 3, "no_arch": 2, "no_end": 15, "no_size": 4, "object_misspelt": 10,
     "right_unknown": 10, "section_misspelt": 8, "slot_outside": 10, "slot_twice": 11, "slots_of_an_endpoint": 12,
     "tcb_slot_misspelt": 13, "tcb_slot_of_a_cnode": 10, "too_large": 1, "untyped_twice": 11,
+    # Those of `.system` files.
+    "attribute_twice": 14, "comment_not_closed": 13, "document_type": 2, "domain_misspelt": 15, "domain_twice": 9,
+    "element_not_closed": 16, "equals_sign_missing": 7, "id_of_an_interrupt": 14, "id_too_large": 14, "interrupt_twice": 11,
+    "name_with_blank": 9, "neither_true_nor_false": 15, "no_name": 3, "no_system": 2, "one_end": 13, "permissions_unknown": 11,
+    "region_misspelt": 11, "region_named_as_thread": 10, "sign_by_name": 10, "three_ends": 13, "two_systems": 18,
+    "value_not_closed": 5,
 }
 RIGHTS = (("W", "w"), ("R", "r"), ("G", "g"), ("P", "p"))
 
@@ -192,11 +198,38 @@ def faults_of(program, folder):
         if not made.stdout.startswith("".join(f"# {line}\n" for line in listed.splitlines()) + "#\n"):
             yield f"{path.name}: its set-up begins with another listing"
     yield from faults_by_name(program, folder)
-    for path in sorted((folder / "wrong").glob("*.cdl")):
+    for path in sorted(it for it in (folder / "wrong").iterdir() if it.suffix in (".cdl", ".system")):
         made = run(program, ["import", str(path)], "")
         line = FAULTS[path.stem]
         if made.returncode != 2 or made.stdout != f"layout refused at {line}\n" or f"{path.name}:{line}:" not in made.stderr:
             yield f"{path.name}: {made.returncode} {made.stdout!r} {made.stderr[:200]!r}"
+
+
+def faults_of_systems(program, folder):
+    """Yields which `.system` files of a folder do not come to the set-ups of the layouts that were made of them by another program, and
+    what is not told of them with its line: what stands above a call, what is assumed, and what is left out."""
+    for path in sorted(folder.glob("*.system")):
+        for flows in ([], ["--flows"]):
+            made, wanted = [run(program, ["import", *flows, str(it)], "") for it in (path, folder / f"{path.stem}_from_system.cdl")]
+            if made.returncode or plain_lines(made.stdout) != plain_lines(wanted.stdout):
+                yield f"{path.name}: status {made.returncode}, or not the set-up of its layout, with {flows}"
+            if "Microkit's tool is assumed" not in made.stderr:
+                yield f"{path.name}: nothing is assumed, with {flows}"
+    told = run(program, ["import", str(folder / "hello.system")], "").stdout
+    for said in ("\n# 27: hello_cnode[75] ", "\n# 7: serial_cnode[2] ", "\n# 3: monitor_cnode[1] "):
+        if said not in told:
+            yield f"hello.system: no call with {said!r}"
+    text = (folder / "hello.system").read_text()
+    text = text.replace('<irq irq="33"', '<irq irg="1" irq="33"').replace("    <channel>\n", "    <chanel>\n<end pd='serial' />\n</chanel><channel>\n", 1)
+    made = run(program, ["import", "-"], text)
+    for said in ("irg of this irq is left out; did you mean irq?", ":11:14", "chanel is left out here, with all that is in it; did you mean channel?", ":22:6"):
+        if made.returncode or said not in made.stderr:
+            yield f"hello.system with more: status {made.returncode}, and nothing of {said!r}"
+
+
+def plain_lines(text):
+    """Returns the lines of a set-up that are no comments."""
+    return [line for line in text.splitlines() if not line.startswith("#")]
 
 
 def faults_by_name(program, folder):
@@ -213,7 +246,8 @@ def faults_by_name(program, folder):
 
 
 def main(program, folder, seed, count):
-    wrong = [*faults_of(program, pathlib.Path(folder)), *flows_of(program, pathlib.Path(folder))]
+    folder = pathlib.Path(folder)
+    wrong = [*faults_of(program, folder), *flows_of(program, folder), *faults_of_systems(program, folder)]
     changed = unseen = 0
     for number in range(int(count)):
         text, *said = layout(f"{seed} {number}")

@@ -60,9 +60,9 @@ complete -c sel4sim -n '__fish_seen_subcommand_from new' -l threads -x -a '' -d 
 complete -c sel4sim -n '__fish_seen_subcommand_from new' -l endpoints -x -a '' -d 'It has N endpoints'
 complete -c sel4sim -n '__fish_seen_subcommand_from new' -l untyped -x -a '' -d 'It has these untyped regions, with commas between them'
 complete -c sel4sim -n '__fish_seen_subcommand_from new' -s h -l help -d 'Print help'
-complete -c sel4sim -n '__fish_use_subcommand' -a import -d 'Reads a layout as capDL text and prints a set-up whose calls make it'
+complete -c sel4sim -n '__fish_use_subcommand' -a import -d 'Reads a layout as capDL text or a .system file and prints a set-up whose calls make it'
 complete -c sel4sim -n '__fish_seen_subcommand_from import' -l shrink -x -a '' -d 'Cut untyped regions that cover nothing to N bits'
-complete -c sel4sim -n '__fish_seen_subcommand_from import' -l listing -d 'Print what each slot of the layout holds'
+complete -c sel4sim -n '__fish_seen_subcommand_from import' -l listing -d 'Print what was read of the layout'
 complete -c sel4sim -n '__fish_seen_subcommand_from import' -l flows -d 'Count each object that a set-up lacks, each answer and each Grant'
 complete -c sel4sim -n '__fish_seen_subcommand_from import' -s h -l help -d 'Print help'
 complete -c sel4sim -n '__fish_seen_subcommand_from import' -F

@@ -1,5 +1,5 @@
-//! A set-up of a layout that is capDL text: its calls are those of a loader, which makes each object and fills each slot. A text is
-//! written only where the program read it, ran it, and found its end laid out as the layout.
+//! A set-up of a layout that is capDL text or a `.system` file: its calls are those of a loader, which makes each object and fills each
+//! slot. A text is written only where the program read it, ran it, and found its end laid out as the layout.
 #![tactic(auto)]
 
 mod calls;

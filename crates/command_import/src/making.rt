@@ -16,8 +16,9 @@ use cap_core::{Narrow, Profile, ProfileName, Wide};
 use command_core::{Answer, Engine, RunFault, Verdict};
 use ipc_core::{LinkedWaiters, MakeWaiters};
 use setup_format::{ReadSetup, Setup, SetupFault, read};
-use setup_layout::{Layout, Places, ReadLayout, Reading, read_layout};
+use setup_layout::{Layout, Places, ReadLayout, Reading};
 use setup_report::kernel_after;
+use setup_system::read_any_layout;
 use slot_core::{DerivationStore, LinkedStore, MakeStore};
 use std::alloc::{AllocError, Global};
 
@@ -121,7 +122,7 @@ fn text_of(alloc: Global, layout: &Layout, places: &Places) -> Result<String, Al
     Ok(text)
 }
 
-/// A set-up of the layout that the input is as capDL text, or, with `listing`, what was read of it, in lines. The verdict is `Refused`
+/// A set-up of the layout that the input is as capDL text or as a `.system` file, or, with `listing`, what was read of it, in lines. The verdict is `Refused`
 /// where the layout has faults, and `Absent`, with nothing written, where the set-up that was made does not come to the layout.
 #[derive(Clone, Copy)]
 pub struct Importer {
@@ -148,7 +149,7 @@ impl Importer {
     fn made(self, alloc: Global, input: &[u8]) -> Result<Answer, AllocError>
         ensures { IfOk result (λ made. IsImported self.listing made.text.items made.verdict) }
     {
-        let read = read_layout(alloc, input, self.reading)?;
+        let read = read_any_layout(alloc, input, self.reading)?;
         self.made_of(alloc, &read)
     }
 }

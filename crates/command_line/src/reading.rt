@@ -338,14 +338,15 @@ fn new<'a>(alloc: Global) -> Result<Command<'a>, AllocError>
 fn import<'a>(alloc: Global) -> Result<Command<'a>, AllocError>
     ensures { IfOk result (IsCommand import_command) }
 {
-    let about = "Reads a layout as capDL text and prints a set-up whose calls make it";
+    let about =
+        "Reads a layout as capDL text or a .system file and prints a set-up whose calls make it";
     let shrink = number(
         alloc,
         "shrink",
         "Cut untyped regions that cover nothing to N bits",
     );
     let with_shrink = and_argument(with_file(alloc, "import", about), shrink);
-    let listing = flag(alloc, "listing", "Print what each slot of the layout holds");
+    let listing = flag(alloc, "listing", "Print what was read of the layout");
     let with_listing = and_argument(with_shrink, listing);
     let flows = flag(
         alloc,

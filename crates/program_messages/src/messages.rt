@@ -8,9 +8,10 @@ use command_core::{Found, INPUT_LIMIT, KeptReader, Notes, ReaderSource, RunFault
 use command_files::Used;
 use command_line::{Job, Line, Options, refused_line_words};
 use command_policy::{Files, policy_messages};
-use setup_layout::{Reading, layout_words};
+use setup_layout::Reading;
 use setup_messages::{Formats, refusal_words};
 use setup_positions::NamedText;
+use setup_system::layout_words;
 use std::fmt::Display;
 use std::io::{self, Eprint};
 
