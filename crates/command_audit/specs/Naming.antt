@@ -145,7 +145,7 @@ abbrev pub naming_view : Naming → Texts
 naming_view (Addresses names) = by_addresses (names_view names.now)
 naming_view (Named known) = by_object_names (name_by known.now) known.now.slot_bits known.now.nodes.now
 
--- one address as it is told
+-- one address as it is written
 abbrev pub told_as : Told → List ℕ
 told_as (Number number) = decimal number
 told_as (Thread thread) = named_text thread.address (option_copied thread.name)

@@ -26,11 +26,11 @@ abbrev pub unexpected_in : Result SetupView Fault → List ℕ
 unexpected_in (Ok setup) = unexpected_from 1 setup.calls (replies_to setup.profile setup)
 unexpected_in (Err fault) = []
 
--- the number of a call whose reply is not the expected one; an expectation that asks is not told of
+-- the number of a call whose reply is not the expected one; an expectation that asks is not counted
 abbrev pub unmet_at : ℕ → Option (List ℕ) → Reply → List ℕ
 unmet_at number None reply = []
 unmet_at number (Some expected) reply = cond (asks expected || begins_as (reply_text reply) expected) [] (number ∷ [])
 
--- the numbers of the calls that are told of
+-- the numbers of the calls of some notes
 abbrev pub noted : List CallNote → List ℕ
 noted notes = map (λ (note : CallNote). note.call) notes

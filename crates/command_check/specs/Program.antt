@@ -54,7 +54,7 @@ abbrev pub IsTextIn : ProfileName → SetupView → CountedText → Type 0
 IsTextIn p setup made =
     (made.text.items ≡ report_of p setup.calls (replies_to p setup) (shown (end_state p setup))) × HasCounts p setup made.count
 
--- what is told of a set-up: that of its run in the profile that it names, or the line by which it is refused, with no count
+-- what is written of a set-up: that of its run in the profile that it names, or the line by which it is refused, with no count
 abbrev pub IsTextOfSetup : Result SetupView Fault → CountedText → Type 0
 IsTextOfSetup (Ok setup) made = IsTextIn setup.profile setup made
 IsTextOfSetup (Err fault) made = (made.text.items ≡ refusal_line fault) × (made.count ≡ None)

@@ -146,7 +146,7 @@ IsWitnessAccepted setup first limit witness document table =
     members_are_sorted document ≡ true → setup_of document ≡ Ok setup
     → witness_of setup.profile setup first limit witness document ≡ Some table → IsAccepted setup first limit witness document table
 
--- a set-up that makes the calls of the order that is told comes to what is told
+-- a set-up that makes the calls of the order that is asked for comes to what is written
 abbrev pub IsWitnessReplayed : SetupView → ℕ → ℕ → Witness → List ℕ → SetupView → Type 0
 IsWitnessReplayed setup first limit witness order made =
     IsPlan setup.profile setup.plan → named_order (client_numbers_of setup) (explored setup first limit) witness ≡ Some order

@@ -110,7 +110,7 @@ tally_line files tally =
     terminated (codes "files " ++ (decimal files ++ (codes " met " ++ (decimal tally.met ++ (codes " unmet " ++ (decimal tally.unmet
     ++ (codes " refused " ++ (decimal tally.refused ++ (codes " unread " ++ decimal tally.unread)))))))))
 
--- a text of several files: what stands before, the line of each file, and what stands behind, by how many there are and their tally
+-- a text of several files: what comes before, the line of each file, and what comes after, by how many there are and their tally
 abbrev pub told_text : Bool → List ℕ → (List ℕ → Option (List ℕ) → List ℕ) → (ℕ → Tally → List ℕ) → List (List ℕ) → List (Option (List ℕ)) → List ℕ
 told_text strict head line last names files = (head ++ lines_of line names files) ++ last (length names) (tally_of strict files)
 

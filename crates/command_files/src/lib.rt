@@ -1,4 +1,4 @@
-//! What is told of several files, from their names and bytes to a line for each; and the check of them, with a summary, or of one.
+//! What is written of several files, from their names and bytes to a line for each; and the check of them, with a summary, or of one.
 #![tactic(auto)]
 
 mod checking;

@@ -108,6 +108,6 @@ IsHowBy w p names setup made v text verdict =
     (IsToldOfMeant p w names setup made v (object_meant Thread p names setup.plan v w.from) (object_meant Thread p names setup.plan v w.to) text verdict)
     (IsNothing text verdict)
 
--- the same of the state behind the first calls
+-- the same of the state after the first calls
 abbrev pub IsHow : Words → ProfileName → Names → SetupView → ℕ → State → List ℕ → Verdict → Type 0
 IsHow w p names setup made A text verdict = IsHowBy w p names setup made (shown A) text verdict

@@ -107,6 +107,6 @@ IsInside p q v Loss = TakesFrom q.memory v q.from q.to
 abbrev pub HasNoWitness : ProfileName → Asking → List PartUse → State → List Call → Type 0
 HasNoWitness p q uses A calls = IsReached p A → IsExcluded p q uses (shown A) → IsShown p q A calls → ⊥
 
--- nor is it both ruled out and not: parts that may be told give one answer, however they are written
+-- nor is it both ruled out and not: parts that may be written give one answer, however they are written
 abbrev pub IsOnlyOne : ProfileName → Asking → List PartUse → State → Type 0
 IsOnlyOne p q uses A = IsReached p A → IsRuledOut p q uses (shown A) q.what → IsInside p q (shown A) q.what → ⊥

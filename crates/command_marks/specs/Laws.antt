@@ -24,6 +24,6 @@ AreThoseOfTheExercise =
     (question answer : List ℕ) (reply : Reply) → (mark_by_question (Some question) (Some answer) reply ≡ Right)
     ↔ ((expectation_text (Some answer) (reply_text reply) ≡ codes " [met]") × (is_short question answer reply ≡ false))
 
--- of each set-up that is another one than the exercise a place is told, and not only that it differs
+-- of each set-up that is another one than the exercise a place is named, and not only that it differs
 abbrev pub HasPlaceWhereItDiffers : Type 0
 HasPlaceWhereItDiffers = (exercise read : ReadView) → is_same exercise.setup read.setup ≡ false → differs_text exercise read ≢ codes "differs"

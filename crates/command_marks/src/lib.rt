@@ -1,5 +1,5 @@
 //! The marks of a set-up's answers, as text: of each call that expects something whether its reply is as expected. No reply
-//! is told.
+//! is shown.
 #![tactic(auto)]
 
 mod against;

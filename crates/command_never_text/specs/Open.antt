@@ -132,7 +132,7 @@ pub record IsNeverText (p : ProfileName) (names : Names) (setup : SetupView) (ma
   pub are_chains : AreChains p names memory uses v by from to chains
   pub lines : text ≡ never_text p names setup made refused without messages memory uses v by from to ++ chains
 
--- the text and the answer, of parts that may be told; and where the answer is that it is excluded, the one thread's part is kept
+-- the text and the answer, of parts that may be written; and where the answer is that it is excluded, the one thread's part is kept
 -- from the other's
 pub record IsNeverOf (p : ProfileName) (names : Names) (setup : SetupView) (made refused : ℕ) (without messages : List ℕ) (v : Shown) (by : List ℕ)
     (from to : ℕ) (text : List ℕ) (answer : Never) : Type 0 where

@@ -34,7 +34,7 @@ sends_with endpoint badge u = u.endpoint == endpoint && (u.badge.0 == badge.0 &&
 abbrev pub IsSentByTold : List PartMemory → ℕ → List PartUse → SendRecord → Type 0
 IsSentByTold memory i told s = part_at memory s.thread.base ≡ Some i → list_any (sends_with s.endpoint.base s.badge) told ≡ true
 
--- and each send of its threads on the way is by one of the uses that are told of the part
+-- and each send of its threads on the way is by one of the uses that are written of the part
 abbrev pub SendsByTold : ProfileName → List PartMemory → List PartUse → Shown → ℕ → Type 0
 SendsByTold p memory uses v i =
     AreConfinedEver p memory uses v → passes_alone p (part_slots memory v.derivations) i ≡ true →

@@ -12,7 +12,7 @@ use Rattle.setup_format.specs.Views.{SetupView}
 use Rattle.command_parts.specs.Threads.{callers}
 use Rattle.command_parts.specs.Text.{ever_text}
 
--- Parts that may be told: whatever calls their threads make, nothing leaves them; they stand in order, with nothing in them
+-- Parts that may be written: whatever calls their threads make, nothing leaves them; they stand in order, with nothing in them
 -- that goes without saying; they lie in all parts that are closed around the live threads that are not trusted; and the whole
 -- control block of each of these threads lies in one
 pub record AreRightParts (p : ProfileName) (v : Shown) (trusted : List ℕ) (memory : List PartMemory) (uses : List PartUse) : Type 0 where

@@ -44,7 +44,7 @@ parts_head_line name setup made refused =
     terminated (name ++ (codes " 3 " ++ (profile_text setup.profile ++ (codes " memory_bits " ++ (decimal setup.plan.memory_bits
     ++ calls_text (length setup.calls) made refused)))))
 
--- the word `none` behind a trusted thread that is not live
+-- the word `none` after a trusted thread that is not live
 abbrev pub none_text : Bool → List ℕ
 none_text live = cond live [] (codes " none")
 

@@ -21,7 +21,7 @@ IsEverOf trust p names setup made refused v text verdict =
     × (verdict ≡ AllMet))
     ((text ≡ []) × (verdict ≡ Absent))
 
--- the same of the state behind the first calls
+-- the same of the state after the first calls
 abbrev pub IsEver : Trusted → ProfileName → Names → SetupView → ℕ → State → List ℕ → Verdict → Type 0
 IsEver trust p names setup made A text verdict =
     IsEverOf trust p names setup made (refused_behind p setup made) (shown A) text verdict

@@ -120,7 +120,7 @@ abbrev pub is_in_larger : Policy → Layout → HeldRegion → Bool
 is_in_larger c l r =
     list_any (λ (o : HeldRegion). o.part == r.part && (nat_lt r.bits o.bits && (range_lies_within r.base r.bits o.base o.bits && not (is_region_own c l o)))) l.regions.items
 
--- the region lies in none of the part's own, and in no larger one that is to be told
+-- the region lies in none of the part's own, and in no larger one that is to be written
 abbrev pub is_region_amiss : Policy → Layout → HeldRegion → Bool
 is_region_amiss c l r = not (is_region_own c l r) && not (is_in_larger c l r)
 

@@ -76,7 +76,7 @@ region_of memory d = region_in memory d.0.slot d.0.cap
 abbrev pub trusted_threads : Policy → List ℕ
 trusted_threads c = rising (map (λ (m : Member). m.thread) c.silent.items ++ map (λ (m : Member). m.thread) c.messages.items)
 
--- the parts are right parts around the live threads that the policy does not trust, and the rest is told of them and of the state,
+-- the parts are right parts around the live threads that the policy does not trust, and the rest is read off them and the state,
 -- in which threads do what the waiting lists of endpoints have them do
 pub record IsLayoutOf (p : ProfileName) (c : Policy) (v : Shown) (l : Layout) : Type 0 where
   pub right : AreRightParts p v (trusted_threads c) l.memory.items l.uses.items

@@ -135,7 +135,7 @@ is_passage_told l uses waits w = list_any (is_use_of_passage w) uses || list_any
 abbrev pub is_badge_told : Policy → Layout → List Home → List PartUse → List Waiting → Passage → Bool
 is_badge_told c l homes uses waits w = is_passage_told l uses waits w && (has_way c homes w && not (is_let_elsewhere c homes w))
 
--- no way lets the passage be, its ends have no group in common, and its badge is not told already
+-- no way lets the passage be, its ends have no group in common, and its badge is not written already
 abbrev pub is_passage_amiss : Policy → Layout → List Home → List PartUse → List Waiting → Passage → Bool
 is_passage_amiss c l homes uses waits w =
     not (have_one_in_common homes w) && (not (is_let c homes w) && not (is_badge_told c l homes uses waits w))

@@ -6,7 +6,7 @@ use Rattle.kernel_abstract.specs.State.{State, shown}
 use Rattle.kernel_abstract.specs.Step.{step}
 use Rattle.command_trace_lines.specs.Changes.{StateLines, lines_of_state, changes}
 
--- what is told of a state, and of the state after a call
+-- what is written of a state, and of the state after a call
 abbrev pub lines_in : ProfileName → State → StateLines
 lines_in p A = lines_of_state p (shown A)
 

@@ -41,7 +41,7 @@ change_at old new address = change (text_at address old) (text_at address new)
 abbrev pub line_changes : Lines → Lines → List ℕ
 line_changes old new = flat_map (change_at old new) (rising (line_addresses old ++ line_addresses new))
 
--- all that is told of a state, kind by kind
+-- all that is written of a state, kind by kind
 pub record StateLines : Type 0 where
   pub threads : Lines
   pub inboxes : Lines

@@ -14,7 +14,7 @@ pub record ToldLines : Type 0 where
 abbrev pub told_lines : ProfileName → Shown → ToldLines
 told_lines p v = record { state = lines_of_state p v; siblings = sibling_lines v.derivations }
 
--- of a state that is not there nothing is told
+-- of a state that is not there nothing is written
 abbrev pub nothing_told : ToldLines
 nothing_told = record { state = no_lines; siblings = [] }
 

@@ -52,7 +52,7 @@ pub record IsViewOf (p : ProfileName) (v : Shown) (view : View) : Type 0 where
   pub memory : ShowsMemory p v view.memory
   pub messages : ShowsMessages p v view.messages
 
--- what is kept is all that is told of a state
+-- what is kept is all that is written of a state
 pub record IsStateTold (p : ProfileName) (v : Shown) (told : Told) : Type 0 where
   pub view : IsViewOf p v told.view
   pub siblings : map row_view told.siblings.items ≡ siblings None v.derivations

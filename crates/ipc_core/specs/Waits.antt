@@ -112,7 +112,7 @@ endpoint_of (Receiving e) = e
 abbrev pub thread_waiting : Waits → ℕ → ℕ → Option ℕ
 thread_waiting w e place = option_map thread_of (slice_get (w.queue e) place)
 
--- wherever a thread waits, this is the one that waits behind it, if any does
+-- wherever a thread waits, this is the one that waits next after it, if any does
 abbrev pub IsNextBehind : Waits → ℕ → Option ℕ → Type 0
 IsNextBehind w thread next =
     (e place : ℕ) → thread_waiting w e place ≡ Some thread → next ≡ thread_waiting w e (place + 1)

@@ -102,7 +102,7 @@ abbrev pub first_place : List Marked → Option ℕ
 first_place [] = None
 first_place (r ∷ l) = Some r.place
 
--- the place in front of it, where `before` stands in front of the list, and the place behind it
+-- the place before it, where `before` comes before the list, and the place after it
 abbrev pub previous_in : ℕ → Option ℕ → List Marked → Option ℕ
 previous_in place before [] = None
 previous_in place before (r ∷ l) = cond (r.place == place) before (previous_in place (Some r.place) l)
@@ -127,7 +127,7 @@ HasOthersBelow f =
 abbrev pub run_of : ProfileName → Marked → List Marked → List Marked
 run_of p s followers = take (prefix_len (is_parent p s) followers) followers
 
--- the descendants of each slot are the longest run of the slots behind it that it is parent of
+-- the descendants of each slot are the longest run of the slots after it that it is parent of
 abbrev pub HasRunsBelow : ProfileName → List Marked → Type 0
 HasRunsBelow p l =
     (pre : List Marked) (s : Marked) (post : List Marked) → l ≡ pre ++ s ∷ post →

@@ -4,7 +4,7 @@ use Rattle.cap_core.specs.declared.capability.Cap.{Cap}
 use Rattle.kernel_forest.specs.Derivation.{is_new_original, with_free}
 use Rattle.kernel_forest.specs.Marked.{Marked, marked, with_cap, at_place, with_mark, row_in}
 
--- behind all, with both marks
+-- after all others, with both marks
 abbrev pub appended : ℕ → Cap → List Marked → List Marked
 appended place cap l = l ++ marked place cap true true ∷ []
 
@@ -13,11 +13,11 @@ abbrev pub put_behind : ℕ → Marked → List Marked → List Marked
 put_behind place x [] = []
 put_behind place x (r ∷ l) = cond (r.place == place) (r ∷ x ∷ l) (r ∷ put_behind place x l)
 
--- a new object's capability, directly behind its untyped region, with both marks
+-- a new object's capability, directly after its untyped region, with both marks
 abbrev pub object_behind : ℕ → ℕ → Cap → List Marked → List Marked
 object_behind parent place cap l = put_behind parent (marked place cap true true) l
 
--- a capability that is derived from the one at `source`, directly behind that, with both marks where it is original, and
+-- a capability that is derived from the one at `source`, directly after that, with both marks where it is original, and
 -- else with neither
 abbrev pub derived_behind : ℕ → ℕ → Cap → List Marked → List Marked
 derived_behind source place cap l =

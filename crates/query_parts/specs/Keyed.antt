@@ -18,6 +18,6 @@ key_of by u = key by u.endpoint u.badge.0
 abbrev pub has_key : UseKey → ℕ → PartUse → Bool
 has_key by n u = key_of by u == n
 
--- no key comes behind a greater one
+-- no key comes after a greater one
 abbrev pub AreByKey : UseKey → List PartUse → Type 0
 AreByKey by list = IsNonDecreasingBy (key_of by) list

@@ -16,6 +16,6 @@ may_receive v = has_right read_bit v.rights
 abbrev pub same_receiver : EndpointWord → EndpointWord → Bool
 same_receiver v w = (v.endpoint == w.endpoint) && (v.thread == w.thread)
 
--- no endpoint comes behind a greater one
+-- no endpoint comes after a greater one
 abbrev pub AreByEndpoint : List EndpointWord → Type 0
 AreByEndpoint words = IsNonDecreasingBy (λ (v : EndpointWord). v.endpoint) words

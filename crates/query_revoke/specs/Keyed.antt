@@ -6,7 +6,7 @@ use Rattle.query_revoke.specs.declared.keyed.Keyed.{Keyed}
 abbrev pub has_key : ℕ → Keyed → Bool
 has_key n k = k.key == n
 
--- no key comes behind a greater one
+-- no key comes after a greater one
 abbrev pub AreByKey : List Keyed → Type 0
 AreByKey list = IsNonDecreasingBy (λ (k : Keyed). k.key) list
 

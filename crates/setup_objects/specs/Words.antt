@@ -15,7 +15,7 @@ abbrev pub or_named : Names → List ℕ → Option ℕ → Option ℕ
 or_named names text None = word_named names text
 or_named names text (Some n) = Some n
 
--- decimal digits, or a name of the set-up, also behind a `@`, which is 64
+-- decimal digits, or a name of the set-up, also after a `@`, which is 64
 abbrev pub number_meant : Names → List ℕ → Option ℕ
 number_meant names [] = None
 number_meant names (c ∷ cs) = cond (c == 64) (word_named names cs) (or_named names (c ∷ cs) (digits_after 0 (c ∷ cs)))

@@ -1,4 +1,4 @@
-//! The file of a policy: what it says, why it is refused, and where in its text an entry stands. What is told is tested, and no clause
+//! The file of a policy: what it says, why it is refused, and where in its text an entry stands. What it reads is tested, and no clause
 //! says what it is.
 #![tactic(auto)]
 

@@ -6,7 +6,7 @@ use Rattle.kernel_abstract.specs.State.{State}
 use Rattle.kernel_abstract.specs.Step.{state_after}
 use Rattle.setup_format.specs.Views.{SetupView, CallView}
 
--- the state of the abstract kernel behind the first calls
+-- the state of the abstract kernel after the first calls
 abbrev pub state_behind : ProfileName → SetupView → ℕ → State
 state_behind p setup made = state_after p (boot p setup.plan) (take made (map (λ (c : CallView). c.call) setup.calls))
 

@@ -16,7 +16,7 @@ Stops test [] = ⊤
 Stops test (byte ∷ rest) = test byte ≡ false
 
 -- two texts begin with those of two capabilities, and no digit follows there: they are equal only where these are, and what
--- is behind them
+-- comes after them
 abbrev pub EndByThemselves : Cap → Cap → Type 0
 EndByThemselves a b =
     (rest more : List ℕ) → Stops is_digit rest → Stops is_digit more → cap_text a ++ rest ≡ cap_text b ++ more → (cap_text a ≡ cap_text b) × (rest ≡ more)

@@ -19,7 +19,7 @@ abbrev pub name_of : Names → ℕ → Option (List ℕ)
 name_of names value =
     cond (count_by (has_value value) names == 1) (option_map (λ (n : List ℕ × ℕ). n.0) (find (has_value value) names)) None
 
--- an address, and behind it the name, where there is one
+-- an address, and after it the name, where there is one
 abbrev pub named_text : ℕ → Option (List ℕ) → List ℕ
 named_text address None = decimal address
 named_text address (Some name) = decimal address ++ (codes " @" ++ name)
