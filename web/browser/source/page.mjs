@@ -117,7 +117,7 @@ class Page {
   }
 
   get title() {
-    return this.name.replace(/\.(?:toml|cdl)$/u, "");
+    return this.name.replace(/\.(?:toml|cdl|system)$/u, "");
   }
 
   get policyName() {

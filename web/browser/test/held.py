@@ -37,7 +37,7 @@ def same_as_native(test, _):
         given = as_answer(test.browser.value(HELD.replace("ASKED", json.dumps(asked))))
         test.wanted(given == (ran.returncode, ran.stdout, ran.stderr), f"{policy.name}: {given}, natively {ran.returncode}, {ran.stdout}, {ran.stderr}")
         count += 1
-    for layout in sorted((*LAYOUTS.glob("*.cdl"), *LAYOUTS.glob("wrong/*.cdl"))):
+    for layout in sorted((*LAYOUTS.glob("*.cdl"), *LAYOUTS.glob("*.system"), *LAYOUTS.glob("wrong/*.cdl"), *LAYOUTS.glob("wrong/*.system"))):
         test.compare("a layout", ["import"], layout.name, layout.read_bytes(), test.run_bytes([["import"]], layout.name, layout.read_bytes())[0])
         count += 1
     print(f"{count} policies and layouts compared with the native program's", flush=True)
