@@ -104,21 +104,6 @@ fn is_below_power(word: u64, bits: u32) -> bool
     word < 1u64 << bits
 }
 
-/// Whether a slot lies in a CNode. `slot_bits` are the bits of the size of a slot.
-fn lies_in(node: Node, slot_bits: u32, slot: u64) -> bool
-    requires { slot_bits < 64 }
-    ensures { result ≡ spec.lies_in_node slot_bits slot node }
-{
-    slot >= node.base && is_below_power((slot - node.base) >> slot_bits, node.radix)
-}
-
-fn node_around(nodes: &[Node], slot_bits: u32, slot: u64) -> Option<&Node>
-    requires { slot_bits < 64 }
-    ensures { option_copied result ≡ find (spec.lies_in_node slot_bits slot) nodes.entry.now }
-{
-    nodes.iter().find(|node| lies_in(**node, slot_bits, slot))
-}
-
 impl<'a> ObjectNames<'a> {
     /// The names of a set-up's objects. `boot` has the full slots of boot.
     pub fn new<P: Profile>(
@@ -153,11 +138,18 @@ impl<'a> ObjectNames<'a> {
         }
     }
 
+    /// Whether a slot lies in a CNode.
+    fn lies_in(&self, node: Node, slot: u64) -> bool
+        ensures { result ≡ spec.lies_in_node self.now.slot_bits slot node }
+    {
+        slot >= node.base && is_below_power((slot - node.base) >> self.slot_bits, node.radix)
+    }
+
     /// The CNode in which a slot lies.
     pub fn node_around(&self, slot: u64) -> Option<&Node>
         ensures { option_copied result ≡ find (spec.lies_in_node self.entry.now.slot_bits slot) self.entry.now.nodes.now }
     {
-        node_around(self.nodes, self.slot_bits, slot)
+        self.nodes.iter().find(|node| self.lies_in(**node, slot))
     }
 }
 
