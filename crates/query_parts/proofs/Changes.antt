@@ -44,7 +44,7 @@ abbrev pub IsChange : ProfileName → Parts → ℕ → Forest Entry → Forest 
 IsChange p parts i f g = Each (IsFine p parts i f) (preorder g)
 
 -- what a slot holds is what some entry holds, or nothing
-held_by : (P : Entry → Type 0) (slot : ℕ) (es : List Entry) → Each P es →
+pub held_by : (P : Entry → Type 0) (slot : ℕ) (es : List Entry) → Each P es →
     (cap_in slot es ≡ Null) ⊎ ((e : Entry) × ((e.slot ≡ slot) × ((e.cap ≡ cap_in slot es) × P e)))
 held_by P slot [] h = inl refl
 held_by P slot (e ∷ es) h =

@@ -7,6 +7,7 @@ pub mod Messages
 pub mod Runs
 pub mod Below
 pub mod Passing
+pub mod Regions
 pub mod Taking
 pub mod Delivered
 pub mod Lists

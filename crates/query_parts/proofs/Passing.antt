@@ -207,7 +207,7 @@ module _ (p : ProfileName) (A : State) (thread : ℕ) where
   same_where true accepted reply same = same
   same_where false accepted reply same = refl
 
-  performed_same : (done : Invocation) → IsMessage done → (performed p A thread done).state.derivations ≡ A.derivations
+  pub performed_same : (done : Invocation) → IsMessage done → (performed p A thread done).state.derivations ≡ A.derivations
   performed_same (invocation.Send service message true) is = refl
   performed_same (invocation.Send service message false) is =
       same_where (is_send_awaited A (endpoint_at A service.endpoint)) (send_accepted A thread service message) _ refl
@@ -224,7 +224,7 @@ module _ (p : ProfileName) (A : State) (thread : ℕ) where
   performed_same (invocation.Suspend tcb) is = absurd is
   performed_same (invocation.Resume tcb) is = absurd is
 
-  outcome_same : (r : Result Invocation Refusal) → MayBeMessage r → (outcome p A thread r).state.derivations ≡ A.derivations
+  pub outcome_same : (r : Result Invocation Refusal) → MayBeMessage r → (outcome p A thread r).state.derivations ≡ A.derivations
   outcome_same (Err refusal) is = refl
   outcome_same (Ok done) is = performed_same done is
 

@@ -1,7 +1,8 @@
 -- Confinement: Parts has what parts are, Laws what the laws say of them, Delivered what replies tell of deliveries, Listed
 -- parts as lists with their test, Keyed uses by a key, Ever what the test shows, Order in which order parts are told,
 -- Least what the least parts are, Below what a revoke in one part takes from another, Passing what
--- holds of parts that only pass messages, and Private what serves the proofs of private functions.
+-- holds of parts that only pass messages, Regions where the objects come from that a part names, and
+-- Private what serves the proofs of private functions.
 pub mod Parts
 pub mod Laws
 pub mod Delivered
@@ -12,4 +13,5 @@ pub mod Order
 pub mod Least
 pub mod Below
 pub mod Passing
+pub mod Regions
 pub mod Private

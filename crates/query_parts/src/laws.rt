@@ -14,6 +14,7 @@ ghost use Rattle.query_parts.specs.Least.{LieInEachOther};
 ghost use Rattle.query_parts.specs.Below.{TakesNothing, TakesNothingOutside, StayNoneBelow, StayOwnBelow};
 ghost use Rattle.query_parts.specs.Delivered.{DeliverWithin, TellWithin};
 ghost use Rattle.query_parts.specs.Passing.{GetsNothing, SendsByHeld};
+ghost use Rattle.query_parts.specs.Regions.{RegionsStayWithin};
 
 /// A call of a thread of a closed part leaves the part closed, and each slot outside it as it was, or empty. It
 /// empties none outside but of an object of the part, or of an endpoint that the part may use.
@@ -74,4 +75,11 @@ pub fn revokes_take_what_stands_below()
 pub fn parts_that_pass_messages_get_nothing()
     ensures slots { (p : ProfileName) (parts : Parts) (i : ℕ) (A : State) (calls : List Call) → GetsNothing p parts i A calls }
     ensures sends { (p : ProfileName) (parts : Parts) (i : ℕ) (A : State) (calls : List Call) → SendsByHeld p parts i A calls }
+{}
+
+/// Whatever calls the threads of closed parts make, and whatever messages others send and receive: each capability in a slot of a part
+/// is to an object that a slot of the part named before, or that lies in an untyped region which a slot of the part held before. So the
+/// untyped regions of a part stay within those that it held.
+pub fn regions_stay_within()
+    ensures { (p : ProfileName) (parts : Parts) (i : ℕ) (A : State) (calls : List Call) → RegionsStayWithin p parts i A calls }
 {}
