@@ -8,6 +8,7 @@ pub mod Runs
 pub mod Below
 pub mod Passing
 pub mod Regions
+pub mod Together
 pub mod Taking
 pub mod Delivered
 pub mod Lists

@@ -1,6 +1,6 @@
 -- What the laws of confinement say.
-use Rattle.std.specs.Prelude.{◌≡◌, ◌⊎◌, ⊤, ℕ, true, Some, None, List, ◌++◌, Ok}
-use Rattle.std.specs.List.{list_all, AllByRecursion as Each}
+use Rattle.std.specs.Prelude.{◌≡◌, ◌⊎◌, ⊤, ℕ, true, Some, None, option_map, List, ◌++◌, Ok}
+use Rattle.std.specs.List.{list_all, Contains, AllByRecursion as Each}
 use Rattle.cap_core.specs.declared.profile.ProfileName.{ProfileName}
 use Rattle.cap_core.specs.declared.capability.Badge.{Badge}
 use Rattle.cap_core.specs.declared.capability.Cap.TheVariants.{Endpoint}
@@ -20,7 +20,7 @@ use Rattle.kernel_abstract.specs.Shown.{Shown, threads_of}
 use Rattle.kernel_abstract.specs.State.{State}
 use Rattle.kernel_abstract.specs.Step.{step, state_after}
 use Rattle.kernel_abstract.specs.Reached.{IsReached}
-use Rattle.query_parts.specs.Parts.{Parts, IsWithin, IsClosed, IsUntouched, IsSpared}
+use Rattle.query_parts.specs.Parts.{Use, Parts, IsWithin, IsClosed, IsUntouched, IsSpared}
 use Rattle.query_parts.specs.Order.{is_addressed}
 
 -- a call of a thread of a closed part leaves the part closed
@@ -112,3 +112,12 @@ ReceiveWithin p parts A calls =
 -- each address of a live thread's control block is a word
 abbrev pub LiveThreadsAreAddressed : ProfileName → ℕ → Shown → Type 0
 LiveThreadsAreAddressed p memory v = IsInMemory p memory v → list_all (is_addressed p) (threads_of v.derivations) ≡ true
+
+-- parts that are joined: each becomes part of the one with another number, which has its memory and may use what it may
+pub record AreJoined (to : ℕ → ℕ) (parts joined : Parts) : Type 0 where
+  pub memory : (address : ℕ) → joined.part_of address ≡ option_map to (parts.part_of address)
+  pub uses : (i : ℕ) (u : Use) → Contains (parts.uses i) u → Contains (joined.uses (to i)) u
+
+-- where all parts are closed, so are those into which they are joined
+abbrev pub JoinedAreClosed : ProfileName → (ℕ → ℕ) → Parts → Parts → State → Type 0
+JoinedAreClosed p to parts joined A = AreJoined to parts joined → AreClosed p parts A → AreClosed p joined A

@@ -9,7 +9,7 @@ ghost use Rattle.kernel_abstract.specs.Shown.{Shown};
 ghost use Rattle.query_parts.specs.declared.listed.PartMemory.{PartMemory};
 ghost use Rattle.query_parts.specs.declared.listed.PartUse.{PartUse};
 ghost use Rattle.query_parts.specs.Parts.{Parts};
-ghost use Rattle.query_parts.specs.Laws.{StaysClosed, LeavesOthers, TakesOnlyNear, NamesItsOwn, StayClosed, SendWithin, ReceiveWithin, LiveThreadsAreAddressed};
+ghost use Rattle.query_parts.specs.Laws.{StaysClosed, LeavesOthers, TakesOnlyNear, NamesItsOwn, StayClosed, SendWithin, ReceiveWithin, LiveThreadsAreAddressed, JoinedAreClosed};
 ghost use Rattle.query_parts.specs.Least.{LieInEachOther};
 ghost use Rattle.query_parts.specs.Below.{TakesNothing, TakesNothingOutside, StayNoneBelow, StayOwnBelow};
 ghost use Rattle.query_parts.specs.Delivered.{DeliverWithin, TellWithin};
@@ -82,4 +82,10 @@ pub fn parts_that_pass_messages_get_nothing()
 /// untyped regions of a part stay within those that it held.
 pub fn regions_stay_within()
     ensures { (p : ProfileName) (parts : Parts) (i : ℕ) (A : State) (calls : List Call) → RegionsStayWithin p parts i A calls }
+{}
+
+/// Where parts are closed, and several of them are joined into one, which has the memory of each and may use what each of them may, the
+/// joined parts are closed, too. So all that holds of closed parts holds of joined ones.
+pub fn joined_parts_are_closed()
+    ensures { (p : ProfileName) (to : ℕ → ℕ) (parts joined : Parts) (A : State) → JoinedAreClosed p to parts joined A }
 {}
