@@ -7,4 +7,5 @@ pub mod Untold
 pub mod Groups
 pub mod Waiting
 pub mod Unbroken
+pub mod Regions
 pub mod Status

@@ -18,7 +18,9 @@ use Rattle.command_policy_breaches.specs.Ways.{passages}
 use Rattle.command_policy_text.specs.Texts.{breaches, breach_count, calls_breached, text_and_verdict, verdict_by_count}
 use Rattle.command_policy_laws.specs.Unbroken.{any_endpoint, group_of, IsPromised, may_hold, may_group_pass}
 use Rattle.command_policy_laws.proofs.Keeps.{kept_held}
+use Rattle.command_policy_laws.proofs.Regions.{regions_theirs}
 use Rattle.command_policy_laws.proofs.Unbroken.{kept_where_untold}
+use Rattle.command_policy_laws.proofs.Untold.{unbroken}
 
 met_where : (b : Bool) → AllMet ≡ cond b AllMet NotMet → b ≡ true
 met_where true h = refl
@@ -41,6 +43,8 @@ module _ (c : Policy) (l : Layout) (n : Labels) (homes : List Home) (js : List J
 
 pub promised : (p : ProfileName) (c : Policy) (l : Layout) (n : Labels) (setup : SetupView) (replies : List Reply) (text : List ℕ) → IsPromised p c l n setup replies text
 promised p c l n setup replies text A reached is told calls of =
-    kept_held p l.memory.items l.uses.items (shown A) (group_of l) any_endpoint (may_hold c l) (may_group_pass c) is.right.ever
-    (kept_where_untold p c l n A is (none_told c l n (homes_joined c l (blocks c l)) (joins c l) (passages c l (blocks c l)) setup replies text told)).1
-    A reached refl calls of
+    let none = none_told c l n (homes_joined c l (blocks c l)) (joins c l) (passages c l (blocks c l)) setup replies text told in (
+      kept_held p l.memory.items l.uses.items (shown A) (group_of l) any_endpoint (may_hold c l) (may_group_pass c) is.right.ever
+          (kept_where_untold p c l n A is none).1 A reached refl calls of,
+      regions_theirs p c l A is (unbroken c l n (homes_joined c l (blocks c l)) (joins c l) (passages c l (blocks c l)) none) calls reached of,
+    )

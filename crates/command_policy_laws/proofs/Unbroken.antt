@@ -49,14 +49,14 @@ use Rattle.command_policy_breaches.specs.declared.policy.Waiting.{Waiting}
 use Rattle.command_policy_breaches.specs.declared.ways.End.{End}
 use Rattle.command_policy_breaches.specs.declared.ways.Passage.{Passage}
 use Rattle.command_policy_breaches.specs.declared.ways.Sending.{Sending as Sends}
-use Rattle.command_policy_breaches.specs.Breaches.{exceeds, has_entry, has_no_right, has_other_badge, has_region, has_right_too_much, is_entry, is_listed, is_own_endpoint, is_unlisted, lets_badge, lets_ever, lets_with, range_lies_within, meets, is_stray_right, strays_somehow}
+use Rattle.command_policy_breaches.specs.Breaches.{exceeds, has_entry, has_no_right, has_other_badge, has_region, has_right_too_much, is_entry, is_listed, is_own, is_own_endpoint, is_unlisted, lets_badge, lets_ever, lets_with, range_lies_within, meets, is_stray_right, strays_somehow}
 use Rattle.command_policy_breaches.specs.Joins.{block_of_part, blocks, homes_joined, joins}
 use Rattle.command_policy_breaches.specs.Layouts.{IsLayoutOf, offered_badge, waiting_in, waiting_of}
 use Rattle.command_policy_breaches.specs.Sides.{sent_badges, hears, is_at_home, is_found_home, is_use_on, may_hear, sends_any, owns_in_layout, sends, some_badges, waits_to_hear, waits_to_send}
 use Rattle.command_policy_breaches.specs.Ways.{have_one_in_common, hearers_on, hears_on, is_apart, is_end_at, is_home_of_both, is_let, is_passage_amiss, is_way_between, part_end, part_sendings, passage, passages, passages_by, passages_of, sending, sendings_to, thread_sendings}
 use Rattle.command_policy_text.specs.Texts.{breaches}
 use Rattle.command_policy_laws.specs.Keeps.{KeepPolicy, WaitsOrPartHears, WaitsOrPartSends}
-use Rattle.command_policy_laws.specs.Unbroken.{allows_right, any_endpoint, entries_allow, group_in, group_of, has_entry_with, is_entry_of, is_in_region, is_way_of, may_hold, may_group_pass, WhatIsNotToldIsKept}
+use Rattle.command_policy_laws.specs.Unbroken.{allows_right, any_endpoint, entries_allow, group_in, group_of, has_entry_with, is_entry_of, is_in_region, is_in_their_region, is_way_of, may_hold, may_group_pass, WhatIsNotToldIsKept}
 use Rattle.command_policy_laws.proofs.Groups.{IsAt, are_named, at_home, has_group, home_at, in_flat, in_rising, of_joined, of_number, of_one, part_of_address}
 use Rattle.command_policy_laws.proofs.Rights.{grant_kept, grant_reply_kept, read_kept, write_kept}
 use Rattle.command_policy_laws.proofs.Untold.{IsUnbroken, fails, unbroken}
@@ -136,7 +136,7 @@ module _ (p : ProfileName) (c : Policy) (l : Layout) (A : State) (is : IsLayoutO
   abbrev one_group : (part : ℕ) → In part l.parts.items → (g k : ℕ) → IsAt l.homes.items part g → IsAt l.homes.items part k → g ≡ k
   one_group = of_one p c v l is kept.joined kept.grants
 
-  listed : (a i : ℕ) → part_at l.memory.items a ≡ Some i → In i l.parts.items
+  pub listed : (a i : ℕ) → part_at l.memory.items a ≡ Some i → In i l.parts.items
   listed = part_of_address p c v l is kept.joined kept.grants
 
   same_part : (a i j : ℕ) → part_at l.memory.items a ≡ Some i → part_at l.memory.items a ≡ Some j → i ≡ j
@@ -151,11 +151,11 @@ module _ (p : ProfileName) (c : Policy) (l : Layout) (A : State) (is : IsLayoutO
     its_group : (k : ℕ) → is_at_home l.homes.items i k ≡ true → k ≡ g
     its_group k has = one_group i there k g (at_home l.homes.items i k has) at
 
-    own_region : is_own_endpoint c l i e ≡ true → list_any (is_in_region l.endpoint_bits g e) c.regions.items ≡ true
-    own_region own =
-        let m = any_of (has_region l i e l.endpoint_bits) c.regions.items own in
-        let both = both_true (range_lies_within e l.endpoint_bits m.0.base m.0.bits) (is_at_home l.homes.items i m.0.group) m.1.1 in
-        any_in (is_in_region l.endpoint_bits g e) c.regions.items m.0 m.1.0 (rw (eq-eqb m.0.group g (its_group m.0.group both.1), both.0) refl)
+    pub own_region : (bits : ℕ) → is_own c l i e bits ≡ true → is_in_their_region c bits g e ≡ true
+    own_region bits own =
+        let m = any_of (has_region l i e bits) c.regions.items own in
+        let both = both_true (range_lies_within e bits m.0.base m.0.bits) (is_at_home l.homes.items i m.0.group) m.1.1 in
+        any_in (is_in_region bits g e) c.regions.items m.0 m.1.0 (rw (eq-eqb m.0.group g (its_group m.0.group both.1), both.0) refl)
 
     -- an entry of the part is the group's
     its_entry : (badge right : ℕ) → lets_with c l i e badge right ≡ true → list_any (λ (a : Allowance). is_entry_of g e badge a && has_right right a.rights) c.allowances.items ≡ true
@@ -297,7 +297,7 @@ module _ (p : ProfileName) (c : Policy) (l : Layout) (A : State) (is : IsLayoutO
   holds i g e badge rights own home (inr covered) =
       let x = covered_by l i e badge rights covered in
       elim (tells (is_own_endpoint c l i e)) [
-        | inl its ↦ true_left _ (entries_allow c g e badge.0 rights) (true_left _ (is_found_home l.homes.items g (part_at l.memory.items e)) (own_region i g e own home its))
+        | inl its ↦ true_left _ (entries_allow c g e badge.0 rights) (true_left _ (is_found_home l.homes.items g (part_at l.memory.items e)) (own_region i g e own home l.endpoint_bits its))
         | inr foreign ↦ true_right _ (entries_allow c g e badge.0 rights) (all_allowed i g e badge rights own home x.0 x.1 foreign)
       ]
 

@@ -9,17 +9,18 @@ use Rattle.kernel_delete.specs.Members.{In}
 use Rattle.kernel_delete.proofs.Members.{filter_in, tells}
 use Rattle.query_parts.specs.declared.listed.PartUse.{PartUse}
 use Rattle.command_policy_breaches.specs.declared.joining.Join.{Join}
+use Rattle.command_policy_breaches.specs.declared.policy.HeldRegion.{HeldRegion}
 use Rattle.command_policy_breaches.specs.declared.policy.Home.{Home}
 use Rattle.command_policy_breaches.specs.declared.policy.Labels.{Labels}
 use Rattle.command_policy_breaches.specs.declared.policy.Layout.{Layout}
 use Rattle.command_policy_breaches.specs.declared.policy.Policy.{Policy}
 use Rattle.command_policy_breaches.specs.declared.policy.Waiting.{Waiting}
 use Rattle.command_policy_breaches.specs.declared.ways.Passage.{Passage}
-use Rattle.command_policy_breaches.specs.Breaches.{has_other_badge, has_right_too_much, is_unlisted, is_wait_amiss}
+use Rattle.command_policy_breaches.specs.Breaches.{has_other_badge, has_right_too_much, is_region_amiss, is_unlisted, is_wait_amiss}
 use Rattle.command_policy_breaches.specs.Joins.{have_one_group, have_two_groups}
 use Rattle.command_policy_breaches.specs.Ways.{is_passage_amiss}
 use Rattle.command_policy_text.specs.declared.told.Told.{Told}
-use Rattle.command_policy_text.specs.declared.told.Told.TheVariants.{Joined, Grant, Use, Badge, Right, Way, Waits}
+use Rattle.command_policy_text.specs.declared.told.Told.TheVariants.{Joined, Grant, Region, Use, Badge, Right, Way, Waits}
 use Rattle.command_policy_text.specs.Kinds as kind
 use Rattle.command_policy_text.specs.Order.{text_cmp, put_all, in_order}
 use Rattle.command_policy_text.specs.Texts.{breaches, part_breaches, use_breaches, way_breaches}
@@ -67,6 +68,7 @@ none_of f (x ∷ xs) h = absurd (still_some (map f xs) (insert_key text_cmp [] (
 pub record IsUnbroken (c : Policy) (l : Layout) (homes : List Home) (js : List Join) (ws : List Passage) : Type 0 where
   pub joined : filter (λ part. have_two_groups l.homes.items part part) l.parts.items ≡ []
   pub grants : filter (λ (j : Join). not (have_one_group l.homes.items j.from j.to)) js ≡ []
+  pub regions : filter (is_region_amiss c l) l.regions.items ≡ []
   pub uses : filter (is_unlisted c l) l.uses.items ≡ []
   pub badges : filter (has_other_badge c l) l.uses.items ≡ []
   pub rights : filter (has_right_too_much c l) l.uses.items ≡ []
@@ -88,6 +90,7 @@ module _ (c : Policy) (l : Layout) (n : Labels) (homes : List Home) (js : List J
   of_three parts uses ways =
       let joined = no_append _ _ parts in
       let grants = no_append _ _ joined.1 in
+      let regions = (no_append _ _ grants.1).1 in
       let listed = no_append _ _ uses in
       let badge = no_append _ _ listed.1 in
       let way = no_append _ _ ways in
@@ -96,6 +99,7 @@ module _ (c : Policy) (l : Layout) (n : Labels) (homes : List Home) (js : List J
       record {
         joined = no_map (λ (i : ℕ). Joined i) _ (no_kind (kind.joined_breaches l) joined.0);
         grants = no_map (λ (j : Join). Grant j) _ (no_kind (kind.grants l js) grants.0);
+        regions = no_map (λ (r : HeldRegion). Region r) _ (no_kind (kind.regions c l) regions);
         uses = no_map (λ (u : PartUse). Use u) _ (no_kind (kind.uses c l) listed.0);
         badges = badges;
         rights = rights;

@@ -1,15 +1,20 @@
 -- What a policy lets groups hold and send, and that it is so ever where no line tells of a breach.
-use Rattle.std.specs.Prelude.{◌≡◌, ◌≢◌, ℕ, ◌==◌, ◌&&◌, ◌||◌, Bool, true, not, List, [], Option, Some, None, option_map, find}
+use Rattle.std.specs.Prelude.{◌≡◌, ◌≢◌, ⊤, ℕ, ◌==◌, ◌&&◌, ◌||◌, Bool, true, not, List, [], Option, Some, None, option_map, find}
 use Rattle.std.specs.List.{list_any, Contains, AllByRecursion as Each}
 use Rattle.cap_core.specs.declared.profile.ProfileName.{ProfileName}
 use Rattle.cap_core.specs.declared.capability.Badge.{Badge}
+use Rattle.cap_core.specs.declared.capability.Cap.{Cap}
+use Rattle.cap_core.specs.declared.capability.Cap.TheVariants.{Untyped}
 use Rattle.cap_core.specs.declared.rights.Rights.{Rights}
 use Rattle.cap_core.specs.Rights.{write_bit, read_bit, grant_bit, grant_reply_bit}
+use Rattle.kernel_forest.specs.Forest.{Forest}
+use Rattle.kernel_forest.specs.Entries.{Entry, cap_at}
 use Rattle.kernel_abstract.specs.declared.call.Call.{Call}
 use Rattle.kernel_abstract.specs.declared.call.Reply.{Reply}
 use Rattle.kernel_abstract.specs.Decode.{has_right}
 use Rattle.kernel_abstract.specs.Shown.{Shown}
 use Rattle.kernel_abstract.specs.State.{State, shown}
+use Rattle.kernel_abstract.specs.Step.{state_after}
 use Rattle.kernel_abstract.specs.Reached.{IsReached}
 use Rattle.query_parts.specs.Listed.{part_at, parts_listed}
 use Rattle.query_parts.specs.Laws.{IsAllowed}
@@ -63,17 +68,30 @@ entries_allow c group endpoint badge rights =
     && (allows_right c group endpoint badge rights write_bit && (allows_right c group endpoint badge rights read_bit
     && (allows_right c group endpoint badge rights grant_bit && allows_right c group endpoint badge rights grant_reply_bit)))
 
+-- 2^bits addresses lie in a region of the group
 abbrev pub is_in_region : ℕ → ℕ → ℕ → OwnRegion → Bool
-is_in_region bits group endpoint own = own.group == group && range_lies_within endpoint bits own.base own.bits
+is_in_region bits group base own = own.group == group && range_lies_within base bits own.base own.bits
+
+abbrev pub is_in_their_region : Policy → ℕ → ℕ → ℕ → Bool
+is_in_their_region c bits group base = list_any (is_in_region bits group base) c.regions.items
 
 -- the endpoint lies in a region of the group, or in the memory of a part where it has threads
 abbrev pub is_their_own : Policy → Layout → ℕ → ℕ → Bool
 is_their_own c l group endpoint =
-    list_any (is_in_region l.endpoint_bits group endpoint) c.regions.items || is_found_home l.homes.items group (part_at l.memory.items endpoint)
+    is_in_their_region c l.endpoint_bits group endpoint || is_found_home l.homes.items group (part_at l.memory.items endpoint)
 
 -- a group may hold capabilities to endpoints of its own, and those that its entries allow
 abbrev pub may_hold : Policy → Layout → ℕ → ℕ → Badge → Rights → Bool
 may_hold c l group endpoint badge rights = is_their_own c l group endpoint || entries_allow c group endpoint badge.0 rights
+
+-- an untyped region lies in one of the group's
+abbrev pub IsRegionTheirs : Policy → ℕ → Cap → Type 0
+IsRegionTheirs c group (Untyped base bits free) = is_in_their_region c bits group base ≡ true
+IsRegionTheirs c group cap = ⊤
+
+-- each untyped region in a slot of a group's part does
+abbrev pub AreRegionsTheirs : Policy → Layout → Forest Entry → Type 0
+AreRegionsTheirs c l f = (slot group : ℕ) → group_of l slot ≡ Some group → IsRegionTheirs c group (cap_at f slot)
 
 -- ---- what may pass
 
@@ -102,11 +120,12 @@ WhatIsNotToldIsKept p c l n A =
     IsLayoutOf p c (shown A) l → breaches c l n (homes_joined c l (blocks c l)) (joins c l) (passages c l (blocks c l)) ≡ [] →
     AreNamed c l × KeepPolicy p (group_of l) any_endpoint (may_hold c l) (may_group_pass c) (shown A) (parts_listed l.memory.items l.uses.items)
 
--- what is promised where the verdict on a layout is `AllMet`, which is status 0: it is held to the policy, whatever calls the threads
--- of the parts make, and whatever messages other threads send and receive
+-- what is promised where the verdict on a layout is `AllMet`, which is status 0: it is held to the policy, and the untyped regions of each
+-- group stay in its regions, whatever calls the threads of the parts make, and whatever messages other threads send and receive
 abbrev pub IsPromised : ProfileName → Policy → Layout → Labels → SetupView → List Reply → List ℕ → Type 0
 IsPromised p c l n setup replies text =
     (A : State) → IsReached p A → IsLayoutOf p c (shown A) l →
     (text, AllMet) ≡ text_and_verdict c l n (homes_joined c l (blocks c l)) (joins c l) (passages c l (blocks c l)) setup replies →
     (calls : List Call) → Each (IsAllowed (parts_listed l.memory.items l.uses.items)) calls →
     AreSlotsHeld p (group_of l) any_endpoint (may_hold c l) (may_group_pass c) l.memory.items A calls
+    × AreRegionsTheirs c l (state_after p A calls).derivations

@@ -72,7 +72,8 @@ pub fn what_is_not_told_is_kept()
 /// Status 0 of `audit --policy`. Where the verdict on a layout and a policy is `AllMet`, then, whatever calls the threads of the parts
 /// make, and whatever messages other threads send and receive: each capability to an endpoint in a slot of a group's part is one that
 /// the group's entries allow, with its badge and all its rights, or is to an endpoint in a region of the group or in its part's memory;
-/// and each message that is delivered between threads of two groups passes by an endpoint and with a badge that a way allows.
+/// each message that is delivered between threads of two groups passes by an endpoint and with a badge that a way allows; and each
+/// untyped region in a slot of a group's part lies in one of the group's regions.
 pub fn what_status_0_promises()
     ensures { (p : ProfileName) (c : Policy) (l : Layout) (n : Labels) (setup : SetupView) (replies : List Reply) (text : List ℕ) →
         IsPromised p c l n setup replies text }
