@@ -1,7 +1,7 @@
 -- Untyped regions in the slots of a group's part: where no line tells of one, each lies in a region of the group, and stays there.
 use Rattle.std.proofs.Common.{◌≡◌, ℕ, zero, suc, ◌+◌, ◌-◌, ◌^◌, ◌<◌, ◌≤◌, inl, inr, Bool, true, false, not, cond, ◌==◌, ◌&&◌, nat_le, nat_lt, List, [], ◌∷◌, ◌++◌, map, Option, Some, None, refl, sym, ap, subst, ◌∙◌, arith}
 use Rattle.std.specs.Prelude.{option_map}
-use Rattle.std.specs.List.{filter, filter_map, list_any, AllByRecursion as Each}
+use Rattle.std.specs.List.{filter, AllByRecursion as Each}
 use Rattle.std.proofs.lemmas.Bool.{false≢true, eqb-true, ltb-true, leb-true, leb-false, lt-ltb, le-leb}
 use Rattle.std.proofs.lemmas.List.{map-append}
 use Rattle.std.proofs.lemmas.Nat.{pow_pos, pow_below}
@@ -19,7 +19,6 @@ use Rattle.kernel_abstract.specs.State.{State, shown}
 use Rattle.kernel_abstract.specs.Step.{state_after}
 use Rattle.query_parts.specs.Laws.{IsAllowed}
 use Rattle.query_parts.specs.Listed.{last_in, part_at, parts_listed}
-use Rattle.query_parts.specs.Regions.{IsFromPart}
 use Rattle.query_parts.proofs.Closed.{shown_derivations}
 use Rattle.query_parts.proofs.Lists.{in_mapped}
 use Rattle.query_parts.proofs.Regions.{regions_stay}
@@ -27,9 +26,8 @@ use Rattle.setup_report.specs.State.{Derived, rising, slot_of, found, by_address
 use Rattle.command_never_text.proofs.Kept.{now_closed}
 use Rattle.command_policy_breaches.specs.declared.policy.HeldRegion.{HeldRegion}
 use Rattle.command_policy_breaches.specs.declared.policy.Layout.{Layout}
-use Rattle.command_policy_breaches.specs.declared.policy.OwnRegion.{OwnRegion}
 use Rattle.command_policy_breaches.specs.declared.policy.Policy.{Policy}
-use Rattle.command_policy_breaches.specs.Breaches.{ends_within, range_lies_within, is_own, is_in_larger, is_region_amiss, is_region_own}
+use Rattle.command_policy_breaches.specs.Breaches.{ends_within, range_lies_within, is_in_larger, is_region_amiss, is_region_own}
 use Rattle.command_policy_breaches.specs.Joins.{blocks, homes_joined, joins}
 use Rattle.command_policy_breaches.specs.Layouts.{IsLayoutOf, region_at, region_of}
 use Rattle.command_policy_breaches.specs.Ways.{passages}
@@ -161,8 +159,7 @@ module _ (c : Policy) (l : Layout) (none_told : filter (is_region_amiss c l) l.r
       let m = any_of (λ (o : HeldRegion). o.part == r.part && (nat_lt r.bits o.bits && (range_lies_within r.base r.bits o.base o.bits && not (is_region_own c l o)))) l.regions.items larger in
       let one = both_true (m.0.part == r.part) (nat_lt r.bits m.0.bits && (range_lies_within r.base r.bits m.0.base m.0.bits && not (is_region_own c l m.0))) m.1.1 in
       let two = both_true (nat_lt r.bits m.0.bits) (range_lies_within r.base r.bits m.0.base m.0.bits && not (is_region_own c l m.0)) one.1 in
-      let three = both_true (range_lies_within r.base r.bits m.0.base m.0.bits) (not (is_region_own c l m.0)) two.1 in
-      (
+      let three = both_true (range_lies_within r.base r.bits m.0.base m.0.bits) (not (is_region_own c l m.0)) two.1 in (
         m.0,
         record {
           there = m.1.0;
