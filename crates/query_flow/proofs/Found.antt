@@ -1,0 +1,176 @@
+-- The slots that the words of a call name lie in the sets that the caller's words may end in, and that it may fill.
+use Rattle.std.proofs.Common.{◌≡◌, ℕ, zero, suc, ◌+◌, ◌-◌, ◌<◌, ◌≤◌, ◌⊎◌, inl, inr, refl, sym, ap, subst, ◌∙◌, Bool, true, false, cond, not, ◌==◌, ◌&&◌, nat_lt, nat_le, List, [], ◌∷◌, ◌++◌, length, take, drop, Option, Some, None, Result, Ok, Err, arith}
+use Rattle.std.proofs.lemmas.Bool.{false≢true}
+use Rattle.std.specs.Int.Digits.{AllBelowBase, number_from_digits}
+use Rattle.cap_core.specs.declared.profile.ProfileName.{ProfileName}
+use Rattle.cap_core.specs.declared.capability.Guard.{Guard}
+use Rattle.cap_core.specs.declared.capability.Cap.{Cap}
+use Rattle.cap_core.specs.declared.capability.Cap.TheVariants.{Null, Untyped, Endpoint, CNode, Tcb}
+use Rattle.cap_core.specs.declared.refusal.Refusal.TheVariants.{RangeError, FailedLookup}
+use Rattle.cap_core.specs.declared.refusal.LookupFault.{LookupFault}
+use Rattle.cap_core.specs.declared.refusal.LookupFault.TheVariants.{InvalidRoot, DepthMismatch}
+use Rattle.cap_core.specs.Numbers.{word_bits}
+use Rattle.kernel_forest.specs.Forest.{Forest}
+use Rattle.kernel_forest.specs.Entries.{Entry, cap_at}
+use Rattle.cspace_core.specs.Bits.{low_bits, after_front}
+use Rattle.cspace_core.specs.Resolution.{Choice, Found, is_cnode, slot_of, guard_bits, choice, choice_after_guard, choice_by_radix, found_or, resolution_within, resolution}
+use Rattle.cspace_core.specs.Target.{target_slot}
+use Rattle.cspace_core.specs.Inside.{IsSlotOf}
+use Rattle.cspace_core.proofs.Bits.{length-low_bits}
+use Rattle.cspace_core.proofs.Inside.{low_bits-below}
+use Rattle.kernel_abstract.specs.Lookups.{slot_named}
+use Rattle.kernel_abstract.proofs.Checks.FoundSlots.{cond_passed, whole_passed}
+use Rattle.query_parts.proofs.Found.{chosen_slot, named_found}
+use Rattle.query_flow.specs.Flow.{Flow, LiesIn, IsHeld, IsEnding, IsSettledFor}
+
+-- a resolution ends where the choices of its capabilities lie: `Fits` of the slots, `Leads` of the capabilities
+module _ (p : ProfileName) (f : Forest Entry) (Fits : ℕ → Type 0) (Leads : Cap → Type 0)
+    (lies : (cap : Cap) (slot : ℕ) → Leads cap → IsSlotOf p cap slot → Fits slot) (leads : (slot : ℕ) → Fits slot → Leads (cap_at f slot)) where
+  fits_where : (there : Cap → List ℕ → Result Found LookupFault) (found : Found) (c : Choice) (t : Bool) →
+      Fits c.slot → (there (cap_at f c.slot) c.left ≡ Ok found → Fits found.slot) →
+      cond t (there (cap_at f c.slot) c.left) (Ok (record { slot = c.slot; left = length c.left })) ≡ Ok found → Fits found.slot
+  fits_where there found c true here on e = on e
+  fits_where there found c false here on e =
+      let made : Found = record { slot = c.slot; left = length c.left } in
+      let same : made ≡ found = cc in
+      let slot : c.slot ≡ found.slot = ap (λ (x : Found). x.slot) same in
+      subst Fits slot here
+
+  fits_after : (there : Cap → List ℕ → Result Found LookupFault) (root : Cap) (bits : List ℕ) (found : Found) (r : Result Choice LookupFault) →
+      AllBelowBase 2 bits → Leads root →
+      ((cap : Cap) (left : List ℕ) → AllBelowBase 2 left → Leads cap → there cap left ≡ Ok found → Fits found.slot) →
+      choice p root bits ≡ r → found_or (cap_at f) there r ≡ Ok found → Fits found.slot
+  fits_after there root bits found (Err fault) h w on is e = cc
+  fits_after there root bits found (Ok c) h w on is e =
+      let here = chosen_slot p root bits c h is in
+      let fits = lies root c.slot w here.0 in
+      fits_where there found c (is_cnode (cap_at f c.slot) && not (length c.left == 0)) fits
+      (on (cap_at f c.slot) c.left here.1 (leads c.slot fits)) e
+
+  fits_within : (most : ℕ) (root : Cap) (bits : List ℕ) (found : Found) → AllBelowBase 2 bits → Leads root →
+      resolution_within p (cap_at f) most root bits ≡ Ok found → Fits found.slot
+  unfolding resolution_within
+  fits_within zero root bits found h w e = cc
+  fits_within (suc most) root bits found h w e =
+      fits_after (resolution_within p (cap_at f) most) root bits found (choice p root bits) h w
+      (λ cap left below within there. fits_within most cap left found below within there) refl e
+
+  pub fits_found : (root : Cap) (n word : ℕ) (found : Found) → Leads root →
+      resolution p (cap_at f) root (low_bits n word) ≡ Ok found → Fits found.slot
+  unfolding resolution
+  fits_found root n word found w e = fits_within (suc (length (low_bits n word))) root (low_bits n word) found (low_bits-below n word) w e
+
+-- a CNode that takes all bits leaves none
+same_rest : (t : Bool) (m : Option (List ℕ)) (rest : List ℕ) → cond t m None ≡ Some rest → m ≡ Some rest
+same_rest true m rest e = e
+same_rest false m rest e = cc
+
+length-after : (front bits rest : List ℕ) → after_front front bits ≡ Some rest → length bits ≡ length front + length rest
+length-after [] bits rest e = let same : bits ≡ rest = cc in let h : length bits ≡ length rest = ap length same in omega (arith, h)
+length-after (a ∷ front) [] rest e = cc
+length-after (a ∷ front) (b ∷ bits) rest e =
+    let h = length-after front bits rest (same_rest (a == b) (after_front front bits) rest e) in
+    omega (arith, h)
+
+length-left : (n : ℕ) (bits : List ℕ) → length (drop n bits) ≡ length bits - n
+length-left zero bits = omega arith
+length-left (suc n) [] = omega arith
+length-left (suc n) (b ∷ bits) = let h = length-left n bits in omega (arith, h)
+
+left_by_radix : (slot radix : ℕ) (bits : List ℕ) (c : Choice) (t : Bool) →
+    cond t (Err DepthMismatch) (Ok (record { slot = slot; left = drop radix bits })) ≡ Ok c → c.left ≡ drop radix bits
+left_by_radix slot radix bits c true e = cc
+left_by_radix slot radix bits c false e =
+    let made : Choice = record { slot = slot; left = drop radix bits } in
+    let same : made ≡ c = cc in
+    sym (ap (λ (x : Choice). x.left) same)
+
+none_after : (p : ProfileName) (base radix : ℕ) (guard : Guard) (bits : List ℕ) (c : Choice) (m : Option (List ℕ)) →
+    guard.size + radix ≡ length bits → after_front (guard_bits guard) bits ≡ m → choice_after_guard p base radix m ≡ Ok c → length c.left ≡ 0
+none_after p base radix guard bits c None whole is e = cc
+none_after p base radix guard bits c (Some rest) whole is e =
+    let left = left_by_radix (slot_of p base (number_from_digits 2 (take radix rest))) radix rest c (nat_lt (length rest) radix) e in
+    let same = length-after (guard_bits guard) bits rest is in
+    let front = length-low_bits guard.size guard.value in
+    let few = length-left radix rest in
+    ap length left ∙ omega (arith, whole, same, front, few)
+
+ended_by : (p : ProfileName) (f : Forest Entry) (there : Cap → List ℕ → Result Found LookupFault) (c : Choice) (found : Found) (node : Bool) → length c.left ≡ 0 →
+    cond (node && not (length c.left == 0)) (there (cap_at f c.slot) c.left) (Ok (record { slot = c.slot; left = length c.left })) ≡ Ok found → c.slot ≡ found.slot
+ended_by p f there c found node none e =
+    let made : Found = record { slot = c.slot; left = length c.left } in
+    let same : made ≡ found = rest node e in
+    ap (λ (x : Found). x.slot) same
+  where
+    rest : (node : Bool) → cond (node && not (length c.left == 0)) (there (cap_at f c.slot) c.left) (Ok (record { slot = c.slot; left = length c.left })) ≡ Ok found →
+        ◌≡◌ {A = Found} (record { slot = c.slot; left = length c.left }) found
+    rest false e = cc
+    rest true e = let e' = rw none at e in cc
+
+ended_after : (p : ProfileName) (f : Forest Entry) (there : Cap → List ℕ → Result Found LookupFault) (base radix : ℕ) (guard : Guard) (bits : List ℕ) (found : Found)
+    (r : Result Choice LookupFault) → AllBelowBase 2 bits → guard.size + radix ≡ length bits → choice p (CNode base radix guard) bits ≡ r →
+    found_or (cap_at f) there r ≡ Ok found → IsSlotOf p (CNode base radix guard) found.slot
+ended_after p f there base radix guard bits found (Err fault) h whole is e = cc
+ended_after p f there base radix guard bits found (Ok c) h whole is e =
+    let none = none_after p base radix guard bits c (after_front (guard_bits guard) bits) whole refl is in
+    subst (IsSlotOf p (CNode base radix guard)) (ended_by p f there c found (is_cnode (cap_at f c.slot)) none e)
+    (chosen_slot p (CNode base radix guard) bits c h is).0
+
+ended : (p : ProfileName) (f : Forest Entry) (base radix word : ℕ) (guard : Guard) (found : Found) → guard.size + radix ≡ word_bits p →
+    resolution p (cap_at f) (CNode base radix guard) (low_bits (word_bits p) word) ≡ Ok found → IsSlotOf p (CNode base radix guard) found.slot
+unfolding resolution resolution_within
+ended p f base radix word guard found whole e =
+    let bits : List ℕ = low_bits (word_bits p) word in
+    let long = length-low_bits (word_bits p) word in
+    ended_after p f (resolution_within p (cap_at f) (length bits)) base radix guard bits found (choice p (CNode base radix guard) bits) (low_bits-below (word_bits p) word)
+    (whole ∙ sym long) refl e
+
+module _ (p : ProfileName) (flow : Flow) (c : ℕ) (settled : IsSettledFor p flow c) (f : Forest Entry) (held : IsHeld flow f) where
+  -- what a slot of some sets leads to
+  abbrev pub Leads : (ℕ → Bool) → Cap → Type 0
+  Leads among cap = (slot : ℕ) → IsSlotOf p cap slot → LiesIn flow among slot
+
+  names_lead : ((set : ℕ) (cap : Cap) (slot : ℕ) → flow.names c set ≡ true → flow.may set cap ≡ true → IsSlotOf p cap slot → LiesIn flow (flow.names c) slot) →
+      (slot : ℕ) → LiesIn flow (flow.names c) slot → Leads (flow.names c) (cap_at f slot)
+  names_lead goes slot (set, (at, among)) there is = goes set (cap_at f slot) there among (held slot set at) is
+
+  pub fills_lead : (slot : ℕ) → LiesIn flow (flow.names c) slot ⊎ LiesIn flow (flow.fills c) slot → Leads (flow.fills c) (cap_at f slot)
+  fills_lead slot (inl (set, (at, among))) there is = settled.reaches set (cap_at f slot) there (inl among) (held slot set at) is
+  fills_lead slot (inr (set, (at, among))) there is = settled.reaches set (cap_at f slot) there (inr among) (held slot set at) is
+
+  word_ends : (thread word : ℕ) (root : Cap) (found : Found) → flow.may c root ≡ true → IsEnding p flow c →
+      resolution p (cap_at f) root (low_bits (word_bits p) word) ≡ Ok found → LiesIn flow (flow.names c) found.slot
+  unfolding resolution resolution_within
+  word_ends thread word Null found may ending e = cc
+  word_ends thread word (Untyped base bits free) found may ending e = cc
+  word_ends thread word (Endpoint base badge rights) found may ending e = cc
+  word_ends thread word (CNode base radix guard) found may ending e =
+      settled.begins (CNode base radix guard) found.slot may (ended p f base radix word guard found (ending base radix guard may) e)
+  word_ends thread word (Tcb base) found may ending e = cc
+
+  word_found : (thread word : ℕ) (found : Found) → flow.set_of thread ≡ Some c →
+      resolution p (cap_at f) (cap_at f thread) (low_bits (word_bits p) word) ≡ Ok found → LiesIn flow (flow.names c) found.slot
+  word_found thread word found own e =
+      let may = held thread c own in
+      elim settled.goes_on [
+        | inl ending ↦ word_ends thread word (cap_at f thread) found may ending e
+        | inr goes ↦ fits_found p f (LiesIn flow (flow.names c)) (Leads (flow.names c)) (λ cap slot leads is. leads slot is) (names_lead goes)
+            (cap_at f thread) (word_bits p) word found (λ slot is. settled.begins (cap_at f thread) slot may is) e
+      ]
+
+  -- the slot that a word names
+  pub word_lies : (thread word slot : ℕ) → flow.set_of thread ≡ Some c → slot_named p f (cap_at f thread) word ≡ Ok slot → LiesIn flow (flow.names c) slot
+  word_lies thread word slot own h =
+      let found = named_found (resolution p (cap_at f) (cap_at f thread) (low_bits (word_bits p) word)) slot h in
+      subst (LiesIn flow (flow.names c)) found.1.1 (word_found thread word found.0 own found.1.0)
+
+  -- the slot that an index and a depth name from a slot that a word names, or that is filled
+  pub index_lies : (root index depth slot : ℕ) → LiesIn flow (flow.names c) root ⊎ LiesIn flow (flow.fills c) root →
+      target_slot p (cap_at f) (cap_at f root) index depth ≡ Ok slot → LiesIn flow (flow.fills c) slot
+  index_lies root index depth slot there h =
+      let node = cond_passed (is_cnode (cap_at f root)) _ (FailedLookup InvalidRoot) slot h in
+      let range = cond_passed (nat_le 1 depth && nat_le depth (word_bits p)) _ RangeError slot node.1 in
+      let whole = whole_passed (resolution p (cap_at f) (cap_at f root) (low_bits depth index)) slot range.1 in
+      subst (LiesIn flow (flow.fills c)) whole.1.1
+      (fits_found p f (LiesIn flow (flow.fills c)) (Leads (flow.fills c)) (λ cap slot leads is. leads slot is) (λ slot lies. fills_lead slot (inr lies))
+      (cap_at f root) depth index whole.0 (fills_lead root there) whole.1.0)

@@ -1,0 +1,5 @@
+pub mod Made
+pub mod Found
+pub mod Passed
+pub mod Changes
+pub mod Runs

@@ -1,0 +1,78 @@
+-- What may ever stand in which slots, where threads fill only slots that they can name.
+use Rattle.std.specs.Prelude.{◌≡◌, ℕ, ◌+◌, ◌^◌, ◌≤◌, ◌⊎◌, true, Bool, Option, Some}
+use Rattle.cap_core.specs.declared.profile.ProfileName.{ProfileName}
+use Rattle.cap_core.specs.declared.capability.Badge.{Badge}
+use Rattle.cap_core.specs.declared.capability.Guard.{Guard}
+use Rattle.cap_core.specs.declared.capability.Cap.{Cap}
+use Rattle.cap_core.specs.declared.capability.Cap.TheVariants.{Null, Untyped, Endpoint, CNode, Tcb}
+use Rattle.cap_core.specs.declared.rights.Rights.{Rights}
+use Rattle.cap_core.specs.Numbers.{word_bits}
+use Rattle.cap_core.specs.Objects.{base_of, end_of}
+use Rattle.cspace_core.specs.Inside.{IsSlotOf}
+use Rattle.kernel_forest.specs.Forest.{Forest}
+use Rattle.kernel_forest.specs.Entries.{Entry, cap_at}
+use Rattle.query_parts.specs.Parts.{AreAmong}
+
+-- slots in sets, by the set's number; what may stand in the slots of a set; the sets whose threads make calls; and of the threads
+-- whose root slots lie in a set: in which sets their words may end, and which sets they may fill and read by an index
+pub record Flow : Type 0 where
+  pub set_of : ℕ → Option ℕ
+  pub may : ℕ → Cap → Bool
+  pub calls : ℕ → Bool
+  pub names : ℕ → ℕ → Bool
+  pub fills : ℕ → ℕ → Bool
+
+-- a capability may stand in a slot: what its set lets stand there, and anything in a slot of no set
+abbrev pub StandsAt : Flow → ℕ → Cap → Type 0
+StandsAt flow slot cap = (set : ℕ) → flow.set_of slot ≡ Some set → flow.may set cap ≡ true
+
+-- each slot holds what may stand there
+abbrev pub IsHeld : Flow → Forest Entry → Type 0
+IsHeld flow f = (slot : ℕ) → StandsAt flow slot (cap_at f slot)
+
+-- a slot lies in one of some sets
+abbrev pub LiesIn : Flow → (ℕ → Bool) → ℕ → Type 0
+LiesIn flow among slot = (set : ℕ) × ((flow.set_of slot ≡ Some set) × (among set ≡ true))
+
+-- what a copy, a mint, a move, a mutate or the setting of a space may make of a capability: it names the same object
+abbrev pub IsMadeOf : Cap → Cap → Type 0
+IsMadeOf Null made = made ≡ Null
+IsMadeOf (Untyped base bits free) made = made ≡ Untyped base bits free
+IsMadeOf (Endpoint base badge rights) made =
+    (other : Badge) × ((few : Rights) × ((made ≡ Endpoint base other few) × (((badge.0 ≡ other.0) ⊎ (badge.0 ≡ 0)) × AreAmong few rights)))
+IsMadeOf (CNode base radix guard) made = (other : Guard) × (made ≡ CNode base radix other)
+IsMadeOf (Tcb base) made = made ≡ Tcb base
+
+-- each CNode that may be the root of the set's threads takes all bits of a word
+abbrev pub IsEnding : ProfileName → Flow → ℕ → Type 0
+IsEnding p flow c =
+    (base radix : ℕ) (guard : Guard) → flow.may c (CNode base radix guard) ≡ true → guard.size + radix ≡ word_bits p
+
+-- words go on from a CNode's capability in a slot in which they may end
+abbrev pub GoesOn : ProfileName → Flow → ℕ → Type 0
+GoesOn p flow c =
+    (set : ℕ) (cap : Cap) (slot : ℕ) → flow.names c set ≡ true → flow.may set cap ≡ true → IsSlotOf p cap slot → LiesIn flow (flow.names c) slot
+
+-- what threads do whose root slots lie in set c: nothing that is not told
+pub record IsSettledFor (p : ProfileName) (flow : Flow) (c : ℕ) : Type 0 where
+  -- their words end in the slots of their roots, or go on
+  pub begins : (root : Cap) (slot : ℕ) → flow.may c root ≡ true → IsSlotOf p root slot → LiesIn flow (flow.names c) slot
+  pub goes_on : IsEnding p flow c ⊎ GoesOn p flow c
+  -- they fill and read the slots of CNodes whose capabilities words lead to, or stand in slots that they read
+  pub reaches : (set : ℕ) (cap : Cap) (slot : ℕ) → (flow.names c set ≡ true) ⊎ (flow.fills c set ≡ true) → flow.may set cap ≡ true →
+      IsSlotOf p cap slot → LiesIn flow (flow.fills c) slot
+  -- what they read they may put where they fill
+  pub puts : (from to : ℕ) (cap made : Cap) → flow.fills c from ≡ true → flow.fills c to ≡ true → flow.may from cap ≡ true →
+      IsMadeOf cap made → flow.may to made ≡ true
+  -- and what is made in a region that a word leads to
+  pub makes : (from to base bits free : ℕ) (made : Cap) → flow.names c from ≡ true → flow.fills c to ≡ true →
+      flow.may from (Untyped base bits free) ≡ true → base ≤ base_of made → end_of p made ≤ base + 2 ^ bits → flow.may to made ≡ true
+  -- a CNode that a word leads to may become the root of a thread that a word leads to
+  pub sets : (from of thread base radix : ℕ) (guard other : Guard) → flow.names c from ≡ true → flow.names c of ≡ true →
+      flow.may of (Tcb thread) ≡ true → flow.may from (CNode base radix guard) ≡ true → StandsAt flow thread (CNode base radix other)
+
+-- a flow that no call changes: any slot may be empty, how much is used of a region does not matter, and callers do what is told
+pub record IsSettled (p : ProfileName) (flow : Flow) : Type 0 where
+  pub empties : (set : ℕ) → flow.may set Null ≡ true
+  pub used : (set base bits free other : ℕ) → flow.may set (Untyped base bits free) ≡ true → flow.may set (Untyped base bits other) ≡ true
+  pub callers : (c : ℕ) → flow.calls c ≡ true → IsSettledFor p flow c
