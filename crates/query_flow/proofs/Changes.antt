@@ -57,7 +57,7 @@ module _ (p : ProfileName) (flow : Flow) (settled : IsSettled p flow) where
   held_of_fine f h slot = by (held_in (IsFine flow) slot (preorder f) h)
     where
       by : (cap_at f slot ≡ Null) ⊎ ((e : Entry) × ((e.slot ≡ slot) × ((e.cap ≡ cap_at f slot) × IsFine flow e))) → StandsAt flow slot (cap_at f slot)
-      by (inl null) = subst (StandsAt flow slot) (sym null) (λ set at. settled.empties set)
+      by (inl null) = subst (StandsAt flow slot) (sym null) (settled.empties (flow.set_of slot))
       by (inr (e, (at, (is, fine)))) = subst (λ n. StandsAt flow n (cap_at f slot)) at (subst (StandsAt flow e.slot) is fine)
 
   pub fine_of_held : (f : Forest Entry) → IsDistinct eqb (slots f) → IsHeld flow f → AreFine flow f
@@ -74,7 +74,7 @@ module _ (p : ProfileName) (flow : Flow) (settled : IsSettled p flow) where
 
   stands-free : (slot free : ℕ) (cap : Cap) → StandsAt flow slot cap → StandsAt flow slot (with_free free cap)
   stands-free slot free Null h = h
-  stands-free slot free (Untyped base bits former) h = λ set at. settled.used set base bits former free (h set at)
+  stands-free slot free (Untyped base bits former) h = settled.used (flow.set_of slot) base bits former free h
   stands-free slot free (Endpoint base badge rights) h = h
   stands-free slot free (CNode base radix guard) h = h
   stands-free slot free (Tcb base) h = h
@@ -86,12 +86,7 @@ module _ (p : ProfileName) (flow : Flow) (settled : IsSettled p flow) where
 
   module _ (c : ℕ) (f : Forest Entry) (fine : AreFine flow f) where
     placed_stands : (placement : CapPlacement) → IsPlacedIn p flow c placement → StandsAt flow placement.slot placement.cap
-    placed_stands placement is set at =
-        let same : is.slot.0 ≡ set = some_is (sym is.slot.1.0 ∙ at) in
-        is.cap set (subst (λ n. flow.fills c n ≡ true) same is.slot.1.1)
-      where
-        some_is : {a b : ℕ} → Some a ≡ Some b → a ≡ b
-        some_is h = cc
+    placed_stands placement is = is.cap (flow.set_of placement.slot) is.slot
 
     pub fine-with_derived : (placement : CapPlacement) → IsPlacedIn p flow c placement → AreFine flow (with_derived p placement f)
     fine-with_derived placement is =
@@ -129,20 +124,16 @@ module _ (p : ProfileName) (flow : Flow) (settled : IsSettled p flow) where
 
     made_stands : IsSettledFor p flow c → IsHeld flow f → (new : NewObjects) → IsRetype p f new → IsMadeIn p flow c new → (k : ℕ) → k < new.count →
         StandsAt flow (slot_of p new.first_slot k) (new_cap new.shape.kind (object_at new.placed k) new.shape.size_bits)
-    made_stands caller held new is stays k low set at =
+    made_stands caller held new is stays k low =
         let e = new_end p f new is k in
         let b = new_base new.shape.kind (object_at new.placed k) new.shape.size_bits in
         let lie = lies p f new is in
         let n = lie.unused k in
         let u = lie.used k low in
         let w = lie.within in
-        let slot = stays.slots k low in
-        let same : slot.0 ≡ set = some_is (sym slot.1.0 ∙ at) in
-        region_makes caller stays.untyped.0 set (cap_at f new.untyped) (new_cap new.shape.kind (object_at new.placed k) new.shape.size_bits) is.untyped
-        stays.untyped.1.1 (subst (λ n. flow.fills c n ≡ true) same slot.1.1) (held new.untyped stays.untyped.0 stays.untyped.1.0) (omega arith) (omega arith)
-      where
-        some_is : {a b : ℕ} → Some a ≡ Some b → a ≡ b
-        some_is h = cc
+        region_makes caller (flow.set_of new.untyped) (flow.set_of (slot_of p new.first_slot k)) (cap_at f new.untyped)
+        (new_cap new.shape.kind (object_at new.placed k) new.shape.size_bits) is.untyped stays.untyped (stays.slots k low) (held new.untyped)
+        (omega arith) (omega arith)
 
     pub fine-with_objects : IsSettledFor p flow c → IsHeld flow f → (new : NewObjects) → IsRetype p f new → IsMadeIn p flow c new → AreFine flow (with_objects p new f)
     fine-with_objects caller held new is stays =

@@ -132,11 +132,11 @@ module _ (p : ProfileName) (flow : Flow) (c : ℕ) (settled : IsSettledFor p flo
 
   names_lead : ((set : ℕ) (cap : Cap) (slot : ℕ) → flow.names c set ≡ true → flow.may set cap ≡ true → IsSlotOf p cap slot → LiesIn flow (flow.names c) slot) →
       (slot : ℕ) → LiesIn flow (flow.names c) slot → Leads (flow.names c) (cap_at f slot)
-  names_lead goes slot (set, (at, among)) there is = goes set (cap_at f slot) there among (held slot set at) is
+  names_lead goes slot among there is = goes (flow.set_of slot) (cap_at f slot) there among (held slot) is
 
   pub fills_lead : (slot : ℕ) → LiesIn flow (flow.names c) slot ⊎ LiesIn flow (flow.fills c) slot → Leads (flow.fills c) (cap_at f slot)
-  fills_lead slot (inl (set, (at, among))) there is = settled.reaches set (cap_at f slot) there (inl among) (held slot set at) is
-  fills_lead slot (inr (set, (at, among))) there is = settled.reaches set (cap_at f slot) there (inr among) (held slot set at) is
+  fills_lead slot (inl among) there is = settled.reaches (flow.set_of slot) (cap_at f slot) there (inl among) (held slot) is
+  fills_lead slot (inr among) there is = settled.reaches (flow.set_of slot) (cap_at f slot) there (inr among) (held slot) is
 
   word_ends : (thread word : ℕ) (root : Cap) (found : Found) → flow.may c root ≡ true → IsEnding p flow c →
       resolution p (cap_at f) root (low_bits (word_bits p) word) ≡ Ok found → LiesIn flow (flow.names c) found.slot
@@ -148,10 +148,10 @@ module _ (p : ProfileName) (flow : Flow) (c : ℕ) (settled : IsSettledFor p flo
       settled.begins (CNode base radix guard) found.slot may (ended p f base radix word guard found (ending base radix guard may) e)
   word_ends thread word (Tcb base) found may ending e = cc
 
-  word_found : (thread word : ℕ) (found : Found) → flow.set_of thread ≡ Some c →
+  word_found : (thread word : ℕ) (found : Found) → flow.set_of thread ≡ c →
       resolution p (cap_at f) (cap_at f thread) (low_bits (word_bits p) word) ≡ Ok found → LiesIn flow (flow.names c) found.slot
   word_found thread word found own e =
-      let may = held thread c own in
+      let may : flow.may c (cap_at f thread) ≡ true = subst (λ n. flow.may n (cap_at f thread) ≡ true) own (held thread) in
       elim settled.goes_on [
         | inl ending ↦ word_ends thread word (cap_at f thread) found may ending e
         | inr goes ↦ fits_found p f (LiesIn flow (flow.names c)) (Leads (flow.names c)) (λ cap slot leads is. leads slot is) (names_lead goes)
@@ -159,7 +159,7 @@ module _ (p : ProfileName) (flow : Flow) (c : ℕ) (settled : IsSettledFor p flo
       ]
 
   -- the slot that a word names
-  pub word_lies : (thread word slot : ℕ) → flow.set_of thread ≡ Some c → slot_named p f (cap_at f thread) word ≡ Ok slot → LiesIn flow (flow.names c) slot
+  pub word_lies : (thread word slot : ℕ) → flow.set_of thread ≡ c → slot_named p f (cap_at f thread) word ≡ Ok slot → LiesIn flow (flow.names c) slot
   word_lies thread word slot own h =
       let found = named_found (resolution p (cap_at f) (cap_at f thread) (low_bits (word_bits p) word)) slot h in
       subst (LiesIn flow (flow.names c)) found.1.1 (word_found thread word found.0 own found.1.0)

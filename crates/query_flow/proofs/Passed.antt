@@ -1,5 +1,5 @@
 -- What the checks of a call show of the slots and capabilities that it works on, by the sets that its caller names and fills.
-use Rattle.std.proofs.Common.{◌≡◌, ◌∙◌, ℕ, ◌+◌, ◌<◌, ◌⊎◌, inl, inr, Bool, true, false, cond, ◌==◌, Some, Ok, sym, subst, arith}
+use Rattle.std.proofs.Common.{◌≡◌, ◌∙◌, ℕ, ◌+◌, ◌<◌, ◌⊎◌, inl, inr, Bool, true, false, cond, ◌==◌, Ok, sym, subst, arith}
 use Rattle.std.specs.Bool.{⊤}
 use Rattle.cap_core.specs.declared.profile.ProfileName.{ProfileName}
 use Rattle.cap_core.specs.declared.capability.Guard.{Guard}
@@ -97,7 +97,7 @@ module _ (p : ProfileName) (flow : Flow) (c : ℕ) where
       subst (λ n. LiesIn flow (flow.fills c) (slot_of p n k)) (slots.1 ∙ empty.1) (leads (slot_of p (slot_of p base offset) k) at)
   first_lies f word offset count holder first (Tcb base) leads h k low = cc
 
-  module _ (settled : IsSettledFor p flow c) (f : Forest Entry) (held : IsHeld flow f) (thread : ℕ) (own : flow.set_of thread ≡ Some c) where
+  module _ (settled : IsSettledFor p flow c) (f : Forest Entry) (held : IsHeld flow f) (thread : ℕ) (own : flow.set_of thread ≡ c) where
     by_word : (word : Word) (n slot : ℕ) → slot_by_word p f word thread n ≡ Ok slot → LiesIn flow (flow.names c) slot
     by_word word n slot h = word_lies p flow c settled f held thread n slot own (word_passed p f word thread n slot h)
 
@@ -142,7 +142,7 @@ module _ (p : ProfileName) (flow : Flow) (c : ℕ) where
         subst IsPlacedIn (ok_same found placement made.1.1)
         (record {
           slot = by_index Index slot asked.index asked.depth target.0 here (empty_found f _ target.0 target.1.0);
-          cap = λ set among. settled.puts from.0 set (cap_at f source.0) made.0 from.1.1 among (held source.0 from.0 from.1.0)
+          cap = λ set among. settled.puts (flow.set_of source.0) set (cap_at f source.0) made.0 from among (held source.0)
               (made_changed p f source.0 change (cap_at f source.0) made.0 made.1.0);
         })
 
@@ -157,16 +157,16 @@ module _ (p : ProfileName) (flow : Flow) (c : ℕ) where
 
     space_stays : (slot root word : ℕ) (new : NewSpace) → LiesIn flow (flow.names c) slot →
         checked_space p f thread slot root word ≡ Ok new → StandsAt flow new.tcb new.cap
-    space_stays slot root word new (of, (at, in_of)) h =
+    space_stays slot root word new in_of h =
         let tcb = passed (checked_tcb slot (cap_at f slot)) _ new h in
         let source = passed (slot_by_word p f Root thread root) _ new tcb.1.1 in
         let cap = passed (space_cap p word source.0 (cap_at f source.0)) _ new source.1.1 in
         let found : NewSpace = record { tcb = tcb.0; invoked = slot; source = source.0; cap = cap.0 } in
         let from = by_word Root root source.0 source.1.0 in
         let node = made_space p word source.0 (cap_at f source.0) cap.0 cap.1.0 in
-        let may_of : flow.may of (Tcb tcb.0) ≡ true = subst (λ (it : Cap). flow.may of it ≡ true) (tcb_named slot (cap_at f slot) tcb.0 tcb.1.0) (held slot of at) in
+        let may_of : flow.may (flow.set_of slot) (Tcb tcb.0) ≡ true = subst (λ (it : Cap). flow.may (flow.set_of slot) it ≡ true) (tcb_named slot (cap_at f slot) tcb.0 tcb.1.0) (held slot) in
         subst (λ (n : NewSpace). StandsAt flow n.tcb n.cap) (ok_same found new cap.1.1)
-        (set_stays tcb.0 of from.0 (cap_at f source.0) cap.0 in_of may_of from.1.1 (held source.0 from.0 from.1.0) node.0 node.1)
+        (set_stays tcb.0 (flow.set_of slot) (flow.set_of source.0) (cap_at f source.0) cap.0 in_of may_of from (held source.0) node.0 node.1)
 
     invocation_stays : (o : Op) (slot : ℕ) (done : Invocation) → LiesIn flow (flow.names c) slot → checked_invocation p f thread o slot ≡ Ok done → StaysIn done
     invocation_stays (op.Retype cap kind size_bits root index depth offset count) slot done here h =
@@ -187,18 +187,18 @@ module _ (p : ProfileName) (flow : Flow) (c : ℕ) where
     invocation_stays (op.CapDelete cap index depth) slot done here h = made_passed StaysIn invocation.Delete _ done (λ target is. tt) h
     invocation_stays (op.CapRevoke cap index depth) slot done here h = made_passed StaysIn invocation.Revoke _ done (λ target is. tt) h
     invocation_stays (op.CancelBadged cap index depth) slot done here h = made_passed StaysIn invocation.CancelBadged _ done (λ service is. tt) h
-    invocation_stays (op.Send cap message) slot done (set, (at, among)) h =
+    invocation_stays (op.Send cap message) slot done among h =
         made_passed StaysIn (λ service. invocation.Send service message true) _ done
-        (λ service is. served Write slot set (cap_at f slot) service among (held slot set at) is) h
-    invocation_stays (op.NbSend cap message) slot done (set, (at, among)) h =
+        (λ service is. served Write slot (flow.set_of slot) (cap_at f slot) service among (held slot) is) h
+    invocation_stays (op.NbSend cap message) slot done among h =
         made_passed StaysIn (λ service. invocation.Send service message false) _ done
-        (λ service is. served Write slot set (cap_at f slot) service among (held slot set at) is) h
-    invocation_stays (op.Recv cap) slot done (set, (at, among)) h =
+        (λ service is. served Write slot (flow.set_of slot) (cap_at f slot) service among (held slot) is) h
+    invocation_stays (op.Recv cap) slot done among h =
         made_passed StaysIn (λ service. invocation.Receive service true) _ done
-        (λ service is. served Read slot set (cap_at f slot) service among (held slot set at) is) h
-    invocation_stays (op.NbRecv cap) slot done (set, (at, among)) h =
+        (λ service is. served Read slot (flow.set_of slot) (cap_at f slot) service among (held slot) is) h
+    invocation_stays (op.NbRecv cap) slot done among h =
         made_passed StaysIn (λ service. invocation.Receive service false) _ done
-        (λ service is. served Read slot set (cap_at f slot) service among (held slot set at) is) h
+        (λ service is. served Read slot (flow.set_of slot) (cap_at f slot) service among (held slot) is) h
     invocation_stays (op.SetSpace cap root word) slot done here h =
         made_passed StaysIn invocation.SetSpace _ done (λ new is. space_stays slot root word new here is) h
     invocation_stays (op.Suspend cap) slot done here h = made_passed StaysIn invocation.Suspend _ done (λ tcb is. tt) h

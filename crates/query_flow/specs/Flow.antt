@@ -1,5 +1,5 @@
 -- What may ever stand in which slots, where threads fill only slots that they can name.
-use Rattle.std.specs.Prelude.{◌≡◌, ℕ, ◌+◌, ◌^◌, ◌≤◌, ◌⊎◌, true, Bool, Option, Some}
+use Rattle.std.specs.Prelude.{◌≡◌, ℕ, ◌+◌, ◌^◌, ◌≤◌, ◌⊎◌, true, false, Bool}
 use Rattle.cap_core.specs.declared.profile.ProfileName.{ProfileName}
 use Rattle.cap_core.specs.declared.capability.Badge.{Badge}
 use Rattle.cap_core.specs.declared.capability.Guard.{Guard}
@@ -13,18 +13,19 @@ use Rattle.kernel_forest.specs.Forest.{Forest}
 use Rattle.kernel_forest.specs.Entries.{Entry, cap_at}
 use Rattle.query_parts.specs.Parts.{AreAmong}
 
--- slots in sets, by the set's number; what may stand in the slots of a set; the sets whose threads make calls; and of the threads
--- whose root slots lie in a set: in which sets their words may end, and which sets they may fill and read by an index
+-- all slots in sets, by the set's number; what may stand in the slots of a set; which threads are trusted to make no calls but sends and
+-- receives; and of the threads whose root slots lie in a set: in which sets their words may end, and which they may fill and read by
+-- an index
 pub record Flow : Type 0 where
-  pub set_of : ℕ → Option ℕ
+  pub set_of : ℕ → ℕ
   pub may : ℕ → Cap → Bool
-  pub calls : ℕ → Bool
+  pub trusted : ℕ → Bool
   pub names : ℕ → ℕ → Bool
   pub fills : ℕ → ℕ → Bool
 
--- a capability may stand in a slot: what its set lets stand there, and anything in a slot of no set
+-- a capability may stand in a slot
 abbrev pub StandsAt : Flow → ℕ → Cap → Type 0
-StandsAt flow slot cap = (set : ℕ) → flow.set_of slot ≡ Some set → flow.may set cap ≡ true
+StandsAt flow slot cap = flow.may (flow.set_of slot) cap ≡ true
 
 -- each slot holds what may stand there
 abbrev pub IsHeld : Flow → Forest Entry → Type 0
@@ -32,7 +33,7 @@ IsHeld flow f = (slot : ℕ) → StandsAt flow slot (cap_at f slot)
 
 -- a slot lies in one of some sets
 abbrev pub LiesIn : Flow → (ℕ → Bool) → ℕ → Type 0
-LiesIn flow among slot = (set : ℕ) × ((flow.set_of slot ≡ Some set) × (among set ≡ true))
+LiesIn flow among slot = among (flow.set_of slot) ≡ true
 
 -- what a copy, a mint, a move, a mutate or the setting of a space may make of a capability: it names the same object
 abbrev pub IsMadeOf : Cap → Cap → Type 0
@@ -71,8 +72,9 @@ pub record IsSettledFor (p : ProfileName) (flow : Flow) (c : ℕ) : Type 0 where
   pub sets : (from of thread base radix : ℕ) (guard other : Guard) → flow.names c from ≡ true → flow.names c of ≡ true →
       flow.may of (Tcb thread) ≡ true → flow.may from (CNode base radix guard) ≡ true → StandsAt flow thread (CNode base radix other)
 
--- a flow that no call changes: any slot may be empty, how much is used of a region does not matter, and callers do what is told
+-- a flow that holds for all calls: any slot may be empty, how much is used of a region does not matter, and each thread that is not
+-- trusted, wherever its capability may stand, does what is told
 pub record IsSettled (p : ProfileName) (flow : Flow) : Type 0 where
   pub empties : (set : ℕ) → flow.may set Null ≡ true
   pub used : (set base bits free other : ℕ) → flow.may set (Untyped base bits free) ≡ true → flow.may set (Untyped base bits other) ≡ true
-  pub callers : (c : ℕ) → flow.calls c ≡ true → IsSettledFor p flow c
+  pub callers : (set thread : ℕ) → flow.may set (Tcb thread) ≡ true → flow.trusted thread ≡ false → IsSettledFor p flow (flow.set_of thread)
