@@ -10,6 +10,7 @@ pub mod Passing
 pub mod Regions
 pub mod Together
 pub mod Taking
+pub mod Going
 pub mod Delivered
 pub mod Lists
 pub mod Joining
