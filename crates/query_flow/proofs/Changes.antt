@@ -1,5 +1,5 @@
 -- What each operation does to the full slots: each holds what may stand there.
-use Rattle.std.proofs.Common.{◌≡◌, ℕ, ◌^◌, ◌<◌, ◌≤◌, ◌⊎◌, inl, inr, true, false, cond, ◌==◌, List, [], ◌∷◌, Some, eqb, refl, sym, ap, subst, ◌∙◌, arith}
+use Rattle.std.proofs.Common.{◌≡◌, ℕ, ◌^◌, ◌<◌, ◌≤◌, ◌⊎◌, inl, inr, true, false, cond, ◌==◌, List, [], ◌∷◌, eqb, refl, sym, subst, arith}
 use Rattle.std.specs.List.{AllByRecursion as Each, Contains, IsDistinct}
 use Rattle.std.proofs.lemmas.Bool.{false≢true, eqb-true}
 use Rattle.cap_core.specs.declared.profile.ProfileName.{ProfileName}
@@ -31,7 +31,7 @@ use Rattle.kernel_abstract.specs.Private.Invocations.{IsRetype, IsSpace}
 use Rattle.kernel_abstract.proofs.Capabilities.SpacesSet.{space_kept}
 use Rattle.kernel_abstract.proofs.Retype.PutInOrder.{each-with_new}
 use Rattle.kernel_abstract.proofs.Retype.RetypedForest.{each-range, new_base, lies, new_end}
-use Rattle.query_flow.specs.Flow.{Flow, StandsAt, IsHeld, LiesIn, IsSettled, IsSettledFor}
+use Rattle.query_flow.specs.Flow.{Flow, StandsAt, IsHeld, IsSettled, IsSettledFor}
 use Rattle.query_flow.proofs.Passed.{IsPlacedIn, IsMadeIn}
 
 -- a full slot holds what may stand there

@@ -1,6 +1,5 @@
 -- The slots that the words of a call name lie in the sets that the caller's words may end in, and that it may fill.
-use Rattle.std.proofs.Common.{◌≡◌, ℕ, zero, suc, ◌+◌, ◌-◌, ◌<◌, ◌≤◌, ◌⊎◌, inl, inr, refl, sym, ap, subst, ◌∙◌, Bool, true, false, cond, not, ◌==◌, ◌&&◌, nat_lt, nat_le, List, [], ◌∷◌, ◌++◌, length, take, drop, Option, Some, None, Result, Ok, Err, arith}
-use Rattle.std.proofs.lemmas.Bool.{false≢true}
+use Rattle.std.proofs.Common.{◌≡◌, ℕ, zero, suc, ◌+◌, ◌-◌, ◌⊎◌, inl, inr, refl, sym, ap, subst, ◌∙◌, Bool, true, false, cond, not, ◌==◌, ◌&&◌, nat_lt, nat_le, List, [], ◌∷◌, length, take, drop, Option, Some, None, Result, Ok, Err, arith}
 use Rattle.std.specs.Int.Digits.{AllBelowBase, number_from_digits}
 use Rattle.cap_core.specs.declared.profile.ProfileName.{ProfileName}
 use Rattle.cap_core.specs.declared.capability.Guard.{Guard}
@@ -13,7 +12,7 @@ use Rattle.cap_core.specs.Numbers.{word_bits}
 use Rattle.kernel_forest.specs.Forest.{Forest}
 use Rattle.kernel_forest.specs.Entries.{Entry, cap_at}
 use Rattle.cspace_core.specs.Bits.{low_bits, after_front}
-use Rattle.cspace_core.specs.Resolution.{Choice, Found, is_cnode, slot_of, guard_bits, choice, choice_after_guard, choice_by_radix, found_or, resolution_within, resolution}
+use Rattle.cspace_core.specs.Resolution.{Choice, Found, is_cnode, slot_of, guard_bits, choice, choice_after_guard, found_or, resolution_within, resolution}
 use Rattle.cspace_core.specs.Target.{target_slot}
 use Rattle.cspace_core.specs.Inside.{IsSlotOf}
 use Rattle.cspace_core.proofs.Bits.{length-low_bits}

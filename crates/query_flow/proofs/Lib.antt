@@ -3,3 +3,4 @@ pub mod Found
 pub mod Passed
 pub mod Changes
 pub mod Runs
+pub mod Told

@@ -1,14 +1,13 @@
 -- What a call may make of a capability names the same object.
-use Rattle.std.proofs.Common.{◌≡◌, ℕ, ◌+◌, ◌⊎◌, inl, inr, Bool, true, false, cond, not, ◌==◌, ◌&&◌, nat_le, Some, None, Option, Ok, refl, sym, subst, ◌∙◌}
+use Rattle.std.proofs.Common.{◌≡◌, ℕ, ◌+◌, ◌⊎◌, inl, inr, Bool, true, false, cond, ◌==◌, nat_le, Some, Ok, refl, sym, subst, ◌∙◌}
 use Rattle.std.proofs.lemmas.Bool.{eqb-true}
 use Rattle.cap_core.specs.declared.profile.ProfileName.{ProfileName}
 use Rattle.cap_core.specs.declared.capability.Badge.{Badge}
-use Rattle.cap_core.specs.declared.capability.Guard.{Guard}
 use Rattle.cap_core.specs.declared.capability.Cap.{Cap}
 use Rattle.cap_core.specs.declared.capability.Cap.TheVariants.{Null, Untyped, Endpoint, CNode, Tcb}
 use Rattle.cap_core.specs.declared.rights.Rights.{Rights}
 use Rattle.cap_core.specs.Numbers.{word_bits}
-use Rattle.cap_core.specs.Minting.{masked, guarded, guard_held, with_data}
+use Rattle.cap_core.specs.Minting.{masked, guard_held, with_data}
 use Rattle.cap_core.proofs.Minting.{bit_in_both}
 use Rattle.kernel_forest.specs.Forest.{Forest}
 use Rattle.kernel_forest.specs.Entries.{Entry}
@@ -20,7 +19,6 @@ use Rattle.kernel_abstract.specs.CNodes.{no_data, ensure_set, ensure_derivable, 
 use Rattle.kernel_abstract.specs.Threads.{space_cap}
 use Rattle.kernel_abstract.proofs.Checks.FoundSlots.{passed, cond_passed, ok_same}
 use Rattle.kernel_abstract.proofs.Checks.PassedCNodeChecks.{where_some, set_passed, derivable_passed}
-use Rattle.query_parts.specs.Parts.{AreAmong}
 use Rattle.query_flow.specs.Flow.{IsMadeOf}
 
 pub made_itself : (cap : Cap) → IsMadeOf cap cap

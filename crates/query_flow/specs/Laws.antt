@@ -1,16 +1,20 @@
 -- What the laws of flows say.
-use Rattle.std.specs.Prelude.{◌≡◌, ◌⊎◌, ℕ, ◌++◌, true, false, List}
-use Rattle.std.specs.List.{AllByRecursion as Each}
+use Rattle.std.specs.Prelude.{◌≡◌, ◌⊎◌, ⊤, ℕ, true, false, List}
+use Rattle.std.specs.List.{Contains, AllByRecursion as Each}
 use Rattle.cap_core.specs.declared.profile.ProfileName.{ProfileName}
 use Rattle.cap_core.specs.declared.capability.Badge.{Badge}
 use Rattle.cap_core.specs.declared.capability.Cap.TheVariants.{Endpoint}
 use Rattle.cap_core.specs.declared.rights.Rights.{Rights}
 use Rattle.cap_core.specs.Rights.{write_bit, read_bit}
-use Rattle.ipc_core.specs.Records.{SendRecord, ReceiveRecord}
+use Rattle.cap_core.specs.declared.message.Message.{Message}
+use Rattle.ipc_core.specs.declared.waiter.Waiter.TheVariants.{Sender, Receiver}
 use Rattle.kernel_abstract.specs.declared.call.Call.{Call}
 use Rattle.kernel_abstract.specs.Decode.{has_right}
-use Rattle.kernel_abstract.specs.State.{State}
-use Rattle.kernel_abstract.specs.Step.{state_after}
+use Rattle.kernel_abstract.specs.declared.call.Reply.{Reply}
+use Rattle.kernel_abstract.specs.declared.call.Reply.TheVariants.{Delivered}
+use Rattle.kernel_abstract.specs.Shown.{Shown, waiting_at}
+use Rattle.kernel_abstract.specs.State.{State, shown}
+use Rattle.kernel_abstract.specs.Step.{state_after, replies_of}
 use Rattle.kernel_abstract.specs.Reached.{IsReached}
 use Rattle.query_parts.specs.Laws.{OnlyPasses}
 use Rattle.query_flow.specs.Flow.{Flow, IsHeld, IsSettled}
@@ -30,22 +34,25 @@ abbrev pub MayUse : Flow → ℕ → ℕ → ℕ → Badge → Type 0
 MayUse flow right c endpoint badge =
     (set : ℕ) × ((flow.names c set ≡ true) × ((rights : Rights) × ((flow.may set (Endpoint endpoint badge rights) ≡ true) × (has_right right rights ≡ true))))
 
--- a send of a thread that is not trusted is by such a capability
-abbrev pub IsSentBy : Flow → SendRecord → Type 0
-IsSentBy flow s = flow.trusted s.thread.base ≡ false → MayUse flow write_bit (flow.set_of s.thread.base) s.endpoint.base s.badge
+-- a thread is shown to wait on an endpoint with this message and badge; or it is trusted, or may send so
+abbrev pub WaitsOrSends : Flow → Shown → ℕ → ℕ → Badge → Message → Type 0
+WaitsOrSends flow v endpoint thread badge message =
+    Contains (waiting_at v endpoint) (Sender thread badge message)
+    ⊎ (flow.trusted thread ≡ false → MayUse flow write_bit (flow.set_of thread) endpoint badge)
 
--- and so is a receive
-abbrev pub IsReceivedBy : Flow → ReceiveRecord → Type 0
-IsReceivedBy flow a =
-    flow.trusted a.thread.base ≡ false → (badge : Badge) × MayUse flow read_bit (flow.set_of a.thread.base) a.endpoint.base badge
+-- a thread is shown to wait to receive on an endpoint; or it is trusted, or may receive there
+abbrev pub WaitsOrHears : Flow → Shown → ℕ → ℕ → Type 0
+WaitsOrHears flow v endpoint thread =
+    Contains (waiting_at v endpoint) (Receiver thread)
+    ⊎ (flow.trusted thread ≡ false → (badge : Badge) × MayUse flow read_bit (flow.set_of thread) endpoint badge)
 
--- what is sent by these calls may be sent, and what is received may be received
-abbrev pub SendBy : ProfileName → Flow → State → List Call → Type 0
-SendBy p flow A calls =
+-- a reply tells of a delivery from such a thread to such a thread, or of none
+abbrev pub TellsOfFlow : Flow → Shown → Reply → Type 0
+TellsOfFlow flow v (Delivered endpoint from to badge message) = WaitsOrSends flow v endpoint from badge message × WaitsOrHears flow v endpoint to
+TellsOfFlow flow v reply = ⊤
+
+-- so it is of each reply to these calls
+abbrev pub TellFlow : ProfileName → Flow → State → List Call → Type 0
+TellFlow p flow A calls =
     IsReached p A → IsSettled p flow → IsHeld flow A.derivations → Each (IsExpected flow) calls →
-    (more : List SendRecord) × (((state_after p A calls).sends ≡ A.sends ++ more) × Each (IsSentBy flow) more)
-
-abbrev pub ReceiveBy : ProfileName → Flow → State → List Call → Type 0
-ReceiveBy p flow A calls =
-    IsReached p A → IsSettled p flow → IsHeld flow A.derivations → Each (IsExpected flow) calls →
-    (more : List ReceiveRecord) × (((state_after p A calls).receives ≡ A.receives ++ more) × Each (IsReceivedBy flow) more)
+    Each (TellsOfFlow flow (shown A)) (replies_of p A calls)
