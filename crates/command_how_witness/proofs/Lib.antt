@@ -6,3 +6,5 @@ pub mod Listed
 pub mod SameCalls
 pub mod Shows
 pub mod Still
+pub mod SlotWords
+pub mod CanPass

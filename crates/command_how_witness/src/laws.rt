@@ -1,13 +1,15 @@
 //! What excludes a witness. Nothing is done.
-ghost use Rattle.std.specs.Prelude.{List};
+ghost use Rattle.std.specs.Prelude.{ℕ, List};
 ghost use Rattle.cap_core.specs.declared.profile.ProfileName.{ProfileName};
+ghost use Rattle.cap_core.specs.declared.capability.Badge.{Badge};
+ghost use Rattle.cap_core.specs.declared.message.Message.{Message};
 ghost use Rattle.kernel_abstract.specs.declared.call.Call.{Call};
 ghost use Rattle.kernel_abstract.specs.State.{State};
 ghost use Rattle.query_parts.specs.declared.listed.PartUse.{PartUse};
 ghost use Rattle.query_parts.specs.Parts.{Parts};
 ghost use Rattle.command_how_witness.specs.Witness.{Asking};
 ghost use Rattle.command_how_witness.specs.Excluded.{HasNoWitness, IsOnlyOne};
-ghost use Rattle.command_how_witness.specs.Still.{ChangesNoSlot};
+ghost use Rattle.command_how_witness.specs.Still.{ChangesNoSlot, CanPass};
 
 /// Where it is excluded, no calls show it: there is never a witness and *excluded* of one question.
 pub fn what_is_excluded_has_no_witness()
@@ -22,4 +24,11 @@ pub fn what_is_excluded_is_decided()
 /// Whatever calls the threads of still parts make, every slot stays as it is: they can do nothing but send and receive.
 pub fn still_parts_change_no_slot()
     ensures { (p : ProfileName) (parts : Parts) (A : State) (calls : List Call) → ChangesNoSlot p parts A calls }
+{}
+
+/// What can happen between still parts: of two threads that are ready to pass, as all live threads of still parts are, each
+/// message passes from the one to the other, by any endpoint to which the one's CNode holds a capability with Write and the other's
+/// one with Read. It passes by sends of the one and receives of the other alone, whoever waits there before, and with that badge.
+pub fn still_parts_can_pass()
+    ensures { (p : ProfileName) (A : State) (endpoint from to : ℕ) (badge other : Badge) (message : Message) → CanPass p A endpoint from to badge other message }
 {}

@@ -13,7 +13,8 @@ pub use asked::{Asked, Happening};
 pub use callers::may_call;
 pub use excluded::is_excluded;
 pub use laws::{
-    still_parts_change_no_slot, what_is_excluded_has_no_witness, what_is_excluded_is_decided,
+    still_parts_can_pass, still_parts_change_no_slot, what_is_excluded_has_no_witness,
+    what_is_excluded_is_decided,
 };
 pub use shown::{is_message, is_shown};
 pub use text::is_witness_text;
