@@ -1,5 +1,4 @@
 pub mod Alone
-pub mod ByNames
 pub mod Children
 pub mod Ended
 pub mod Joined

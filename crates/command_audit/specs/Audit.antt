@@ -10,7 +10,7 @@ use Rattle.setup_format.specs.Views.{SetupView}
 use Rattle.setup_report.specs.State.{endpoints, slot_rows}
 use Rattle.command_trace_lines.specs.Changes.{changes, lines_of_state}
 use Rattle.command_audit.specs.declared.threads.ThreadSlots.{ThreadSlots}
-use Rattle.command_audit.specs.Naming.{Texts, by_addresses}
+use Rattle.setup_naming.specs.Naming.{Texts, by_addresses}
 use Rattle.command_audit.specs.Text.{audit_head_line}
 use Rattle.command_audit.specs.Threads.{AreAllSlots, opening, slots_lines}
 use Rattle.command_audit.specs.Channels.{endpoint_words_of, channel_lines}
@@ -19,19 +19,19 @@ use Rattle.command_audit.specs.Revokes.{shown_after_revoke, revoke_lines, revoke
 -- ---- a whole state: the names, who is trusted, what each other thread can name, who of them can send to whom, what each revoke
 -- would do
 
-abbrev pub whole_text : ProfileName → Texts → List ℕ → SetupView → ℕ → State → List ThreadSlots → List ℕ
-whole_text p texts trusted setup made A list =
+abbrev pub whole_text : ProfileName → Names → Texts → List ℕ → SetupView → ℕ → State → List ThreadSlots → List ℕ
+whole_text p names texts trusted setup made A list =
     audit_head_line setup made None
-    ++ (opening texts trusted
+    ++ (opening names texts trusted
     ++ (flat_map (slots_lines texts (shown A)) list
     ++ (channel_lines texts (flat_map (endpoint_words_of A.derivations) list) (endpoints p (shown A))
     ++ flat_map (revoke_lines_of p texts A) (rows_told trusted list (slot_rows (shown A))))))
 
 -- the text is that of the lists of what each live thread can name that is not trusted
-pub record IsWholeAudit (p : ProfileName) (texts : Texts) (trusted : List ℕ) (setup : SetupView) (made : ℕ) (A : State) (text : List ℕ) : Type 0 where
+pub record IsWholeAudit (p : ProfileName) (names : Names) (texts : Texts) (trusted : List ℕ) (setup : SetupView) (made : ℕ) (A : State) (text : List ℕ) : Type 0 where
   pub list : List ThreadSlots
   pub slots : AreAllSlots p trusted (shown A) list
-  pub is : text ≡ whole_text p texts trusted setup made A list
+  pub is : text ≡ whole_text p names texts trusted setup made A list
 
 -- ---- one slot: what a revoke of it would do, and all that it would change
 
@@ -53,7 +53,7 @@ slot_answer p names setup made slot A =
 
 -- of the whole state: always a text
 abbrev pub IsWholeAnswer : ProfileName → Names → SetupView → ℕ → State → Option (List ℕ) → Type 0
-IsWholeAnswer p names setup made A answer = (text : List ℕ) × ((answer ≡ Some text) × IsWholeAudit p (by_addresses names) [] setup made A text)
+IsWholeAnswer p names setup made A answer = (text : List ℕ) × ((answer ≡ Some text) × IsWholeAudit p names (by_addresses names) [] setup made A text)
 
 abbrev pub IsAuditOf : ProfileName → Names → SetupView → ℕ → Option ℕ → State → Option (List ℕ) → Type 0
 IsAuditOf p names setup made None A answer = IsWholeAnswer p names setup made A answer

@@ -8,7 +8,7 @@ use Rattle.setup_objects.specs.declared.meant.ObjectKind.TheVariants.{Thread}
 use Rattle.setup_objects.specs.Meant.{are_meant, objects_meant}
 use Rattle.setup_objects.specs.Slots.{slot_meant}
 use Rattle.command_audit.specs.Audit.{IsAuditOf, IsWholeAudit}
-use Rattle.command_audit.specs.Naming.{texts_of}
+use Rattle.setup_naming.specs.Naming.{texts_of}
 use Rattle.command_check.specs.Commands.{text_or_absent, IsStateAnswer}
 use Rattle.command_core.specs.declared.fault.Verdict.{Verdict}
 use Rattle.command_core.specs.declared.fault.Verdict.TheVariants.{AllMet, Absent}
@@ -33,5 +33,5 @@ IsSlotAudited word after p read text verdict =
 abbrev pub IsStateAudited : List (List ℕ) → Bool → ProfileName → Names → SetupView → ℕ → State → List ℕ → Verdict → Type 0
 IsStateAudited words by_name p names setup made A text verdict =
     MatchBool (are_meant Thread p names setup.plan (shown A) words)
-    (IsWholeAudit p (texts_of by_name p names setup.plan (shown A)) (objects_meant Thread p names setup.plan (shown A) words) setup made A text × (verdict ≡ AllMet))
+    (IsWholeAudit p names (texts_of by_name p names setup.plan (shown A)) (objects_meant Thread p names setup.plan (shown A) words) setup made A text × (verdict ≡ AllMet))
     ((text ≡ []) × (verdict ≡ Absent))

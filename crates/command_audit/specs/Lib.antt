@@ -1,6 +1,5 @@
--- The audit of a set-up: Naming says how it tells addresses, Text has its lines, Threads what each thread can name, Channels who can send to whom, Ends and
--- Revokes what a revoke would do, Audit all of it.
-pub mod Naming
+-- The audit of a set-up: Text has its lines, Threads what each thread can name, Channels who can send to whom, Ends and Revokes
+-- what a revoke would do, Audit all of it.
 pub mod Text
 pub mod Threads
 pub mod Channels

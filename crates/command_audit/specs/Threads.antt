@@ -1,5 +1,5 @@
 -- What each live thread can name, and the lines that say so.
-use Rattle.std.specs.Prelude.{◌≡◌, ◌==◌, ◌||◌, codes, ℕ, not, Bool, List, [], ◌++◌, map, filter, All, Option, Some, None}
+use Rattle.std.specs.Prelude.{◌≡◌, ◌==◌, ◌||◌, codes, ℕ, not, Bool, true, false, List, [], ◌++◌, map, filter, All, Option, Some, None}
 use Rattle.std.specs.List.{flat_map, list_any}
 use Rattle.std.specs.Fmt.{decimal}
 use Rattle.cap_core.specs.declared.profile.ProfileName.{ProfileName}
@@ -13,13 +13,15 @@ use Rattle.query_reach.specs.declared.held.Held.{Held}
 use Rattle.query_reach.specs.declared.reached.Reached.{Reached}
 use Rattle.query_reach.specs.Holding.{AreHeldSlots}
 use Rattle.query_reach.specs.Lists.{AreReached}
+use Rattle.setup_values.specs.Names.{Names}
 use Rattle.setup_report.specs.State.{is_in, threads as live_threads}
 use Rattle.setup_report.specs.Report.{terminated}
 use Rattle.command_trace_lines.specs.Lines.{offer_text}
+use Rattle.command_trace_lines.specs.Names.{name_lines}
 use Rattle.command_audit.specs.declared.threads.ThreadSlots.{ThreadSlots}
-use Rattle.command_audit.specs.declared.objects.Object.{Object}
-use Rattle.command_audit.specs.Naming.{Texts}
-use Rattle.command_audit.specs.Text.{held_slot_text, doing_told}
+use Rattle.setup_naming.specs.declared.objects.Object.{Object}
+use Rattle.setup_naming.specs.Naming.{Texts}
+use Rattle.setup_naming.specs.Held.{held_slot_text, doing_told}
 
 -- the full slots that a thread can name, by a word, and by an index and a depth alone
 pub record AreSlotsOf (p : ProfileName) (f : Forest Entry) (t : ThreadSlots) : Type 0 where
@@ -40,8 +42,13 @@ can_name slot t = list_any (λ (r : Reached). r.slot == slot) t.reached.items ||
 abbrev pub trusted_line : Texts → ℕ → List ℕ
 trusted_line texts thread = terminated (codes "without " ++ texts.about thread)
 
-abbrev pub opening : Texts → List ℕ → List ℕ
-opening texts trusted = texts.names ++ flat_map (trusted_line texts) trusted
+-- no line tells what a name is the address of, where names stand in place of addresses
+abbrev pub naming_lines : Bool → Names → List ℕ
+naming_lines false names = name_lines names
+naming_lines true names = []
+
+abbrev pub opening : Names → Texts → List ℕ → List ℕ
+opening names texts trusted = naming_lines texts.by_name names ++ flat_map (trusted_line texts) trusted
 
 -- ---- the lines: what a thread does, and what it sends where it waits to send; then each slot that it can name
 

@@ -6,13 +6,13 @@ ghost use Rattle.kernel_abstract.specs.State.{State, shown};
 ghost use Rattle.setup_values.specs.Names.{names_view};
 ghost use Rattle.command_audit.specs.Audit as spec;
 
-use crate::naming::Naming;
 use crate::revokes::is_cleared;
 use crate::state::{Heading, audit_of_slot, whole_audit};
 use cap_core::Profile;
 use ipc_core::MakeWaiters;
 use kernel_core::Kernel;
 use setup_format::Setup;
+use setup_naming::Naming;
 use setup_values::Name;
 use slot_core::{DerivationStore, MakeStore};
 use std::alloc::{AllocError, Global};
@@ -49,6 +49,7 @@ fn whole_answer<P: Profile, S: MakeStore<P> + DerivationStore<P>, W: MakeWaiters
         → spec.IsWholeAnswer P.profile (names_view names.now) setup.now made A (option_map (λ v. v.items) text)) }
 {
     let heading = Heading {
+        names,
         naming: &Naming::Addresses(names),
         trusted: &[],
         setup,

@@ -1,17 +1,14 @@
 //! The audit of a state without the threads that are trusted, by addresses or by names, as the answer of a command.
-ghost use Rattle.std.specs.Prelude.{◌≡◌, ℕ, IfOk, map, true};
+ghost use Rattle.std.specs.Prelude.{◌≡◌, ℕ, IfOk, map};
 ghost use Rattle.kernel_abstract.specs.Memory.{IsInMemory};
 ghost use Rattle.kernel_abstract.specs.Plan.{IsPlan};
 ghost use Rattle.kernel_abstract.specs.Reached.{IsReached};
 ghost use Rattle.kernel_abstract.specs.State.{State, shown};
 ghost use Rattle.setup_values.specs.Names.{names_view};
-ghost use Rattle.command_audit.specs.Naming.{texts_of};
+ghost use Rattle.setup_naming.specs.Naming.{texts_of};
 ghost use Rattle.command_audit.specs.Audit.{IsWholeAudit};
 ghost use Rattle.command_audit.specs.Audits.{IsStateAudited};
 
-use crate::known::ObjectNames;
-use crate::naming::Naming;
-use crate::objects::{boot_rows, live_nodes};
 use crate::state::{Heading, whole_audit};
 use cap_core::Profile;
 use command_check::Command;
@@ -19,6 +16,7 @@ use command_core::{Answer, Verdict};
 use ipc_core::MakeWaiters;
 use kernel_core::Kernel;
 use setup_format::{ReadSetup, Setup};
+use setup_naming::Naming;
 use setup_objects::{ObjectKind, absent_object, are_meant, objects_meant};
 use setup_report::{calls_made, kernel_after};
 use setup_values::Name;
@@ -36,36 +34,7 @@ pub struct StateAudit<'a> {
     pub after: Option<u64>,
 }
 
-/// The audit of a kernel, by the names of objects.
-fn told_by_names<P: Profile, S: MakeStore<P> + DerivationStore<P>, W: MakeWaiters<P>>(
-    alloc: Global,
-    names: &[Name],
-    trusted: &[u64],
-    setup: &Setup,
-    made: usize,
-    kernel: &Kernel<P, S, W>,
-) -> Result<Vec<u8>, AllocError>
-    requires plan { IsPlan P.profile setup.now.plan }
-    requires memory { (memory : ℕ) × IsInMemory P.profile memory kernel.now }
-    ensures { IfOk result (λ text. (A : State) → IsReached P.profile A → kernel.now ≡ shown A
-        → IsWholeAudit P.profile (texts_of true P.profile (names_view names.now) setup.now.plan (shown A)) trusted.now setup.now made A text.items) }
-{
-    let boot = boot_rows::<P, S, W>(alloc, setup.plan())?;
-    let rows = kernel.derivations(alloc)?;
-    let nodes = live_nodes(alloc, rows.as_slice())?;
-    let (boot, nodes) = (boot.as_slice(), nodes.as_slice());
-    let known = ObjectNames::new::<P>(names, setup.plan(), boot, nodes);
-    let heading = Heading {
-        naming: &Naming::Named(&known),
-        trusted,
-        setup,
-        made,
-    };
-    let text = whole_audit::<P, S, W>(alloc, heading, kernel)?;
-    Ok(text)
-}
-
-/// The audit of a kernel, by addresses or by names.
+/// The audit of a kernel, by addresses or by the names of objects.
 fn told_by<P: Profile, S: MakeStore<P> + DerivationStore<P>, W: MakeWaiters<P>>(
     alloc: Global,
     by_name: bool,
@@ -78,14 +47,12 @@ fn told_by<P: Profile, S: MakeStore<P> + DerivationStore<P>, W: MakeWaiters<P>>(
     requires plan { IsPlan P.profile setup.now.plan }
     requires memory { (memory : ℕ) × IsInMemory P.profile memory kernel.now }
     ensures { IfOk result (λ text. (A : State) → IsReached P.profile A → kernel.now ≡ shown A
-        → IsWholeAudit P.profile (texts_of by_name P.profile (names_view names.now) setup.now.plan (shown A)) trusted.now setup.now made A text.items) }
+        → IsWholeAudit P.profile (names_view names.now) (texts_of by_name P.profile (names_view names.now) setup.now.plan (shown A)) trusted.now setup.now made A text.items) }
 {
-    if by_name {
-        let told = told_by_names::<P, S, W>(alloc, names, trusted, setup, made, kernel)?;
-        return Ok(told);
-    }
+    let naming = Naming::of::<P, S, W>(alloc, by_name, names, setup.plan(), kernel)?;
     let heading = Heading {
-        naming: &Naming::Addresses(names),
+        names,
+        naming: &naming,
         trusted,
         setup,
         made,

@@ -5,12 +5,11 @@ ghost use Rattle.kernel_abstract.specs.Memory.{IsInMemory};
 ghost use Rattle.kernel_abstract.specs.Reached.{IsReached};
 ghost use Rattle.kernel_abstract.specs.State.{State, shown};
 ghost use Rattle.setup_values.specs.Names.{names_view};
-ghost use Rattle.command_audit.specs.Naming.{naming_view};
+ghost use Rattle.setup_naming.specs.Naming.{naming_view};
 ghost use Rattle.command_audit.specs.Audit as spec;
 
 use crate::channels::{add_channels, channel_words};
 use crate::head::add_head;
-use crate::naming::Naming;
 use crate::revokes::{add_revoke, add_revokes, revoked, told_rows};
 use crate::threads::{add_opening, add_threads, others, thread_slots};
 use cap_core::Profile;
@@ -19,6 +18,7 @@ use ipc_core::MakeWaiters;
 use kernel_core::Kernel;
 use query_reach::kernel_slots;
 use setup_format::Setup;
+use setup_naming::Naming;
 use setup_report::state_rows;
 use setup_values::Name;
 use slot_core::{DerivationStore, MakeStore};
@@ -27,6 +27,7 @@ use std::alloc::{AllocError, Global};
 /// What of a state's audit does not come from its kernel alone.
 #[derive(Clone, Copy)]
 pub struct Heading<'a> {
+    pub names: &'a [Name],
     pub naming: &'a Naming<'a>,
     /// The threads that are trusted to make no more calls.
     pub trusted: &'a [u64],
@@ -49,9 +50,10 @@ pub fn whole_audit<P: Profile, S: MakeStore<P> + DerivationStore<P>, W: MakeWait
 ) -> Result<Vec<u8>, AllocError>
     requires { (memory : ℕ) × IsInMemory P.profile memory kernel.now }
     ensures { IfOk result (λ text. (A : State) → IsReached P.profile A → kernel.now ≡ shown A
-        → spec.IsWholeAudit P.profile (naming_view heading.entry.naming.now) heading.entry.trusted.now heading.entry.setup.now heading.entry.made A text.items) }
+        → spec.IsWholeAudit P.profile (names_view heading.entry.names.now) (naming_view heading.entry.naming.now) heading.entry.trusted.now heading.entry.setup.now heading.entry.made A text.items) }
 {
     let Heading {
+        names,
         naming,
         trusted,
         setup,
@@ -65,7 +67,7 @@ pub fn whole_audit<P: Profile, S: MakeStore<P> + DerivationStore<P>, W: MakeWait
     let told = told_rows::<P>(alloc, trusted, list.as_slice(), rows.slots.as_slice())?;
     let mut out = String::new(alloc);
     add_head(&mut out, setup, made, None)?;
-    add_opening(&mut out, naming, trusted)?;
+    add_opening(&mut out, names, naming, trusted)?;
     add_threads::<P, S, W>(&mut out, naming, list.as_slice(), kernel)?;
     add_channels(alloc, &mut out, naming, words.as_slice(), &rows.endpoints)?;
     add_revokes::<P, S, W>(

@@ -5,17 +5,17 @@ ghost use Rattle.setup_report.specs.State.{is_in as is_in_list};
 ghost use Rattle.kernel_forest.specs.Forest.{Forest};
 ghost use Rattle.kernel_forest.specs.Entries.{Entry};
 ghost use Rattle.query_reach.specs.FullSlots.{AreFullSlots, AreLawful, AreRising};
-ghost use Rattle.command_audit.specs.Naming.{naming_view};
+ghost use Rattle.setup_values.specs.Names.{names_view};
+ghost use Rattle.setup_naming.specs.Naming.{naming_view};
 ghost use Rattle.command_audit.specs.Threads as spec;
 
-use crate::naming::{Naming, add_naming};
-use crate::objects::Object;
-use crate::text::{DoingText, HeldSlot};
 use cap_core::Profile;
-use command_trace_lines::OfferText;
+use command_trace_lines::{OfferText, add_names};
 use ipc_core::Waiters;
 use kernel_core::Kernel;
 use query_reach::{FullSlot, Held, Reached, held_slots, reached_slots};
+use setup_naming::{DoingText, HeldSlot, Naming, Object};
+use setup_values::Name;
 use slot_core::CapStore;
 use std::alloc::{AllocError, Global};
 use std::collections::BTreeSet;
@@ -203,11 +203,28 @@ pub fn add_threads<P: Profile, S: CapStore<P> + Drop, W: Waiters<P> + Drop>(
 /// # Errors
 ///
 /// Memory was refused.
-pub fn add_opening(out: &mut String, naming: &Naming<'_>, trusted: &[u64]) -> Result<(), AllocError>
-    ensures { OnOk result (string_bytes out.new ≡ string_bytes out.old ++ spec.opening (naming_view naming.now) trusted.now) }
+pub fn add_opening(
+    out: &mut String,
+    names: &[Name],
+    naming: &Naming<'_>,
+    trusted: &[u64],
+) -> Result<(), AllocError>
+    ensures { OnOk result (string_bytes out.new ≡ string_bytes out.old
+        ++ spec.opening (names_view names.now) (naming_view naming.now) trusted.now) }
 {
-    add_naming(out, naming)?;
+    add_naming(out, names, naming)?;
     add_trusted(out, naming, trusted)
+}
+
+/// Adds a line for each name of the set-up, with what it is the address of; none, where addresses are told by names.
+fn add_naming(out: &mut String, names: &[Name], naming: &Naming<'_>) -> Result<(), AllocError>
+    ensures { OnOk result (string_bytes out.new ≡ string_bytes out.old ++ spec.naming_lines (naming_view naming.now).by_name (names_view names.now)) }
+{
+    if naming.is_by_name() {
+        Ok(())
+    } else {
+        add_names(out, names)
+    }
 }
 
 fn add_trusted(out: &mut String, naming: &Naming<'_>, trusted: &[u64]) -> Result<(), AllocError>

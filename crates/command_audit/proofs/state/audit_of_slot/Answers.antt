@@ -1,7 +1,7 @@
 use Rattle.std.proofs.Common.{◌≡◌, ◌++◌, Some, string_bytes, ap, ◌∙◌}
 use Rattle.setup_values.specs.Names.{names_view}
 use Rattle.command_trace_lines.specs.Changes.{changes, lines_of_state}
-use Rattle.command_audit.specs.Naming.{by_addresses}
+use Rattle.setup_naming.specs.Naming.{by_addresses}
 use Rattle.command_audit.specs.Text.{audit_head_line}
 use Rattle.command_audit.specs.Revokes.{shown_after_revoke, revoke_lines}
 use Rattle.command_audit.proofs.Joined.{joined_three}

@@ -6,7 +6,8 @@ use Rattle.slot_core.specs.Calls.{derivation_view}
 use Rattle.kernel_abstract.specs.Shown.{Shown}
 use Rattle.kernel_abstract.specs.State.{shown}
 use Rattle.query_reach.specs.FullSlots.{AreFullSlots}
-use Rattle.command_audit.specs.Naming.{naming_view}
+use Rattle.setup_values.specs.Names.{names_view}
+use Rattle.setup_naming.specs.Naming.{naming_view}
 use Rattle.setup_report.specs.State.{Derived, is_in, threads, endpoints, slot_of, slot_rows}
 use Rattle.command_audit.specs.Text.{audit_head_line}
 use Rattle.command_audit.specs.Threads.{AreSlotsOf, opening, slots_lines}
@@ -21,6 +22,7 @@ use Rattle.command_audit.proofs.state.whole_audit.Goals as goal
 pub returns : goal.returns
 returns g c = λ A reached shows.
     let p = g.P.Profile.profile in
+    let names = names_view c.args.heading.names.now in
     let texts = naming_view c.args.heading.naming.now in
     let trusted = c.args.heading.trusted.now in
     let setup = c.args.heading.setup.now in
@@ -57,7 +59,7 @@ returns g c = λ A reached shows.
           c.in_ok-add_channels.ensures
           (c.in_ok-add_revokes.ensures A reached shows ∙ ap (λ l. string_bytes c.add_channels.new.out ++ l) (flat_seen (revoke_lines_of p texts A) (derivation_view p) c.as_slice-10.result.now))
           ∙ (λ i. audit_head_line setup made None
-          ++ (opening texts trusted
+          ++ (opening names texts trusted
           ++ (flat_map (slots_lines texts (shows i)) (c.as_slice-7.ensures.value i)
           ++ (channel_lines texts (words i) (ends i)
           ++ flat_map (revoke_lines_of p texts A) (rows i))))));

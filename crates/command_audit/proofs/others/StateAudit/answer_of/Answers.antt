@@ -8,7 +8,7 @@ use Rattle.kernel_abstract.specs.Shown.{Shown}
 use Rattle.kernel_abstract.specs.State.{shown}
 use Rattle.command_core.specs.declared.fault.Verdict.TheVariants.{AllMet, Absent}
 use Rattle.command_audit.specs.Audit.{IsWholeAudit}
-use Rattle.command_audit.specs.Naming.{texts_of}
+use Rattle.setup_naming.specs.Naming.{texts_of}
 use Rattle.command_audit.proofs.others.StateAudit.answer_of.Goals as goal
 
 pub returns-then-not-are_meant : goal.returns-then-not-are_meant
@@ -20,7 +20,7 @@ returns-then-not-are_meant g c = λ A reached shows.
     let no : are_meant Thread p names plan (shown A) words ≡ false =
     ap (λ (v : Shown). are_meant Thread p names plan v words) (sym shows) ∙ (sym c.are_meant.ensures ∙ c.if-not-are_meant.true) in
     subst (λ (b : Bool). MatchBool b
-    (IsWholeAudit p (texts_of c.args.self.now.names p names plan (shown A)) (objects_meant Thread p names plan (shown A) words) c.args.setup.now c.args.made A c.absent-none.result.text.items × (c.absent-none.result.verdict ≡ AllMet))
+    (IsWholeAudit p names (texts_of c.args.self.now.names p names plan (shown A)) (objects_meant Thread p names plan (shown A) words) c.args.setup.now c.args.made A c.absent-none.result.text.items × (c.absent-none.result.verdict ≡ AllMet))
     ((c.absent-none.result.text.items ≡ []) × (c.absent-none.result.verdict ≡ Absent)))
     (sym no) (c.absent-none.ensures.text, c.absent-none.ensures.verdict)
 
@@ -34,12 +34,12 @@ returns g c = λ A reached shows.
     ap (λ (v : Shown). are_meant Thread p names plan v words) (sym shows) ∙ (sym c.are_meant.ensures ∙ c.if-not-are_meant.false) in
     let trusted : c.as_slice-trusted.result.now ≡ objects_meant Thread p names plan (shown A) words =
     c.as_slice-trusted.ensures.value ∙ (c.in_ok-trusted.ensures ∙ ap (λ (v : Shown). objects_meant Thread p names plan v words) shows) in
-    let whole : IsWholeAudit p (texts_of c.args.self.now.names p names plan (shown A)) (objects_meant Thread p names plan (shown A) words) c.args.setup.now c.args.made A c.in_ok-text.text.items =
-    subst (λ (t : List ℕ). IsWholeAudit p (texts_of c.args.self.now.names p names plan (shown A)) t c.args.setup.now c.args.made A c.in_ok-text.text.items) trusted (c.in_ok-text.ensures A reached shows) in
+    let whole : IsWholeAudit p names (texts_of c.args.self.now.names p names plan (shown A)) (objects_meant Thread p names plan (shown A) words) c.args.setup.now c.args.made A c.in_ok-text.text.items =
+    subst (λ (t : List ℕ). IsWholeAudit p names (texts_of c.args.self.now.names p names plan (shown A)) t c.args.setup.now c.args.made A c.in_ok-text.text.items) trusted (c.in_ok-text.ensures A reached shows) in
     subst (λ (b : Bool). MatchBool b
-    (IsWholeAudit p (texts_of c.args.self.now.names p names plan (shown A)) (objects_meant Thread p names plan (shown A) words) c.args.setup.now c.args.made A c.new-answer.result.text.items × (c.new-answer.result.verdict ≡ AllMet))
+    (IsWholeAudit p names (texts_of c.args.self.now.names p names plan (shown A)) (objects_meant Thread p names plan (shown A) words) c.args.setup.now c.args.made A c.new-answer.result.text.items × (c.new-answer.result.verdict ≡ AllMet))
     ((c.new-answer.result.text.items ≡ []) × (c.new-answer.result.verdict ≡ Absent)))
     (sym yes) (
-      subst (λ (l : List ℕ). IsWholeAudit p (texts_of c.args.self.now.names p names plan (shown A)) (objects_meant Thread p names plan (shown A) words) c.args.setup.now c.args.made A l) (sym (ap (λ v. v.items) c.new-answer.ensures.text)) whole,
+      subst (λ (l : List ℕ). IsWholeAudit p names (texts_of c.args.self.now.names p names plan (shown A)) (objects_meant Thread p names plan (shown A) words) c.args.setup.now c.args.made A l) (sym (ap (λ v. v.items) c.new-answer.ensures.text)) whole,
       c.new-answer.ensures.verdict,
     )

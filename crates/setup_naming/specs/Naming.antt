@@ -1,5 +1,5 @@
--- How the texts of an audit tell objects, slots and threads: by addresses, or by names.
-use Rattle.std.specs.Prelude.{codes, ℕ, ◌-◌, ◌/◌, ◌^◌, ◌==◌, ◌&&◌, nat_le, nat_lt, Bool, true, false, cond, List, [], ◌++◌, map, find, Option, Some, None, option_and_then, option_copied}
+-- How texts tell objects, slots and threads: by addresses, or by names.
+use Rattle.std.specs.Prelude.{codes, ℕ, ◌-◌, ◌/◌, ◌^◌, ◌==◌, ◌&&◌, nat_le, nat_lt, Bool, true, false, cond, List, ◌++◌, map, find, Option, Some, None, option_and_then, option_copied}
 use Rattle.std.specs.Option.{option_or}
 use Rattle.std.specs.List.{filter_map}
 use Rattle.std.specs.Fmt.{decimal}
@@ -16,21 +16,20 @@ use Rattle.kernel_abstract.specs.State.{shown}
 use Rattle.setup_values.specs.Names.{Names, names_view}
 use Rattle.setup_values.specs.Told.{name_of, thread_name, named_text}
 use Rattle.setup_report.specs.State.{Derived, slot_of}
-use Rattle.command_trace_lines.specs.Names.{name_lines}
-use Rattle.command_audit.specs.declared.objects.Node.{Node}
-use Rattle.command_audit.specs.declared.objects.Object.{Object}
-use Rattle.command_audit.specs.declared.known.ObjectNames.{ObjectNames}
-use Rattle.command_audit.specs.declared.naming.Naming.{Naming}
-use Rattle.command_audit.specs.declared.naming.Naming.TheVariants.{Addresses, Named}
-use Rattle.command_audit.specs.declared.naming.Told.{Told}
-use Rattle.command_audit.specs.declared.naming.Told.TheVariants.{Number, Thread, Name, Space, Index}
+use Rattle.setup_naming.specs.declared.objects.Node.{Node}
+use Rattle.setup_naming.specs.declared.objects.Object.{Object}
+use Rattle.setup_naming.specs.declared.known.ObjectNames.{ObjectNames}
+use Rattle.setup_naming.specs.declared.naming.Naming.{Naming}
+use Rattle.setup_naming.specs.declared.naming.Naming.TheVariants.{Addresses, Named}
+use Rattle.setup_naming.specs.declared.naming.Told.{Told}
+use Rattle.setup_naming.specs.declared.naming.Told.TheVariants.{Number, Thread, Name, Space, Index}
 
--- the text of a thread that a line is about, of another object, and of a slot; and the lines of the names
+-- the text of a thread that a line is about, of another object, and of a slot; and whether names stand in place of addresses
 pub record Texts : Type 0 where
   pub about : ℕ → List ℕ
   pub object : Object → List ℕ
   pub slot : ℕ → List ℕ
-  pub names : List ℕ
+  pub by_name : Bool
 
 -- ---- objects
 
@@ -49,14 +48,15 @@ names_object (Object.CNode base) (CNode other radix guard) = other == base
 names_object (Object.Region base bits) (Untyped other size free) = other == base && size == bits
 names_object object cap = false
 
--- ---- addresses: all are numbers, and the thread that a line is about has its name behind it
+-- ---- addresses
 
+-- all are numbers, and the thread that a line is about has its name behind it
 abbrev pub by_addresses : Names → Texts
 by_addresses names = record {
   about = thread_name names;
   object = λ object. decimal (object_base object);
   slot = decimal;
-  names = name_lines names;
+  by_name = false;
 }
 
 -- ---- the name of an object
@@ -106,13 +106,12 @@ abbrev pub slot_told : (Object → Option (List ℕ)) → ℕ → ℕ → Option
 slot_told name bits slot None = space_or_number slot (name (Object.Thread slot))
 slot_told name bits slot (Some node) = index_or_number bits slot node (name (Object.CNode node.base))
 
--- no line tells what a name is the address of
 abbrev pub by_object_names : (Object → Option (List ℕ)) → ℕ → List Node → Texts
 by_object_names name bits nodes = record {
   about = λ address. object_told name (Object.Thread address);
   object = object_told name;
   slot = λ slot. slot_told name bits slot (find (lies_in_node bits slot) nodes);
-  names = [];
+  by_name = true;
 }
 
 -- the CNodes that full slots name
@@ -138,12 +137,12 @@ row_name names rows object =
 abbrev pub name_by : ObjectNames → Object → Option (List ℕ)
 name_by known object =
     option_or (address_name (names_view known.names.now) known.slots (object_base object))
-    (row_name (names_view known.names.now) known.boot.now object)
+    (row_name (names_view known.names.now) known.boot.items object)
 
--- the texts by which an audit is written: addresses with the names of threads beside them, or names in place of addresses
+-- the texts by which the code writes: addresses with the names of threads beside them, or names in place of addresses
 abbrev pub naming_view : Naming → Texts
 naming_view (Addresses names) = by_addresses (names_view names.now)
-naming_view (Named known) = by_object_names (name_by known.now) known.now.slot_bits known.now.nodes.now
+naming_view (Named known) = by_object_names (name_by known) known.slot_bits known.nodes.items
 
 -- one address as it is written
 abbrev pub told_as : Told → List ℕ

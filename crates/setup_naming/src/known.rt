@@ -6,16 +6,16 @@ use setup_values::Name;
 use slot_core::Derivation;
 
 /// What tells the names of objects and slots.
-#[derive(Clone, Copy)]
+#[derive(Drop)]
 pub struct ObjectNames<'a> {
     /// The names of the set-up.
     pub names: &'a [Name],
     /// How many slots the root CNode has: a name of a number below is one of a slot.
     pub slots: u64,
     /// The full slots of boot.
-    pub boot: &'a [Derivation],
+    pub boot: Vec<Derivation>,
     /// The CNodes.
-    pub nodes: &'a [Node],
+    pub nodes: Vec<Node>,
     /// The bits of the size of a slot.
     pub slot_bits: u32,
     ghost shifts: { slot_bits < 64 },

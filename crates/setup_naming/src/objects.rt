@@ -8,7 +8,7 @@ ghost use Rattle.kernel_abstract.specs.State.{shown};
 ghost use Rattle.kernel_forest.specs.Entries.{derivations_of};
 ghost use Rattle.slot_core.specs.Calls.{derivation_view};
 ghost use Rattle.setup_values.specs.Names.{names_view};
-ghost use Rattle.command_audit.specs.Naming as spec;
+ghost use Rattle.setup_naming.specs.Naming as spec;
 
 use crate::known::ObjectNames;
 use cap_core::{Cap, Profile};
@@ -109,14 +109,14 @@ impl<'a> ObjectNames<'a> {
     pub fn new<P: Profile>(
         names: &'a [Name],
         plan: &BootPlan,
-        boot: &'a [Derivation],
-        nodes: &'a [Node],
+        boot: Vec<Derivation>,
+        nodes: Vec<Node>,
     ) -> ObjectNames<'a>
         requires { IsWithinLimits P.profile plan.now }
         ensures names { result.names.now ≡ names.now }
         ensures slots { result.slots ≡ 2 ^ plan.now.root_radix }
-        ensures boot { result.boot.now ≡ boot.now }
-        ensures nodes { result.nodes.now ≡ nodes.now }
+        ensures boot { result.boot.items ≡ boot.items }
+        ensures nodes { result.nodes.items ≡ nodes.items }
         ensures slot_bits { result.slot_bits ≡ slot_bits P.profile }
     {
         ObjectNames {
@@ -134,7 +134,7 @@ impl<'a> ObjectNames<'a> {
     {
         match address_name(self.names, self.slots, object.base()) {
             Some(name) => Some(name),
-            None => boot_name(self.names, self.boot, object),
+            None => boot_name(self.names, self.boot.as_slice(), object),
         }
     }
 
@@ -147,9 +147,12 @@ impl<'a> ObjectNames<'a> {
 
     /// The CNode in which a slot lies.
     pub fn node_around(&self, slot: u64) -> Option<&Node>
-        ensures { option_copied result ≡ find (spec.lies_in_node self.entry.now.slot_bits slot) self.entry.now.nodes.now }
+        ensures { option_copied result ≡ find (spec.lies_in_node self.entry.now.slot_bits slot) self.entry.now.nodes.items }
     {
-        self.nodes.iter().find(|node| self.lies_in(**node, slot))
+        self.nodes
+            .as_slice()
+            .iter()
+            .find(|node| self.lies_in(**node, slot))
     }
 }
 

@@ -17,9 +17,9 @@ use Rattle.setup_values.specs.Names.{Names, names_view}
 use Rattle.setup_values.specs.Told.{name_of}
 use Rattle.setup_values.proofs.LookUp.{find_map}
 use Rattle.setup_report.specs.State.{Derived, slot_of}
-use Rattle.command_audit.specs.declared.objects.Object.{Object}
-use Rattle.command_audit.specs.declared.known.ObjectNames.{ObjectNames}
-use Rattle.command_audit.specs.Naming.{address_name, boot_name, by_object_names, live_nodes, name_by, names_object, node_of, object_base, row_name, slots_at_boot, texts_of}
+use Rattle.setup_naming.specs.declared.objects.Object.{Object}
+use Rattle.setup_naming.specs.declared.known.ObjectNames.{ObjectNames}
+use Rattle.setup_naming.specs.Naming.{address_name, boot_name, by_object_names, live_nodes, name_by, names_object, node_of, object_base, row_name, slots_at_boot, texts_of}
 
 boot_view : List Derivation → List (ℕ × Cap)
 boot_view rows = map (λ (d : Derivation). (d.slot.place, d.cap)) rows
@@ -47,14 +47,14 @@ nodes_seen p [] = refl
 nodes_seen p (d ∷ rows) = ap (cons_option (node_of d.cap)) (nodes_seen p rows)
 
 pub known_texts : (p : ProfileName) (plan : Plan) (v : Shown) (known : ObjectNames) (boots rows : List Derivation) →
-    known.slots ≡ 2 ^ plan.root_radix → known.slot_bits ≡ slot_bits p → known.boot.now ≡ boots → map (derivation_view p) boots ≡ derivations_of (shown (boot p plan)).derivations →
-    known.nodes.now ≡ filter_map (λ (d : Derivation). node_of d.cap) rows → map (derivation_view p) rows ≡ derivations_of v.derivations →
-    by_object_names (name_by known) known.slot_bits known.nodes.now ≡ texts_of true p (names_view known.names.now) plan v
+    known.slots ≡ 2 ^ plan.root_radix → known.slot_bits ≡ slot_bits p → known.boot.items ≡ boots → map (derivation_view p) boots ≡ derivations_of (shown (boot p plan)).derivations →
+    known.nodes.items ≡ filter_map (λ (d : Derivation). node_of d.cap) rows → map (derivation_view p) rows ≡ derivations_of v.derivations →
+    by_object_names (name_by known) known.slot_bits known.nodes.items ≡ texts_of true p (names_view known.names.now) plan v
 known_texts p plan v known boots rows slots bits is_boot at_boot is_nodes at_rows =
     let names : Names = names_view known.names.now in
-    let boot_is : boot_view known.boot.now ≡ slots_at_boot p plan =
+    let boot_is : boot_view known.boot.items ≡ slots_at_boot p plan =
     ap boot_view is_boot ∙ (boot_seen p boots ∙ ap (map (λ (d : Derived). (slot_of d / slot_size p, d.0.cap))) at_boot) in
-    let rows_are : (object : Object) → row_name names known.boot.now object ≡ boot_name names (slots_at_boot p plan) object =
-    λ object. row_seen names known.boot.now object ∙ ap (λ (l : List (ℕ × Cap)). boot_name names l object) boot_is in
-    let nodes_are : known.nodes.now ≡ live_nodes (derivations_of v.derivations) = is_nodes ∙ (nodes_seen p rows ∙ ap live_nodes at_rows) in
+    let rows_are : (object : Object) → row_name names known.boot.items object ≡ boot_name names (slots_at_boot p plan) object =
+    λ object. row_seen names known.boot.items object ∙ ap (λ (l : List (ℕ × Cap)). boot_name names l object) boot_is in
+    let nodes_are : known.nodes.items ≡ live_nodes (derivations_of v.derivations) = is_nodes ∙ (nodes_seen p rows ∙ ap live_nodes at_rows) in
     λ i. by_object_names (λ (object : Object). option_or (address_name names (slots i) (object_base object)) (rows_are object i)) (bits i) (nodes_are i)

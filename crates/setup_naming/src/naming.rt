@@ -1,21 +1,26 @@
-//! How the texts of an audit tell objects, slots and threads: by addresses, or by names.
-ghost use Rattle.std.specs.Prelude.{◌≡◌, ◌++◌, OnOk, Some, string_bytes};
-ghost use Rattle.command_audit.specs.Naming as spec;
+//! How texts tell objects, slots and threads: by addresses, or by names.
+ghost use Rattle.std.specs.Prelude.{◌≡◌, IfOk, Some};
+ghost use Rattle.kernel_abstract.specs.Plan.{IsPlan};
+ghost use Rattle.setup_values.specs.Names.{names_view};
+ghost use Rattle.setup_naming.specs.Naming as spec;
 
 use crate::known::ObjectNames;
-use crate::objects::Object;
-use command_trace_lines::add_names;
+use crate::objects::{Object, boot_rows, live_nodes};
+use cap_core::Profile;
+use ipc_core::MakeWaiters;
+use kernel_core::{BootPlan, Kernel};
 use setup_values::{Name, ThreadName, thread_name};
-use std::alloc::AllocError;
+use slot_core::{DerivationStore, MakeStore};
+use std::alloc::{AllocError, Global};
 use std::fmt;
 
 /// How addresses are told.
-#[derive(Clone, Copy)]
+#[derive(Drop)]
 pub enum Naming<'a> {
     /// As numbers, a thread that a line is about also by its name.
     Addresses(&'a [Name]),
     /// By the name of the object that is there, where it has one.
-    Named(&'a ObjectNames<'a>),
+    Named(ObjectNames<'a>),
 }
 
 /// An address, as it is told.
@@ -69,7 +74,7 @@ fn space_told<'a>(known: &'a ObjectNames<'a>, slot: u64) -> Told<'a>
 
 /// A slot, by the name of the CNode or of the thread that has it.
 fn slot_told<'a>(known: &'a ObjectNames<'a>, slot: u64) -> Told<'a>
-    ensures { spec.told_as result ≡ (spec.naming_view (Naming.Named known.entry)).slot slot }
+    ensures { spec.told_as result ≡ (spec.naming_view (Naming.Named known.entry.now)).slot slot }
 {
     let Some(node) = known.node_around(slot) else {
         return space_told(known, slot);
@@ -81,6 +86,38 @@ fn slot_told<'a>(known: &'a ObjectNames<'a>, slot: u64) -> Told<'a>
 }
 
 impl<'a> Naming<'a> {
+    /// How a kernel's state is told: by the names of its objects, or by addresses.
+    ///
+    /// # Errors
+    ///
+    /// Memory was refused.
+    pub fn of<P: Profile, S: MakeStore<P> + DerivationStore<P>, W: MakeWaiters<P>>(
+        alloc: Global,
+        by_name: bool,
+        names: &'a [Name],
+        plan: &BootPlan,
+        kernel: &Kernel<P, S, W>,
+    ) -> Result<Naming<'a>, AllocError>
+        requires { IsPlan P.profile plan.now }
+        ensures { IfOk result (λ naming. spec.naming_view naming ≡ spec.texts_of by_name P.profile (names_view names.now) plan.now kernel.now) }
+    {
+        if !by_name {
+            return Ok(Naming::Addresses(names));
+        }
+        let boot = boot_rows::<P, S, W>(alloc, plan)?;
+        let rows = kernel.derivations(alloc)?;
+        let nodes = live_nodes(alloc, rows.as_slice())?;
+        let known = ObjectNames::new::<P>(names, plan, boot, nodes);
+        Ok(Naming::Named(known))
+    }
+
+    /// Whether names stand in place of addresses.
+    pub fn is_by_name(&self) -> bool
+        ensures { result ≡ (spec.naming_view self.now).by_name }
+    {
+        matches!(self, Naming::Named(_))
+    }
+
     /// The thread that a line is about.
     pub fn about(&self, address: u64) -> Told<'_>
         ensures { spec.told_as result ≡ (spec.naming_view self.entry.now).about address }
@@ -109,19 +146,5 @@ impl<'a> Naming<'a> {
             Naming::Addresses(_) => Told::Number(address),
             Naming::Named(known) => slot_told(known, address),
         }
-    }
-}
-
-/// Adds a line for each name of the set-up, with what it is the address of; none, where addresses are told by names.
-///
-/// # Errors
-///
-/// Memory was refused.
-pub fn add_naming(out: &mut String, naming: &Naming<'_>) -> Result<(), AllocError>
-    ensures { OnOk result (string_bytes out.new ≡ string_bytes out.old ++ (spec.naming_view naming.now).names) }
-{
-    match naming {
-        Naming::Addresses(names) => add_names(out, names),
-        Naming::Named(_) => Ok(()),
     }
 }
