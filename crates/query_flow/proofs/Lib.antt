@@ -4,3 +4,7 @@ pub mod Passed
 pub mod Changes
 pub mod Runs
 pub mod Told
+pub mod Settled
+pub mod Apart
+pub mod Quiet
+pub mod Ruled

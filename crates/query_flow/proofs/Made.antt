@@ -1,5 +1,5 @@
 -- What a call may make of a capability names the same object.
-use Rattle.std.proofs.Common.{◌≡◌, ℕ, ◌+◌, ◌⊎◌, inl, inr, Bool, true, false, cond, ◌==◌, nat_le, Some, Ok, refl, sym, subst, ◌∙◌}
+use Rattle.std.proofs.Common.{◌≡◌, ℕ, ◌+◌, ◌⊎◌, inl, inr, Bool, true, false, cond, ◌==◌, nat_le, Some, Ok, refl, sym, ap, subst, bit_and, ◌∙◌}
 use Rattle.std.proofs.lemmas.Bool.{eqb-true}
 use Rattle.cap_core.specs.declared.profile.ProfileName.{ProfileName}
 use Rattle.cap_core.specs.declared.capability.Badge.{Badge}
@@ -8,7 +8,8 @@ use Rattle.cap_core.specs.declared.capability.Cap.TheVariants.{Null, Untyped, En
 use Rattle.cap_core.specs.declared.rights.Rights.{Rights}
 use Rattle.cap_core.specs.Numbers.{word_bits}
 use Rattle.cap_core.specs.Minting.{masked, guard_held, with_data}
-use Rattle.cap_core.proofs.Minting.{bit_in_both}
+use Rattle.std.specs.Int.Bits.{and_self}
+use Rattle.std.proofs.lemmas.Nat.{and_assoc, and_comm}
 use Rattle.kernel_forest.specs.Forest.{Forest}
 use Rattle.kernel_forest.specs.Entries.{Entry}
 use Rattle.cspace_core.specs.Resolution.{is_cnode}
@@ -21,10 +22,17 @@ use Rattle.kernel_abstract.proofs.Checks.FoundSlots.{passed, cond_passed, ok_sam
 use Rattle.kernel_abstract.proofs.Checks.PassedCNodeChecks.{where_some, set_passed, derivable_passed}
 use Rattle.query_flow.specs.Flow.{IsMadeOf}
 
+-- no more of those that are no more than these
+pub few_fit : (a b c : ℕ) → bit_and a b ≡ a → bit_and b c ≡ b → bit_and a c ≡ a
+few_fit a b c h k = ap (λ n. bit_and n c) (sym h) ∙ and_assoc c a b ∙ ap (bit_and a) k ∙ h
+
+few_of_few : (a b : ℕ) → bit_and (bit_and a b) a ≡ bit_and a b
+few_of_few a b = and_comm (bit_and a b) a ∙ sym (and_assoc b a a) ∙ ap (λ n. bit_and n b) (and_self a)
+
 pub made_itself : (cap : Cap) → IsMadeOf cap cap
 made_itself Null = refl
 made_itself (Untyped base bits free) = refl
-made_itself (Endpoint base badge rights) = (badge, (rights, (refl, (inl refl, λ right has. has))))
+made_itself (Endpoint base badge rights) = (badge, (rights, (refl, (inl refl, and_self rights.0))))
 made_itself (CNode base radix guard) = (guard, refl)
 made_itself (Tcb base) = refl
 
@@ -33,7 +41,7 @@ pub made_masked : (rights : Rights) (cap : Cap) → IsMadeOf cap (masked rights 
 made_masked rights Null = refl
 made_masked rights (Untyped base bits free) = refl
 made_masked rights (Endpoint base badge had) =
-    (badge, (record { 0 = _ }, (refl, (inl refl, λ right has. ((bit_in_both had.0 rights.0 right).0 has).0))))
+    (badge, (record { 0 = _ }, (refl, (inl refl, few_of_few had.0 rights.0))))
 made_masked rights (CNode base radix guard) = (guard, refl)
 made_masked rights (Tcb base) = refl
 
@@ -47,7 +55,7 @@ made_data p preserve word (Untyped base bits free) made h = sym (some_same (Unty
 made_data p true word (Endpoint base badge rights) made h = cc
 made_data p false word (Endpoint base badge rights) made h =
     let set = where_some (badge.0 == 0) _ made h in
-    (record { 0 = _ }, (rights, (sym set.1, (inr (eqb-true badge.0 0 set.0), λ right has. has))))
+    (record { 0 = _ }, (rights, (sym set.1, (inr (eqb-true badge.0 0 set.0), and_self rights.0))))
 made_data p preserve word (CNode base radix guard) made h =
     let set = where_some (nat_le ((guard_held p word).size + radix) (word_bits p)) (CNode base radix (guard_held p word)) made h in
     (guard_held p word, sym set.1)
@@ -59,7 +67,7 @@ made_then Null middle made a b = subst (λ m. IsMadeOf m made) a b
 made_then (Untyped base bits free) middle made a b = subst (λ m. IsMadeOf m made) a b
 made_then (Endpoint base badge rights) middle made (other, (few, (is, (fits, among)))) b =
     let (last, (least, (is', (fits', among')))) : IsMadeOf (Endpoint base other few) made = subst (λ m. IsMadeOf m made) is b in
-    (last, (least, (is', (badges fits fits', λ right has. among right (among' right has)))))
+    (last, (least, (is', (badges fits fits', few_fit least.0 few.0 rights.0 among' among))))
   where
     badges : {last : Badge} → ((badge.0 ≡ other.0) ⊎ (badge.0 ≡ 0)) → ((other.0 ≡ last.0) ⊎ (other.0 ≡ 0)) → (badge.0 ≡ last.0) ⊎ (badge.0 ≡ 0)
     badges (inr none) q = inr none

@@ -25,10 +25,10 @@ use Rattle.query_flow.proofs.Passed.{StaysIn}
 use Rattle.query_flow.proofs.Runs.{free_stays, step_held}
 
 module _ (p : ProfileName) (flow : Flow) (settled : IsSettled p flow) (A : State) where
-  abbrev MaySend : ℕ → ℕ → Badge → Type 0
+  abbrev pub MaySend : ℕ → ℕ → Badge → Type 0
   MaySend endpoint thread badge = flow.trusted thread ≡ false → MayUse flow write_bit (flow.set_of thread) endpoint badge
 
-  abbrev MayReceive : ℕ → ℕ → Type 0
+  abbrev pub MayReceive : ℕ → ℕ → Type 0
   MayReceive endpoint thread = flow.trusted thread ≡ false → (badge : Badge) × MayUse flow read_bit (flow.set_of thread) endpoint badge
 
   module _ (B : State) (inv : Invariant B) (wait : Wait p A MaySend MayReceive B) (t : ℕ) where
@@ -68,7 +68,7 @@ module _ (p : ProfileName) (flow : Flow) (settled : IsSettled p flow) (A : State
   fits B call done true trusted reached inv wait held (inr passes) h =
       fits_message B inv wait call.thread trusted done (subst MayBeMessage h (call_passes p (shown B) call passes))
 
-  all_told : (calls : List Call) → IsReached p A → IsHeld flow A.derivations → Each (IsExpected flow) calls → Each (Tells p A MaySend MayReceive) (replies_of p A calls)
+  pub all_told : (calls : List Call) → IsReached p A → IsHeld flow A.derivations → Each (IsExpected flow) calls → Each (Tells p A MaySend MayReceive) (replies_of p A calls)
   all_told calls reached held of =
       run_told p A MaySend MayReceive (λ B. IsHeld flow B.derivations) (IsExpected flow) (λ B call reached held of. step_held p flow settled B call reached held of)
       (λ B call done reached inv wait held of h. fits B call done (flow.trusted call.thread) refl reached inv wait held of h) A calls reached held of

@@ -1,5 +1,5 @@
 -- What may ever stand in which slots, where threads fill only slots that they can name.
-use Rattle.std.specs.Prelude.{◌≡◌, ℕ, ◌+◌, ◌^◌, ◌≤◌, ◌⊎◌, true, false, Bool}
+use Rattle.std.specs.Prelude.{◌≡◌, ℕ, ◌+◌, ◌^◌, ◌≤◌, ◌⊎◌, true, false, Bool, bit_and}
 use Rattle.cap_core.specs.declared.profile.ProfileName.{ProfileName}
 use Rattle.cap_core.specs.declared.capability.Badge.{Badge}
 use Rattle.cap_core.specs.declared.capability.Guard.{Guard}
@@ -11,7 +11,6 @@ use Rattle.cap_core.specs.Objects.{base_of, end_of}
 use Rattle.cspace_core.specs.Inside.{IsSlotOf}
 use Rattle.kernel_forest.specs.Forest.{Forest}
 use Rattle.kernel_forest.specs.Entries.{Entry, cap_at}
-use Rattle.query_parts.specs.Parts.{AreAmong}
 
 -- all slots in sets, by the set's number; what may stand in the slots of a set; which threads are trusted to make no calls but sends and
 -- receives; and of the threads whose root slots lie in a set: in which sets their words may end, and which they may fill and read by
@@ -40,7 +39,7 @@ abbrev pub IsMadeOf : Cap → Cap → Type 0
 IsMadeOf Null made = made ≡ Null
 IsMadeOf (Untyped base bits free) made = made ≡ Untyped base bits free
 IsMadeOf (Endpoint base badge rights) made =
-    (other : Badge) × ((few : Rights) × ((made ≡ Endpoint base other few) × (((badge.0 ≡ other.0) ⊎ (badge.0 ≡ 0)) × AreAmong few rights)))
+    (other : Badge) × ((few : Rights) × ((made ≡ Endpoint base other few) × (((badge.0 ≡ other.0) ⊎ (badge.0 ≡ 0)) × (bit_and few.0 rights.0 ≡ few.0))))
 IsMadeOf (CNode base radix guard) made = (other : Guard) × (made ≡ CNode base radix other)
 IsMadeOf (Tcb base) made = made ≡ Tcb base
 

@@ -56,3 +56,13 @@ abbrev pub TellFlow : ProfileName → Flow → State → List Call → Type 0
 TellFlow p flow A calls =
     IsReached p A → IsSettled p flow → IsHeld flow A.derivations → Each (IsExpected flow) calls →
     Each (TellsOfFlow flow (shown A)) (replies_of p A calls)
+
+-- so it is of a list of calls, by what is shown before them
+pub record HoldsEver (p : ProfileName) (flow : Flow) (v : Shown) (A : State) (calls : List Call) : Type 0 where
+  pub held : IsHeld flow (state_after p A calls).derivations
+  pub deliveries : Each (TellsOfFlow flow v) (replies_of p A calls)
+
+-- whatever calls these threads make from a state that is shown, each slot holds what may stand there, and replies tell of no other deliveries
+abbrev pub IsFlowEver : ProfileName → Flow → Shown → Type 0
+IsFlowEver p flow v =
+    (A : State) → IsReached p A → v ≡ shown A → (calls : List Call) → Each (IsExpected flow) calls → HoldsEver p flow v A calls

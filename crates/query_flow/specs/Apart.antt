@@ -1,0 +1,95 @@
+-- The tests by which a flow excludes that one thread does something to another.
+use Rattle.std.specs.Prelude.{◌≡◌, ℕ, Bool, cond, not, ◌&&◌, ◌||◌, nat_lt, List, [], ◌∷◌, ◌++◌, Option, Some, None, option_map}
+use Rattle.std.specs.List.{list_all, filter_map}
+use Rattle.cap_core.specs.declared.profile.ProfileName.{ProfileName}
+use Rattle.cap_core.specs.declared.capability.Cap.TheVariants.{Tcb}
+use Rattle.cap_core.specs.Rights.{write_bit, read_bit}
+use Rattle.kernel_abstract.specs.declared.call.ThreadState.{ThreadState}
+use Rattle.kernel_abstract.specs.declared.call.ThreadState.TheVariants.{Sending, Receiving}
+use Rattle.kernel_abstract.specs.Decode.{has_right}
+use Rattle.kernel_abstract.specs.Shown.{Shown, state_at}
+use Rattle.query_parts.specs.Listed.{last_in}
+use Rattle.query_flow.specs.declared.listed.Standing.{Standing}
+use Rattle.query_flow.specs.declared.listed.Standing.TheVariants as standing
+use Rattle.query_flow.specs.declared.listed.MayStand.{MayStand}
+use Rattle.query_flow.specs.declared.listed.Caller.{Caller}
+use Rattle.query_flow.specs.declared.listed.Flows.{Flows}
+use Rattle.query_flow.specs.declared.excluded.Spot.{Spot}
+use Rattle.query_flow.specs.Listed.{is_among, set_at, covers, caller_of, has_slots, IsFlow}
+
+-- ---- what a thread names
+
+abbrev pub names_by : Option Caller → List ℕ
+names_by None = []
+names_by (Some k) = k.names.items
+
+-- the sets in which the thread's words may end
+abbrev pub names_in : Flows → ℕ → List ℕ
+names_in flows thread = names_by (caller_of flows.callers.items (set_at flows.memory.items thread))
+
+-- ---- the endpoints that a thread may use with a right, but those that are named: each spot from one address to another
+
+abbrev pub one_at : ℕ → Spot
+one_at address = record { first = address; last = address }
+
+abbrev pub from_to : ℕ → ℕ → Spot
+from_to first last = record { first = first; last = last }
+
+abbrev pub spot_of : ℕ → List ℕ → Standing → Option Spot
+spot_of right by (standing.Endpoint base most rights) = cond (has_right right rights && not (is_among by base)) (Some (one_at base)) None
+spot_of right by (standing.Region base bits) = option_map (from_to base) (last_in base bits)
+spot_of right by what = None
+
+abbrev pub spot_in : ℕ → List ℕ → List ℕ → MayStand → Option Spot
+spot_in right by names s = cond (is_among names s.set) (spot_of right by s.what) None
+
+abbrev pub spot_at : List ℕ → ℕ → Option Spot
+spot_at by endpoint = cond (is_among by endpoint) None (Some (one_at endpoint))
+
+-- where it waits already
+abbrev pub send_spot : List ℕ → Option ThreadState → Option Spot
+send_spot by (Some (Sending endpoint)) = spot_at by endpoint
+send_spot by state = None
+
+abbrev pub receive_spot : List ℕ → Option ThreadState → Option Spot
+receive_spot by (Some (Receiving endpoint)) = spot_at by endpoint
+receive_spot by state = None
+
+abbrev pub and_spot : List Spot → Option Spot → List Spot
+and_spot spots None = spots
+and_spot spots (Some spot) = spots ++ spot ∷ []
+
+abbrev pub sends_of : List ℕ → List MayStand → Shown → List ℕ → ℕ → List Spot
+sends_of names all v by thread = and_spot (filter_map (spot_in write_bit by names) all) (send_spot by (state_at v thread))
+
+abbrev pub receives_of : List ℕ → List MayStand → Shown → List ℕ → ℕ → List Spot
+receives_of names all v by thread = and_spot (filter_map (spot_in read_bit by names) all) (receive_spot by (state_at v thread))
+
+-- no address lies in two spots
+abbrev pub is_apart : Spot → Spot → Bool
+is_apart a b = nat_lt a.last b.first || nat_lt b.last a.first
+
+abbrev pub are_apart : List Spot → List Spot → Bool
+are_apart some others = list_all (λ a. list_all (is_apart a) others) some
+
+-- ---- neither thread is trusted; and nothing that the one may send to the other may receive on
+
+abbrev pub are_free : Flows → ℕ → ℕ → Bool
+are_free flows from to = not (is_among flows.trusted.items from || is_among flows.trusted.items to)
+
+abbrev pub are_kept : Flows → Shown → List ℕ → ℕ → ℕ → Bool
+are_kept flows v by from to =
+    are_apart (sends_of (names_in flows from) flows.standing.items v by from) (receives_of (names_in flows to) flows.standing.items v by to)
+
+-- ---- what stands in the sets that a thread names
+
+abbrev pub names_no_thread : ProfileName → List ℕ → List MayStand → ℕ → Bool
+names_no_thread p names all to = list_all (λ (s : MayStand). not (is_among names s.set && covers p s.what (Tcb to))) all
+
+abbrev pub names_no_node : List ℕ → List MayStand → Bool
+names_no_node names all = list_all (λ (s : MayStand). not (is_among names s.set && has_slots s.what)) all
+
+-- flows that pass the test, with these threads trusted
+pub record IsTested (p : ProfileName) (trusted : List ℕ) (v : Shown) (flows : Flows) : Type 0 where
+  pub trusted_is : flows.trusted.items ≡ trusted
+  pub flow : IsFlow p flows v

@@ -1,0 +1,348 @@
+//! What flows exclude between two threads.
+ghost use Rattle.std.specs.Prelude.{◌≡◌, true, IfOk, IfSome};
+ghost use Rattle.std.specs.List.{list_all, filter_map};
+ghost use Rattle.kernel_abstract.specs.Decode.{has_right as has_right_of};
+ghost use Rattle.query_flow.specs.Listed as listed;
+ghost use Rattle.query_flow.specs.Excluded.{PassesNoneEver, NamesNoneEver, ChangesNoneEver};
+ghost use Rattle.query_flow.specs.Apart as spec;
+
+use crate::listed::{
+    Caller, Flows, MayStand, Standing, caller_of, covers, has_slots, is_flow, is_thread_settled,
+    last_of, set_at,
+};
+use crate::search::flow_of;
+use cap_core::{Cap, Profile, Range, Rights};
+use ipc_core::Waiters;
+use kernel_core::{Kernel, ThreadState};
+use slot_core::DerivationStore;
+use std::alloc::{AllocError, Global};
+
+/// Where endpoints lie that a thread may use: from an address to another.
+#[derive(Clone, Copy)]
+pub struct Spot {
+    pub first: u64,
+    pub last: u64,
+}
+
+fn one_at(address: u64) -> Spot
+    ensures { result ≡ spec.one_at address }
+{
+    Spot {
+        first: address,
+        last: address,
+    }
+}
+
+fn set_of(flows: &Flows, thread: u64) -> u64
+    ensures { result ≡ listed.set_at flows.now.memory.items thread }
+{
+    set_at(flows.memory.as_slice(), thread)
+}
+
+fn names_by(callers: &[Caller], set: u64) -> &[u64]
+    ensures { result.now ≡ spec.names_by (listed.caller_of callers.entry.now set) }
+{
+    let Some(caller) = caller_of(callers, set) else {
+        return &[];
+    };
+    caller.names.as_slice()
+}
+
+/// The sets in which the words of a thread may end.
+fn names_in(flows: &Flows, thread: u64) -> &[u64]
+    ensures { result.now ≡ spec.names_in flows.entry.now thread }
+{
+    let set = set_of(flows, thread);
+    names_by(flows.callers.as_slice(), set)
+}
+
+fn has_right(right: Rights, rights: Rights) -> bool
+    ensures { result ≡ has_right_of right.0 rights }
+{
+    rights.0 & right.0 == right.0
+}
+
+/// The endpoints that what stands lets a thread use with a right, but those that are named.
+fn spot_of(right: Rights, by: &[u64], what: Standing) -> Option<Spot>
+    ensures { result ≡ spec.spot_of right.0 by.now what }
+{
+    match what {
+        Standing::Endpoint { base, rights, .. } => {
+            if has_right(right, rights) && !by.contains(&base) {
+                Some(one_at(base))
+            } else {
+                None
+            }
+        }
+        Standing::Region { base, bits } => {
+            let last = last_of(Range { first: base, bits })?;
+            Some(Spot { first: base, last })
+        }
+        _ => None,
+    }
+}
+
+fn spot_in(right: Rights, by: &[u64], names: &[u64], s: &MayStand) -> Option<Spot>
+    ensures { result ≡ spec.spot_in right.0 by.now names.now s.now }
+{
+    if names.contains(&s.set) {
+        spot_of(right, by, s.what)
+    } else {
+        None
+    }
+}
+
+/// The place of an endpoint that is not named.
+fn spot_at(by: &[u64], endpoint: u64) -> Option<Spot>
+    ensures { result ≡ spec.spot_at by.now endpoint }
+{
+    if by.contains(&endpoint) {
+        None
+    } else {
+        Some(one_at(endpoint))
+    }
+}
+
+/// Where the thread sends that waits to send.
+fn send_spot(by: &[u64], state: Option<ThreadState>) -> Option<Spot>
+    ensures { result ≡ spec.send_spot by.now state }
+{
+    match state {
+        Some(ThreadState::Sending(endpoint)) => spot_at(by, endpoint),
+        _ => None,
+    }
+}
+
+/// Where the thread receives that waits to receive.
+fn receive_spot(by: &[u64], state: Option<ThreadState>) -> Option<Spot>
+    ensures { result ≡ spec.receive_spot by.now state }
+{
+    match state {
+        Some(ThreadState::Receiving(endpoint)) => spot_at(by, endpoint),
+        _ => None,
+    }
+}
+
+/// The endpoints that what stands in some sets lets a thread use with a right, but those that are named.
+fn spots_in(
+    alloc: Global,
+    right: Rights,
+    by: &[u64],
+    names: &[u64],
+    all: &[MayStand],
+) -> Result<Vec<Spot>, AllocError>
+    ensures { IfOk result (λ spots. spots.items ≡ filter_map (spec.spot_in right.0 by.now names.now) all.now) }
+{
+    all.iter()
+        .filter_map(|s| spot_in(right, by, names, s))
+        .collect(alloc)
+}
+
+fn and_spot(spots: &mut Vec<Spot>, spot: Option<Spot>) -> Result<(), AllocError>
+    ensures { IfOk result (λ _. spots.new.items ≡ spec.and_spot spots.old.items spot) }
+{
+    if let Some(spot) = spot {
+        spots.push(spot)?;
+    }
+    Ok(())
+}
+
+/// Where a thread may send, but to the endpoints that are named.
+fn sends_of<P: Profile, S: DerivationStore<P> + Drop, W: Waiters<P> + Drop>(
+    alloc: Global,
+    kernel: &Kernel<P, S, W>,
+    names: &[u64],
+    all: &[MayStand],
+    by: &[u64],
+    thread: u64,
+) -> Result<Vec<Spot>, AllocError>
+    ensures { IfOk result (λ spots. spots.items ≡ spec.sends_of names.now all.now kernel.now by.now thread) }
+{
+    let mut spots = spots_in(alloc, Rights::WRITE, by, names, all)?;
+    and_spot(&mut spots, send_spot(by, kernel.thread_state(thread)))?;
+    Ok(spots)
+}
+
+/// Where a thread may receive, but on the endpoints that are named.
+fn receives_of<P: Profile, S: DerivationStore<P> + Drop, W: Waiters<P> + Drop>(
+    alloc: Global,
+    kernel: &Kernel<P, S, W>,
+    names: &[u64],
+    all: &[MayStand],
+    by: &[u64],
+    thread: u64,
+) -> Result<Vec<Spot>, AllocError>
+    ensures { IfOk result (λ spots. spots.items ≡ spec.receives_of names.now all.now kernel.now by.now thread) }
+{
+    let mut spots = spots_in(alloc, Rights::READ, by, names, all)?;
+    and_spot(&mut spots, receive_spot(by, kernel.thread_state(thread)))?;
+    Ok(spots)
+}
+
+fn is_apart(spot: &Spot, other: &Spot) -> bool
+    ensures { result ≡ spec.is_apart spot.now other.now }
+{
+    spot.last < other.first || other.last < spot.first
+}
+
+fn is_apart_from_all(spot: &Spot, others: &[Spot]) -> bool
+    ensures { result ≡ list_all (spec.is_apart spot.now) others.now }
+{
+    others.iter().all(|other| is_apart(spot, other))
+}
+
+fn are_apart(spots: &[Spot], others: &[Spot]) -> bool
+    ensures { result ≡ spec.are_apart spots.now others.now }
+{
+    spots.iter().all(|spot| is_apart_from_all(spot, others))
+}
+
+/// Whether neither thread is trusted.
+fn are_free(flows: &Flows, from: u64, to: u64) -> bool
+    ensures { result ≡ spec.are_free flows.now from to }
+{
+    let trusted = flows.trusted.as_slice();
+    !(trusted.contains(&from) || trusted.contains(&to))
+}
+
+/// Whether nothing that the one may send to the other may receive on.
+fn are_kept<P: Profile, S: DerivationStore<P> + Drop, W: Waiters<P> + Drop>(
+    alloc: Global,
+    kernel: &Kernel<P, S, W>,
+    flows: &Flows,
+    by: &[u64],
+    from: u64,
+    to: u64,
+) -> Result<bool, AllocError>
+    ensures { IfOk result (λ are. are ≡ spec.are_kept flows.now kernel.now by.now from to) }
+{
+    let (all, first, second) = (
+        flows.standing.as_slice(),
+        names_in(flows, from),
+        names_in(flows, to),
+    );
+    let sends = sends_of::<P, S, W>(alloc, kernel, first, all, by, from)?;
+    let receives = receives_of::<P, S, W>(alloc, kernel, second, all, by, to)?;
+    Ok(are_apart(sends.as_slice(), receives.as_slice()))
+}
+
+fn names_no_thread<P: Profile>(names: &[u64], all: &[MayStand], to: u64) -> bool
+    ensures { result ≡ spec.names_no_thread P.profile names.now all.now to }
+{
+    all.iter().all(|s| !(names.contains(&s.set) && covers::<P>(s.what, Cap::Tcb { base: to })))
+}
+
+fn names_no_node(names: &[u64], all: &[MayStand]) -> bool
+    ensures { result ≡ spec.names_no_node names.now all.now }
+{
+    all.iter()
+        .all(|s| !(names.contains(&s.set) && has_slots(s.what)))
+}
+
+/// Whether a thread's set is settled, and no word of it leads to another thread's control block.
+fn holds_none<P: Profile>(flows: &Flows, from: u64, to: u64) -> bool
+    ensures settled { result ≡ true → listed.is_set_settled P.profile flows.now.memory.items flows.now.standing.items (listed.caller_of flows.now.callers.items (listed.set_at flows.now.memory.items from)) ≡ true }
+    ensures none { result ≡ true → spec.names_no_thread P.profile (spec.names_in flows.now from) flows.now.standing.items to ≡ true }
+{
+    is_thread_settled::<P>(flows, from)
+        && names_no_thread::<P>(names_in(flows, from), flows.standing.as_slice(), to)
+}
+
+/// Whether a thread's set is settled, and no word of it leads to a CNode's capability.
+fn fills_none<P: Profile>(flows: &Flows, from: u64) -> bool
+    ensures settled { result ≡ true → listed.is_set_settled P.profile flows.now.memory.items flows.now.standing.items (listed.caller_of flows.now.callers.items (listed.set_at flows.now.memory.items from)) ≡ true }
+    ensures none { result ≡ true → spec.names_no_node (spec.names_in flows.now from) flows.now.standing.items ≡ true }
+{
+    is_thread_settled::<P>(flows, from)
+        && names_no_node(names_in(flows, from), flows.standing.as_slice())
+}
+
+fn are_alike(some: &[u64], others: &[u64]) -> bool
+    ensures { result ≡ true → some.now ≡ others.now }
+{
+    some == others
+}
+
+/// The flows of a kernel, where those that are found pass the test.
+#[tactic(auto, using(crate::proofs::Ruled::is_tested))]
+fn tested_flow<P: Profile, S: DerivationStore<P> + Drop, W: Waiters<P> + Drop>(
+    alloc: Global,
+    kernel: &Kernel<P, S, W>,
+    trusted: &[u64],
+) -> Result<Option<Flows>, AllocError>
+    ensures { IfOk result (λ found. IfSome found (spec.IsTested P.profile trusted.now kernel.now)) }
+{
+    let flows = flow_of::<P, S, W>(alloc, kernel, trusted)?;
+    let is = is_flow::<P, S, W>(alloc, kernel, &flows)?;
+    if is && are_alike(flows.trusted.as_slice(), trusted) {
+        Ok(Some(flows))
+    } else {
+        Ok(None)
+    }
+}
+
+/// Whether flows exclude that a message of the thread `from` is ever delivered to the thread `to`, but by the endpoints that are named:
+/// whatever calls threads make that are not trusted, and whatever the trusted ones send and receive.
+///
+/// # Errors
+///
+/// Memory was refused.
+#[tactic(auto, using(crate::proofs::Ruled::none_passed))]
+pub fn passes_none<P: Profile, S: DerivationStore<P> + Drop, W: Waiters<P> + Drop>(
+    alloc: Global,
+    kernel: &Kernel<P, S, W>,
+    trusted: &[u64],
+    by: &[u64],
+    from: u64,
+    to: u64,
+) -> Result<bool, AllocError>
+    ensures { IfOk result (λ is. is ≡ true → PassesNoneEver P.profile trusted.now kernel.now by.now from to) }
+{
+    match tested_flow::<P, S, W>(alloc, kernel, trusted)? {
+        None => Ok(false),
+        Some(flows) => {
+            let kept = are_kept::<P, S, W>(alloc, kernel, &flows, by, from, to)?;
+            Ok(are_free(&flows, from, to) && kept)
+        }
+    }
+}
+
+/// Whether flows exclude that a word of the thread `from` ever leads to a capability to the control block of the thread `to`.
+///
+/// # Errors
+///
+/// Memory was refused.
+#[tactic(auto, using(crate::proofs::Ruled::none_named))]
+pub fn names_none<P: Profile, S: DerivationStore<P> + Drop, W: Waiters<P> + Drop>(
+    alloc: Global,
+    kernel: &Kernel<P, S, W>,
+    trusted: &[u64],
+    from: u64,
+    to: u64,
+) -> Result<bool, AllocError>
+    ensures { IfOk result (λ is. is ≡ true → NamesNoneEver P.profile trusted.now kernel.now from to) }
+{
+    match tested_flow::<P, S, W>(alloc, kernel, trusted)? {
+        None => Ok(false),
+        Some(flows) => Ok(holds_none::<P>(&flows, from, to)),
+    }
+}
+
+/// Whether flows exclude that a call of the thread `from` ever changes a slot: it never has a word for a CNode.
+///
+/// # Errors
+///
+/// Memory was refused.
+pub fn changes_none<P: Profile, S: DerivationStore<P> + Drop, W: Waiters<P> + Drop>(
+    alloc: Global,
+    kernel: &Kernel<P, S, W>,
+    trusted: &[u64],
+    from: u64,
+) -> Result<bool, AllocError>
+    ensures { IfOk result (λ is. is ≡ true → ChangesNoneEver P.profile trusted.now kernel.now from) }
+{
+    match tested_flow::<P, S, W>(alloc, kernel, trusted)? {
+        None => Ok(false),
+        Some(flows) => Ok(fills_none::<P>(&flows, from)),
+    }
+}

@@ -1,0 +1,549 @@
+//! Flows as lists, and the tests that one is settled.
+ghost use Rattle.std.specs.Prelude.{◌≡◌, ◌==◌, ◌||◌, not, true, option_copied, IfOk};
+ghost use Rattle.std.specs.List.{list_any, list_all};
+ghost use Rattle.slot_core.specs.Calls.{derivation_view};
+ghost use Rattle.cap_core.specs.Objects.{is_null as null};
+ghost use Rattle.query_parts.specs.Listed.{last_in};
+ghost use Rattle.query_flow.specs.Laws.{IsFlowEver};
+ghost use Rattle.query_flow.specs.Listed as spec;
+
+use cap_core::{Badge, Cap, Profile, Range, Rights, range_of};
+use ipc_core::Waiters;
+use kernel_core::Kernel;
+use query_parts::{PartMemory, part_at};
+use slot_core::{Derivation, DerivationStore};
+use std::alloc::{AllocError, Global};
+
+/// What may stand in the slots of a set.
+#[derive(Clone, Copy, PartialEq, Eq, Debug)]
+pub enum Standing {
+    /// The capability to an untyped region.
+    Untyped {
+        base: u64,
+        bits: u64,
+    },
+    /// All that lies in a region.
+    Region {
+        base: u64,
+        bits: u64,
+    },
+    /// Capabilities to an endpoint, with this badge, or any where it is 0, and these rights at most.
+    Endpoint {
+        base: u64,
+        badge: Badge,
+        rights: Rights,
+    },
+    /// Capabilities to a CNode; where `is_whole`, with guards by which it takes all bits of a word.
+    Node {
+        base: u64,
+        radix: u64,
+        is_whole: bool,
+    },
+    /// The capability to a thread.
+    Thread {
+        base: u64,
+    },
+}
+
+/// That it may stand in the slots of a set.
+#[derive(Clone, Copy, PartialEq, Eq, Debug)]
+pub struct MayStand {
+    pub set: u64,
+    pub what: Standing,
+}
+
+/// The threads whose root slots lie in a set: in which sets their words may end, and which sets they may fill and read.
+#[derive(Drop)]
+pub struct Caller {
+    pub set: u64,
+    pub names: Vec<u64>,
+    pub fills: Vec<u64>,
+}
+
+/// A flow: which set each address lies in, what may stand in the slots of each set, what callers name and fill, and who is trusted to
+/// send and receive alone.
+#[derive(Drop)]
+pub struct Flows {
+    pub memory: Vec<PartMemory>,
+    pub standing: Vec<MayStand>,
+    pub callers: Vec<Caller>,
+    pub trusted: Vec<u64>,
+}
+
+/// The last address of a range; `None` where that is no word.
+pub fn last_of(range: Range) -> Option<u64>
+    ensures { result ≡ last_in range.first range.bits }
+{
+    if range.bits >= 64 {
+        return None;
+    }
+    let more = (1u64 << range.bits) - 1;
+    if range.first > u64::MAX - more {
+        return None;
+    }
+    Some(range.first + more)
+}
+
+/// The set in which an address lies.
+pub fn set_at(memory: &[PartMemory], address: u64) -> u64
+    ensures { result ≡ spec.set_at memory.now address }
+{
+    part_at(memory, address).unwrap_or(0)
+}
+
+fn has_rights(most: Rights, few: Rights) -> bool
+    ensures { result ≡ spec.has_rights most few }
+{
+    few.0 & most.0 == few.0
+}
+
+fn fits_badge(most: Badge, badge: Badge) -> bool
+    ensures { result ≡ spec.fits_badge most badge }
+{
+    most.0 == badge.0 || most.0 == 0
+}
+
+/// Whether a stretch has none of some addresses.
+pub fn misses(memory: &PartMemory, first: u64, last: u64) -> bool
+    ensures { result ≡ spec.misses first last memory.now }
+{
+    memory.last < first || last < memory.first
+}
+
+pub fn has_all(memory: &PartMemory, first: u64, last: u64) -> bool
+    ensures { result ≡ spec.has_all first last memory.now }
+{
+    memory.first <= first && last <= memory.last
+}
+
+fn are_in_one(memory: &[PartMemory], first: u64, last: u64) -> bool
+    ensures { result ≡ list_any (spec.has_all first last) memory.now }
+{
+    memory.iter().any(|m| has_all(m, first, last))
+}
+
+fn are_all_among(memory: &[PartMemory], sets: &[u64], first: u64, last: u64) -> bool
+    ensures { result ≡ list_all (λ m. spec.misses first last m || spec.is_among sets.now m.part) memory.now }
+{
+    memory
+        .iter()
+        .all(|m| misses(m, first, last) || sets.contains(&m.part))
+}
+
+/// Whether all addresses of a range lie in some of these sets.
+fn lie_among(memory: &[PartMemory], sets: &[u64], first: u64, bits: u64) -> bool
+    ensures { result ≡ spec.lie_where (spec.is_among sets.now) memory.now first (last_in first bits) }
+{
+    match last_of(Range { first, bits }) {
+        None => false,
+        Some(last) => are_all_among(memory, sets, first, last) && are_in_one(memory, first, last),
+    }
+}
+
+/// Whether the slots of what a standing stands for lie in some of these sets.
+fn slots_lie<P: Profile>(memory: &[PartMemory], sets: &[u64], what: Standing) -> bool
+    ensures { result ≡ spec.slots_lie P.profile memory.now sets.now what }
+{
+    match what {
+        Standing::Region { base, bits } => lie_among(memory, sets, base, bits),
+        Standing::Node { base, radix, .. } => {
+            lie_among(
+                memory,
+                sets,
+                base,
+                radix.saturating_add(P::SLOT_BITS as u64),
+            )
+        }
+        _ => true,
+    }
+}
+
+/// Whether what stands in some sets has its slots in others.
+fn lead_to<P: Profile>(memory: &[PartMemory], all: &[MayStand], from: &[u64], to: &[u64]) -> bool
+    ensures { result ≡ spec.lead_to P.profile memory.now all.now from.now to.now }
+{
+    all.iter().all(|s| !from.contains(&s.set) || slots_lie::<P>(memory, to, s.what))
+}
+
+fn begins<P: Profile>(memory: &[PartMemory], all: &[MayStand], caller: &Caller) -> bool
+    ensures { result ≡ list_all (λ s. not (s.set == caller.now.set) || spec.slots_lie P.profile memory.now caller.now.names.items s.what) all.now }
+{
+    let names = caller.names.as_slice();
+    all.iter().all(|s| s.set != caller.set || slots_lie::<P>(memory, names, s.what))
+}
+
+/// Whether it is a CNode by which words end, or has no slots.
+fn is_ending(what: Standing) -> bool
+    ensures { result ≡ spec.is_ending what }
+{
+    match what {
+        Standing::Region { .. } => false,
+        Standing::Node { is_whole, .. } => is_whole,
+        _ => true,
+    }
+}
+
+pub fn are_ending(all: &[MayStand], set: u64) -> bool
+    ensures { result ≡ spec.are_ending all.now set }
+{
+    all.iter().all(|s| s.set != set || is_ending(s.what))
+}
+
+/// What a copy may make of it.
+pub fn opened(what: Standing) -> Standing
+    ensures { result ≡ spec.opened what }
+{
+    match what {
+        Standing::Node { base, radix, .. } => Standing::Node {
+            base,
+            radix,
+            is_whole: false,
+        },
+        _ => what,
+    }
+}
+
+/// Whether a range lies in another one.
+fn within(all: Range, some: Range) -> bool
+    ensures { result ≡ spec.within all.first all.bits some.first some.bits }
+{
+    match (last_of(some), last_of(all)) {
+        (Some(last), Some(most)) => all.first <= some.first && last <= most,
+        _ => false,
+    }
+}
+
+/// Whether one stands for all that another stands for.
+fn is_over(most: Standing, what: Standing) -> bool
+    ensures { result ≡ spec.is_over most what }
+{
+    match (most, what) {
+        (
+            Standing::Region { base, bits },
+            Standing::Untyped {
+                base: first,
+                bits: few,
+            }
+            | Standing::Region {
+                base: first,
+                bits: few,
+            },
+        ) => within(Range { first: base, bits }, Range { first, bits: few }),
+        (
+            Standing::Endpoint {
+                base,
+                badge,
+                rights,
+            },
+            Standing::Endpoint {
+                base: other,
+                badge: some,
+                rights: few,
+            },
+        ) => base == other && fits_badge(badge, some) && has_rights(rights, few),
+        (
+            Standing::Node {
+                base,
+                radix,
+                is_whole,
+            },
+            Standing::Node {
+                base: other,
+                radix: bits,
+                is_whole: whole,
+            },
+        ) => base == other && radix == bits && (!is_whole || whole),
+        (Standing::Untyped { .. }, Standing::Untyped { .. })
+        | (Standing::Thread { .. }, Standing::Thread { .. }) => most == what,
+        _ => false,
+    }
+}
+
+pub fn has_over(all: &[MayStand], set: u64, what: Standing) -> bool
+    ensures { result ≡ spec.has_over all.now set what }
+{
+    all.iter().any(|s| s.set == set && is_over(s.what, what))
+}
+
+/// Whether each of some sets has it.
+fn all_have(all: &[MayStand], sets: &[u64], what: Standing) -> bool
+    ensures { result ≡ spec.all_have all.now sets.now what }
+{
+    sets.iter().all(|set| has_over(all, *set, what))
+}
+
+fn are_put(all: &[MayStand], caller: &Caller) -> bool
+    ensures { result ≡ spec.are_put all.now caller.now }
+{
+    let fills = caller.fills.as_slice();
+    all.iter().all(|s| !fills.contains(&s.set) || all_have(all, fills, opened(s.what)))
+}
+
+/// Whether all that may be made of it stands in each of some sets.
+fn is_made(all: &[MayStand], sets: &[u64], what: Standing) -> bool
+    ensures { result ≡ spec.is_made all.now sets.now (spec.made_of what) }
+{
+    match what {
+        Standing::Untyped { base, bits } | Standing::Region { base, bits } => {
+            all_have(all, sets, Standing::Region { base, bits })
+        }
+        _ => true,
+    }
+}
+
+fn are_made(all: &[MayStand], caller: &Caller) -> bool
+    ensures { result ≡ spec.are_made all.now caller.now }
+{
+    let (names, fills) = (caller.names.as_slice(), caller.fills.as_slice());
+    all.iter()
+        .all(|s| !names.contains(&s.set) || is_made(all, fills, s.what))
+}
+
+pub fn has_slots(what: Standing) -> bool
+    ensures { result ≡ spec.has_slots what }
+{
+    matches!(what, Standing::Region { .. } | Standing::Node { .. })
+}
+
+/// Whether each CNode in the sets that a caller names may be a root in a set.
+fn roots_stand(all: &[MayStand], caller: &Caller, set: u64) -> bool
+    ensures { result ≡ spec.roots_stand all.now caller.now set }
+{
+    let names = caller.names.as_slice();
+    all.iter().all(|s| {
+        !(names.contains(&s.set) && has_slots(s.what)) || has_over(all, set, opened(s.what))
+    })
+}
+
+fn roots_stand_in_all(
+    memory: &[PartMemory],
+    all: &[MayStand],
+    caller: &Caller,
+    first: u64,
+    last: u64,
+) -> bool
+    ensures { result ≡ list_all (λ m. spec.misses first last m || spec.roots_stand all.now caller.now m.part) memory.now }
+{
+    memory.iter().all(|m| misses(m, first, last) || roots_stand(all, caller, m.part))
+}
+
+fn threads_get(memory: &[PartMemory], all: &[MayStand], caller: &Caller, what: Standing) -> bool
+    ensures { result ≡ spec.threads_get memory.now all.now caller.now what }
+{
+    match what {
+        Standing::Thread { base } => roots_stand(all, caller, set_at(memory, base)),
+        Standing::Region { base, bits } => match last_of(Range { first: base, bits }) {
+            None => false,
+            Some(last) => roots_stand_in_all(memory, all, caller, base, last)
+                && are_in_one(memory, base, last),
+        },
+        _ => true,
+    }
+}
+
+fn roots_set(memory: &[PartMemory], all: &[MayStand], caller: &Caller) -> bool
+    ensures { result ≡ spec.roots_set memory.now all.now caller.now }
+{
+    let names = caller.names.as_slice();
+    all.iter().all(|s| !names.contains(&s.set) || threads_get(memory, all, caller, s.what))
+}
+
+/// Whether the threads of a caller's set do nothing that is not told.
+fn is_caller_settled<P: Profile>(memory: &[PartMemory], all: &[MayStand], caller: &Caller) -> bool
+    ensures { result ≡ spec.is_caller_settled P.profile memory.now all.now caller.now }
+{
+    let (names, fills) = (caller.names.as_slice(), caller.fills.as_slice());
+    begins::<P>(memory, all, caller)
+        && (are_ending(all, caller.set) || lead_to::<P>(memory, all, names, names))
+        && lead_to::<P>(memory, all, names, fills)
+        && lead_to::<P>(memory, all, fills, fills)
+        && are_put(all, caller)
+        && are_made(all, caller)
+        && roots_set(memory, all, caller)
+}
+
+pub fn caller_of(callers: &[Caller], set: u64) -> Option<&Caller>
+    ensures { option_copied result ≡ spec.caller_of callers.entry.now set }
+{
+    callers.iter().find(|k| k.set == set)
+}
+
+fn is_set_settled<P: Profile>(
+    memory: &[PartMemory],
+    all: &[MayStand],
+    callers: &[Caller],
+    set: u64,
+) -> bool
+    ensures { result ≡ spec.is_set_settled P.profile memory.now all.now (spec.caller_of callers.now set) }
+{
+    match caller_of(callers, set) {
+        None => false,
+        Some(caller) => is_caller_settled::<P>(memory, all, caller),
+    }
+}
+
+fn are_all_settled<P: Profile>(
+    memory: &[PartMemory],
+    all: &[MayStand],
+    callers: &[Caller],
+    first: u64,
+    last: u64,
+) -> bool
+    ensures { result ≡ list_all (λ m. spec.misses first last m || spec.is_set_settled P.profile memory.now all.now (spec.caller_of callers.now m.part)) memory.now }
+{
+    memory.iter().all(|m| {
+        misses(m, first, last) || is_set_settled::<P>(memory, all, callers, m.part)
+    })
+}
+
+pub fn is_thread_settled<P: Profile>(flows: &Flows, thread: u64) -> bool
+    ensures { result ≡ spec.is_set_settled P.profile flows.now.memory.items flows.now.standing.items (spec.caller_of flows.now.callers.items (spec.set_at flows.now.memory.items thread)) }
+{
+    let (memory, all) = (flows.memory.as_slice(), flows.standing.as_slice());
+    let set = set_at(memory, thread);
+    is_set_settled::<P>(memory, all, flows.callers.as_slice(), set)
+}
+
+/// Whether the threads that something stands for are trusted, or do nothing that is not told.
+fn are_threads_settled<P: Profile>(flows: &Flows, what: Standing) -> bool
+    ensures { result ≡ spec.are_threads_settled P.profile flows.now.memory.items flows.now.standing.items flows.now.callers.items flows.now.trusted.items what }
+{
+    let (memory, all) = (flows.memory.as_slice(), flows.standing.as_slice());
+    let callers = flows.callers.as_slice();
+    match what {
+        Standing::Thread { base } => {
+            flows.trusted.as_slice().contains(&base) || is_thread_settled::<P>(flows, base)
+        }
+        Standing::Region { base, bits } => match last_of(Range { first: base, bits }) {
+            None => false,
+            Some(last) => are_all_settled::<P>(memory, all, callers, base, last)
+                && are_in_one(memory, base, last),
+        },
+        _ => true,
+    }
+}
+
+fn is_settled<P: Profile>(flows: &Flows) -> bool
+    ensures { result ≡ spec.is_settled P.profile flows.now.memory.items flows.now.standing.items flows.now.callers.items flows.now.trusted.items }
+{
+    flows
+        .standing
+        .as_slice()
+        .iter()
+        .all(|s| are_threads_settled::<P>(flows, s.what))
+}
+
+/// Whether something stands for a capability.
+pub fn covers<P: Profile>(what: Standing, cap: Cap) -> bool
+    ensures { result ≡ spec.covers P.profile what cap }
+{
+    match (what, cap) {
+        (
+            Standing::Untyped { base, bits },
+            Cap::Untyped {
+                base: other,
+                bits: few,
+                ..
+            },
+        ) => base == other && bits == few as u64,
+        (Standing::Region { base, bits }, _) => {
+            let Some(range) = range_of::<P>(cap) else {
+                return within(Range { first: base, bits }, Range { first: 0, bits: 0 });
+            };
+            within(Range { first: base, bits }, range)
+        }
+        (
+            Standing::Endpoint {
+                base,
+                badge,
+                rights,
+            },
+            Cap::Endpoint {
+                base: other,
+                badge: some,
+                rights: few,
+            },
+        ) => { base == other && fits_badge(badge, some) && has_rights(rights, few) }
+        (
+            Standing::Node {
+                base,
+                radix,
+                is_whole,
+            },
+            Cap::CNode {
+                base: other,
+                radix: bits,
+                guard,
+            },
+        ) => {
+            base == other
+                && radix == bits as u64
+                && (!is_whole || guard.size as u64 + bits as u64 == P::WORD_BITS as u64)
+        }
+        (Standing::Thread { base }, Cap::Tcb { base: other }) => base == other,
+        _ => false,
+    }
+}
+
+fn stands_for<P: Profile>(s: &MayStand, set: u64, cap: Cap) -> bool
+    ensures { result ≡ spec.may_in P.profile set cap s.now }
+{
+    s.set == set && covers::<P>(s.what, cap)
+}
+
+fn is_null(cap: Cap) -> bool
+    ensures { result ≡ null cap }
+{
+    matches!(cap, Cap::Null)
+}
+
+fn has_one_for<P: Profile>(all: &[MayStand], set: u64, cap: Cap) -> bool
+    ensures { result ≡ list_any (spec.may_in P.profile set cap) all.now }
+{
+    all.iter().any(|s| stands_for::<P>(s, set, cap))
+}
+
+/// Whether a capability may stand in a set.
+fn may_stand<P: Profile>(all: &[MayStand], set: u64, cap: Cap) -> bool
+    ensures { result ≡ spec.may_stand P.profile all.now set cap }
+{
+    is_null(cap) || has_one_for::<P>(all, set, cap)
+}
+
+fn is_slot_told<P: Profile>(flows: &Flows, slot: u64, cap: Cap) -> bool
+    ensures { result ≡ spec.may_stand P.profile flows.now.standing.items (spec.set_at flows.now.memory.items slot) cap }
+{
+    let set = set_at(flows.memory.as_slice(), slot);
+    may_stand::<P>(flows.standing.as_slice(), set, cap)
+}
+
+fn is_told<P: Profile>(flows: &Flows, derivation: &Derivation) -> bool
+    ensures { result ≡ spec.is_entry_told P.profile flows.now.memory.items flows.now.standing.items (derivation_view P.profile derivation.now).0 }
+{
+    let slot = derivation.slot.address::<P>();
+    is_slot_told::<P>(flows, slot, derivation.cap)
+}
+
+fn are_told<P: Profile>(flows: &Flows, derivations: &[Derivation]) -> bool
+    ensures { result ≡ list_all (λ d. spec.is_entry_told P.profile flows.now.memory.items flows.now.standing.items (derivation_view P.profile d).0) derivations.now }
+{
+    derivations.iter().all(|d| is_told::<P>(flows, d))
+}
+
+/// Whether a flow is settled, and tells what the slots of a kernel hold. Where it is so, it stays so, whatever calls threads make that
+/// are not trusted, and whatever others send and receive.
+///
+/// # Errors
+///
+/// Memory was refused.
+pub fn is_flow<P: Profile, S: DerivationStore<P> + Drop, W: Waiters<P> + Drop>(
+    alloc: Global,
+    kernel: &Kernel<P, S, W>,
+    flows: &Flows,
+) -> Result<bool, AllocError>
+    ensures test { IfOk result (λ is. is ≡ true → spec.IsFlow P.profile flows.now kernel.now) }
+    ensures ever { IfOk result (λ is. is ≡ true → IsFlowEver P.profile (spec.flow_of_lists P.profile flows.now) kernel.now) }
+{
+    let derivations = kernel.derivations(alloc)?;
+    Ok(is_settled::<P>(flows) && are_told::<P>(flows, derivations.as_slice()))
+}
