@@ -201,7 +201,7 @@ impl<'a> System<'a> {
         let kind = element.name;
         let number = ELEMENTS.iter().position(|name| *name == kind);
         let words = ATTRIBUTES.get(number.unwrap_or(0)).copied().unwrap_or("");
-        let known: Vec<&str> = words.split(' ').collect(self.alloc)?;
+        let known: Vec<&str> = words.split_ascii_whitespace().collect(self.alloc)?;
         for attribute in element.attributes.as_slice() {
             let (name, spot) = (attribute.name, attribute.spot);
             if !known.as_slice().contains(&name) {
