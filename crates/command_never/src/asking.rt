@@ -3,6 +3,7 @@ ghost use Rattle.std.specs.Prelude.{◌≡◌, ℕ, [], IfOk, true};
 ghost use Rattle.kernel_abstract.specs.Memory.{IsInMemory};
 ghost use Rattle.kernel_abstract.specs.Plan.{IsWithinLimits};
 ghost use Rattle.setup_values.specs.Names.{names_view};
+ghost use Rattle.setup_naming.specs.Naming.{naming_view};
 ghost use Rattle.setup_objects.specs.declared.meant.ObjectKind.TheVariants as objects;
 ghost use Rattle.setup_objects.specs.Meant as words;
 ghost use Rattle.command_parts.specs.Threads as meant;
@@ -17,6 +18,7 @@ use ipc_core::{MakeWaiters, Waiters};
 use kernel_core::Kernel;
 use query_parts::PartsFault;
 use setup_format::{ReadSetup, Setup};
+use setup_naming::Naming;
 use setup_objects::{ObjectKind, absent_object, are_meant, object_meant};
 use setup_report::calls_made;
 use setup_values::Name;
@@ -37,6 +39,8 @@ pub struct Question<'a> {
     pub from: &'a str,
     pub to: &'a str,
     pub by: &'a [&'a str],
+    /// Whether objects that have a name are told by it, and parts by their threads.
+    pub names: bool,
     pub after: Option<u64>,
 }
 
@@ -63,7 +67,7 @@ fn are_live<P: Profile, S: CapStore<P> + Drop, W: Waiters<P> + Drop>(
 /// The answer of two live threads, which stands in the heading's set-up.
 fn answer_between<P: Profile, S: DerivationStore<P> + Drop, W: Waiters<P> + Drop>(
     alloc: Global,
-    names: &[Name],
+    naming: &Naming<'_>,
     heading: &Heading<'_>,
     from: u64,
     to: u64,
@@ -72,10 +76,10 @@ fn answer_between<P: Profile, S: DerivationStore<P> + Drop, W: Waiters<P> + Drop
 ) -> Result<Answer, AllocError>
     requires live { spec.are_live kernel.now from to ≡ true }
     requires memory { (memory : ℕ) × IsInMemory P.profile memory kernel.now }
-    ensures { IfOk result (λ made. spec.IsAnsweredOf P.profile (names_view names.now) heading.now.setup.now heading.now.made heading.now.refused
+    ensures { IfOk result (λ made. spec.IsAnsweredOf P.profile (naming_view naming.now) heading.now.setup.now heading.now.made heading.now.refused
         heading.now.without.now heading.now.messages.now kernel.now by.now from to made.text.items made.verdict) }
 {
-    match never_gets::<P, S, W>(alloc, names, heading, from, to, by, kernel) {
+    match never_gets::<P, S, W>(alloc, naming, heading, from, to, by, kernel) {
         Ok((text, answer)) => Ok(Answer::new(alloc, text, verdict_of(answer))),
         Err(PartsFault::Memory) => Err(AllocError),
         Err(PartsFault::Block) => unreachable!(),
@@ -99,6 +103,7 @@ impl Question<'_> {
     fn answer_of<P: Profile, S: DerivationStore<P> + Drop, W: Waiters<P> + Drop>(
         &self,
         alloc: Global,
+        naming: &Naming<'_>,
         names: &[Name],
         setup: &Setup,
         made: usize,
@@ -109,7 +114,7 @@ impl Question<'_> {
     ) -> Result<Answer, AllocError>
         requires limits { IsWithinLimits P.profile setup.now.plan }
         requires memory { (memory : ℕ) × IsInMemory P.profile memory kernel.now }
-        ensures { IfOk result (λ answer. spec.IsAnsweredOf P.profile (names_view names.now) setup.now made refused
+        ensures { IfOk result (λ answer. spec.IsAnsweredOf P.profile (naming_view naming.now) setup.now made refused
             (meant.objects_named objects.Thread P.profile (names_view names.now) setup.now.plan kernel.now (spec.asked_never self.now).trust.without)
             (meant.objects_named objects.Thread P.profile (names_view names.now) setup.now.plan kernel.now (spec.asked_never self.now).trust.messages)
             kernel.now (meant.objects_named objects.Endpoint P.profile (names_view names.now) setup.now.plan kernel.now (spec.asked_never self.now).by)
@@ -131,7 +136,7 @@ impl Question<'_> {
             messages: messages.as_slice(),
         };
         let by = by.as_slice();
-        answer_between::<P, S, W>(alloc, names, &heading, from, to, by, kernel)
+        answer_between::<P, S, W>(alloc, naming, &heading, from, to, by, kernel)
     }
 
     /// What is told where no thread is live at one of the two addresses.
@@ -150,6 +155,7 @@ impl Question<'_> {
     fn answer_meant<P: Profile, S: DerivationStore<P> + Drop, W: Waiters<P> + Drop>(
         &self,
         alloc: Global,
+        naming: &Naming<'_>,
         names: &[Name],
         setup: &Setup,
         made: usize,
@@ -158,7 +164,7 @@ impl Question<'_> {
     ) -> Result<Answer, AllocError>
         requires limits { IsWithinLimits P.profile setup.now.plan }
         requires memory { (memory : ℕ) × IsInMemory P.profile memory kernel.now }
-        ensures { IfOk result (λ answer. spec.IsNeverAnswered P.profile (names_view names.now) setup.now made refused kernel.now (spec.asked_never self.now)
+        ensures { IfOk result (λ answer. spec.IsNeverAnswered (naming_view naming.now) P.profile (names_view names.now) setup.now made refused kernel.now (spec.asked_never self.now)
             (words.object_meant objects.Thread P.profile (names_view names.now) setup.now.plan kernel.now self.now.from.now)
             (words.object_meant objects.Thread P.profile (names_view names.now) setup.now.plan kernel.now self.now.to.now) answer.text.items answer.verdict) }
     {
@@ -167,7 +173,9 @@ impl Question<'_> {
         let to = object_meant::<P, S, W>(names, setup, kernel, kind, self.to.as_bytes());
         match (from, to) {
             (Some(from), Some(to)) => {
-                self.answer_of::<P, S, W>(alloc, names, setup, made, refused, kernel, from, to)
+                self.answer_of::<P, S, W>(
+                    alloc, naming, names, setup, made, refused, kernel, from, to,
+                )
             }
             _ => {
                 let absent = self.absent::<P, S, W>(alloc, names, setup, kernel)?;
@@ -222,6 +230,7 @@ impl Question<'_> {
     fn answer_by<P: Profile, S: DerivationStore<P> + Drop, W: Waiters<P> + Drop>(
         &self,
         alloc: Global,
+        naming: &Naming<'_>,
         names: &[Name],
         setup: &Setup,
         made: usize,
@@ -230,13 +239,13 @@ impl Question<'_> {
     ) -> Result<Answer, AllocError>
         requires limits { IsWithinLimits P.profile setup.now.plan }
         requires memory { (memory : ℕ) × IsInMemory P.profile memory kernel.now }
-        ensures { IfOk result (λ answer. spec.IsNeverBy (spec.asked_never self.now) P.profile (names_view names.now) setup.now made refused kernel.now answer.text.items answer.verdict) }
+        ensures { IfOk result (λ answer. spec.IsNeverBy (spec.asked_never self.now) (naming_view naming.now) P.profile (names_view names.now) setup.now made refused kernel.now answer.text.items answer.verdict) }
     {
         if !self.has_asked::<P, S, W>(names, setup, kernel) {
             let absent = self.absent::<P, S, W>(alloc, names, setup, kernel)?;
             return Ok(absent_answer(alloc, absent));
         }
-        self.answer_meant::<P, S, W>(alloc, names, setup, made, refused, kernel)
+        self.answer_meant::<P, S, W>(alloc, naming, names, setup, made, refused, kernel)
     }
 }
 
@@ -258,6 +267,7 @@ impl Command for Question<'_> {
             return Ok(Answer::absent(alloc, absent));
         };
         let (kernel, refused) = kernel_behind::<P, S, W>(alloc, setup, made)?;
-        self.answer_by::<P, S, W>(alloc, names, setup, made, refused, &kernel)
+        let naming = Naming::of::<P, S, W>(alloc, self.names, names, setup.plan(), &kernel)?;
+        self.answer_by::<P, S, W>(alloc, &naming, names, setup, made, refused, &kernel)
     }
 }

@@ -5,8 +5,10 @@ use Rattle.kernel_abstract.specs.Shown.{Shown}
 use Rattle.query_parts.specs.declared.listed.PartMemory.{PartMemory}
 use Rattle.query_parts.specs.declared.listed.PartUse.{PartUse}
 use Rattle.query_parts.specs.Listed.{part_at}
-use Rattle.setup_values.specs.Names.{Names}
 use Rattle.setup_format.specs.Views.{SetupView}
+use Rattle.setup_report.specs.State.{threads}
+use Rattle.setup_naming.specs.Naming.{Texts}
+use Rattle.command_parts.specs.Telling.{part_texts}
 use Rattle.command_never_text.specs.declared.never.Never.{Never}
 use Rattle.command_never_text.specs.declared.never.Never.TheVariants.{Excluded, Possible}
 use Rattle.command_parts.specs.Ever.{AreRightParts}
@@ -20,7 +22,7 @@ excluded : (open_between : Bool) → cond open_between Possible Excluded ≡ Exc
 excluded true h = cc
 excluded false h = refl
 
-module _ (p : ProfileName) (names : Names) (setup : SetupView) (made refused : ℕ) (without messages : List ℕ) (v : Shown) (by : List ℕ) (from to : ℕ) (memory : List PartMemory) (uses : List PartUse)
+module _ (p : ProfileName) (texts : Texts) (setup : SetupView) (made refused : ℕ) (without messages : List ℕ) (v : Shown) (by : List ℕ) (from to : ℕ) (memory : List PartMemory) (uses : List PartUse)
     (right : AreRightParts p v (without ++ messages) memory uses) where
   kept_between : (first second : Option ℕ) → part_at memory from ≡ first → part_at memory to ≡ second →
       never_between p memory uses (waits p v) by first second ≡ Excluded → AreThreadsKept p memory uses v by from to
@@ -35,8 +37,8 @@ module _ (p : ProfileName) (names : Names) (setup : SetupView) (made refused : �
   }
 
   pub answered : {A E : Type 0} (r : Result A E) (text : A → List ℕ) (answer : A → Never) →
-      IfOk r (λ a. IsNeverText p names setup made refused without messages memory uses v by from to (text a)) → IfOk r (λ a. answer a ≡ never p memory uses (waits p v) by from to) →
-      IfOk r (λ a. IsNeverOf p names setup made refused without messages v by from to (text a) (answer a))
+      IfOk r (λ a. IsNeverText p (part_texts texts memory (threads p v)) setup made refused without messages memory uses v by from to (text a)) → IfOk r (λ a. answer a ≡ never p memory uses (waits p v) by from to) →
+      IfOk r (λ a. IsNeverOf p texts setup made refused without messages v by from to (text a) (answer a))
   answered (Ok a) text answer told is = record {
     memory = memory;
     uses = uses;

@@ -25,7 +25,7 @@ use Rattle.query_parts.specs.declared.listed.PartMemory.{PartMemory}
 use Rattle.query_parts.specs.declared.listed.PartUse.{PartUse}
 use Rattle.query_parts.specs.Parts.{Parts, IsOwned, IsWithin}
 use Rattle.query_parts.specs.Listed.{part_at, parts_listed}
-use Rattle.query_parts.specs.Laws.{AreClosed, IsAllowed, MayUse}
+use Rattle.query_parts.specs.Laws.{AreClosed, IsAllowed}
 use Rattle.query_parts.specs.Delivered.{WaitsOrIsSentWithin, WaitsOrIsReceivedWithin, TellsOnlyWithin}
 use Rattle.query_parts.specs.Ever.{AreConfinedEver}
 use Rattle.query_parts.proofs.Delivered.{deliver_within}

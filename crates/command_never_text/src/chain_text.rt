@@ -4,17 +4,17 @@ ghost use Rattle.std.specs.List.{flat_map};
 ghost use Rattle.kernel_forest.specs.Forest.{Forest};
 ghost use Rattle.kernel_forest.specs.Entries.{Entry};
 ghost use Rattle.query_reach.specs.FullSlots.{AreFullSlots};
-ghost use Rattle.setup_values.specs.Names.{names_view};
+ghost use Rattle.command_parts.specs.Telling.{part_naming_view};
 ghost use Rattle.cap_core.specs.Numbers.{tcb_size as tcb_size_of};
 ghost use Rattle.command_never_text.specs.Never as answers;
 ghost use Rattle.command_never_text.specs.Chains as spec;
 
 use crate::never::{Between, Layout, endpoint_size, endpoints_met, has_bytes, is_open};
 use cap_core::Profile;
+use command_parts::PartNaming;
 use query_parts::PartMemory;
 use query_reach::{FullSlot, Target, shortest_chain};
-use setup_report::CapText;
-use setup_values::{Name, thread_name};
+use setup_naming::Object;
 use std::alloc::{AllocError, Global};
 use std::fmt::Write;
 
@@ -26,60 +26,66 @@ fn tcb_size<P: Profile>() -> u64
     1u64 << P::TCB_BITS
 }
 
-fn add_slot(out: &mut String, slot: &FullSlot) -> Result<(), AllocError>
-    ensures { OnOk result (string_bytes out.new ≡ string_bytes out.old ++ spec.chain_slot_line slot.now) }
+fn add_slot(out: &mut String, told: &PartNaming<'_>, slot: &FullSlot) -> Result<(), AllocError>
+    ensures { OnOk result (string_bytes out.new ≡ string_bytes out.old ++ spec.chain_slot_line (part_naming_view told.now).texts slot.now) }
 {
-    let address = slot.address;
-    let cap = CapText(slot.cap);
-    writeln!(out, "  slot {address} {cap}")
+    let held = told.held(slot.address, slot.cap);
+    writeln!(out, "  slot {held}")
 }
 
-fn add_slots(out: &mut String, chain: &[FullSlot]) -> Result<(), AllocError>
-    ensures { OnOk result (string_bytes out.new ≡ string_bytes out.old ++ flat_map spec.chain_slot_line chain.now) }
+fn add_slots(out: &mut String, told: &PartNaming<'_>, chain: &[FullSlot]) -> Result<(), AllocError>
+    ensures { OnOk result (string_bytes out.new ≡ string_bytes out.old ++ flat_map (spec.chain_slot_line (part_naming_view told.now).texts) chain.now) }
 {
     for slot in chain {
-        add_slot(out, slot)?;
+        add_slot(out, told, slot)?;
     }
     Ok(())
 }
 
-fn add_head(out: &mut String, names: &[Name], thread: u64, target: u64) -> Result<(), AllocError>
-    ensures { OnOk result (string_bytes out.new ≡ string_bytes out.old ++ spec.chain_line (names_view names.now) thread target) }
+fn add_head(
+    out: &mut String,
+    told: &PartNaming<'_>,
+    thread: u64,
+    object: Object,
+) -> Result<(), AllocError>
+    ensures { OnOk result (string_bytes out.new ≡ string_bytes out.old ++ spec.chain_line (part_naming_view told.now).texts thread object) }
 {
-    let name = thread_name(names, thread);
-    writeln!(out, "chain {name} -> {target}")
+    let name = told.thread(thread);
+    let object = told.object(object);
+    writeln!(out, "chain {name} -> {object}")
 }
 
 /// Adds the lines of a chain, where it has slots.
 fn add_chain(
     out: &mut String,
-    names: &[Name],
+    told: &PartNaming<'_>,
     thread: u64,
-    target: u64,
+    object: Object,
     chain: &[FullSlot],
 ) -> Result<(), AllocError>
-    ensures { OnOk result (string_bytes out.new ≡ string_bytes out.old ++ spec.chain_lines (names_view names.now) thread target chain.now) }
+    ensures { OnOk result (string_bytes out.new ≡ string_bytes out.old ++ spec.chain_lines (part_naming_view told.now).texts thread object chain.now) }
 {
     if chain.is_empty() {
         return Ok(());
     }
-    add_head(out, names, thread, target)?;
-    add_slots(out, chain)
+    add_head(out, told, thread, object)?;
+    add_slots(out, told, chain)
 }
 
-/// The text of a shortest chain from a thread's root slot to a capability that is sought; nothing where there is no chain.
+/// The text of a shortest chain from a thread's root slot to a capability that is sought, to an object; nothing where there is no chain.
 fn chain_text<P: Profile>(
     alloc: Global,
-    names: &[Name],
+    told: &PartNaming<'_>,
     filled: &[FullSlot],
     thread: u64,
+    object: Object,
     target: &Target,
 ) -> Result<String, AllocError>
-    ensures { IfOk result (λ text. (f : Forest Entry) → AreFullSlots f filled.now → spec.IsChainText P.profile (names_view names.now) f thread target.now (string_bytes text)) }
+    ensures { IfOk result (λ text. (f : Forest Entry) → AreFullSlots f filled.now → spec.IsChainText P.profile (part_naming_view told.now).texts f thread object target.now (string_bytes text)) }
 {
     let chain = shortest_chain::<P>(alloc, filled, thread, target)?;
     let mut out = String::new(alloc);
-    add_chain(&mut out, names, thread, target.first, chain.as_slice())?;
+    add_chain(&mut out, told, thread, object, chain.as_slice())?;
     Ok(out)
 }
 
@@ -97,15 +103,16 @@ fn control_block<P: Profile>(thread: u64) -> Target
 /// The chains from each of two threads to the other's control block.
 fn chains_within<P: Profile>(
     alloc: Global,
-    names: &[Name],
+    told: &PartNaming<'_>,
     filled: &[FullSlot],
     from: u64,
     to: u64,
 ) -> Result<String, AllocError>
-    ensures { IfOk result (λ text. (f : Forest Entry) → AreFullSlots f filled.now → spec.AreChainsWithin P.profile (names_view names.now) f from to (string_bytes text)) }
+    ensures { IfOk result (λ text. (f : Forest Entry) → AreFullSlots f filled.now → spec.AreChainsWithin P.profile (part_naming_view told.now).texts f from to (string_bytes text)) }
 {
-    let mut there = chain_text::<P>(alloc, names, filled, from, &control_block::<P>(to))?;
-    let back = chain_text::<P>(alloc, names, filled, to, &control_block::<P>(from))?;
+    let (first, last) = (Object::Thread(from), Object::Thread(to));
+    let mut there = chain_text::<P>(alloc, told, filled, from, last, &control_block::<P>(to))?;
+    let back = chain_text::<P>(alloc, told, filled, to, first, &control_block::<P>(from))?;
     there.push_str(back.as_str())?;
     Ok(there)
 }
@@ -137,20 +144,21 @@ fn open_endpoint<P: Profile>(memory: &[PartMemory], part: u64, endpoint: u64) ->
 /// The chain to the first endpoint that is open to a part, where there is one.
 fn chain_to_open<P: Profile>(
     alloc: Global,
-    names: &[Name],
+    told: &PartNaming<'_>,
     filled: &[FullSlot],
     memory: &[PartMemory],
     part: u64,
     from: u64,
     first: Option<u64>,
 ) -> Result<String, AllocError>
-    ensures { IfOk result (λ text. (f : Forest Entry) → AreFullSlots f filled.now → spec.IsChainToOpen P.profile (names_view names.now) f memory.now part from first (string_bytes text)) }
+    ensures { IfOk result (λ text. (f : Forest Entry) → AreFullSlots f filled.now → spec.IsChainToOpen P.profile (part_naming_view told.now).texts f memory.now part from first (string_bytes text)) }
 {
     match first {
         None => Ok(String::new(alloc)),
         Some(endpoint) => {
             let target = open_endpoint::<P>(memory, part, endpoint);
-            chain_text::<P>(alloc, names, filled, from, &target)
+            let object = Object::Endpoint(endpoint);
+            chain_text::<P>(alloc, told, filled, from, object, &target)
         }
     }
 }
@@ -158,40 +166,40 @@ fn chain_to_open<P: Profile>(
 /// The chains of two threads of one part; nothing of a thread and itself.
 fn chains_of_one_part<P: Profile>(
     alloc: Global,
-    names: &[Name],
+    told: &PartNaming<'_>,
     filled: &[FullSlot],
     from: u64,
     to: u64,
 ) -> Result<String, AllocError>
-    ensures { IfOk result (λ text. (f : Forest Entry) → AreFullSlots f filled.now → spec.AreChainsOfOnePart P.profile (names_view names.now) f from to (string_bytes text)) }
+    ensures { IfOk result (λ text. (f : Forest Entry) → AreFullSlots f filled.now → spec.AreChainsOfOnePart P.profile (part_naming_view told.now).texts f from to (string_bytes text)) }
 {
     if from == to {
         return Ok(String::new(alloc));
     }
-    chains_within::<P>(alloc, names, filled, from, to)
+    chains_within::<P>(alloc, told, filled, from, to)
 }
 
 /// The chain to the first endpoint that is open from one part to another.
 fn chain_between_parts<P: Profile>(
     alloc: Global,
-    names: &[Name],
+    told: &PartNaming<'_>,
     filled: &[FullSlot],
     layout: &Layout<'_>,
     between: &Between<'_>,
     from: u64,
 ) -> Result<String, AllocError>
-    ensures { IfOk result (λ text. (f : Forest Entry) → AreFullSlots f filled.now → spec.IsChainToOpen P.profile (names_view names.now) f layout.now.memory.now between.now.to from
+    ensures { IfOk result (λ text. (f : Forest Entry) → AreFullSlots f filled.now → spec.IsChainToOpen P.profile (part_naming_view told.now).texts f layout.now.memory.now between.now.to from
         (find (answers.is_open P.profile layout.now.memory.now layout.now.uses.now layout.now.waits.now between.now.by.now between.now.from between.now.to) (answers.endpoints_met layout.now.uses.now layout.now.waits.now)) (string_bytes text)) }
 {
     let endpoints = endpoints_met(alloc, layout)?;
     let first = first_open::<P>(layout, between, endpoints.as_slice());
-    chain_to_open::<P>(alloc, names, filled, layout.memory, between.to, from, first)
+    chain_to_open::<P>(alloc, told, filled, layout.memory, between.to, from, first)
 }
 
 /// The chains that are told for threads of two parts, which may be one. `filled` has all full slots.
 fn chains_of_parts<P: Profile>(
     alloc: Global,
-    names: &[Name],
+    told: &PartNaming<'_>,
     filled: &[FullSlot],
     layout: &Layout<'_>,
     between: &Between<'_>,
@@ -199,12 +207,12 @@ fn chains_of_parts<P: Profile>(
     to: u64,
 ) -> Result<String, AllocError>
     ensures { IfOk result (λ text. (f : Forest Entry) → AreFullSlots f filled.now →
-        spec.AreChainsOfParts P.profile (names_view names.now) f layout.now.memory.now layout.now.uses.now layout.now.waits.now between.now.by.now from to between.now.from between.now.to (string_bytes text)) }
+        spec.AreChainsOfParts P.profile (part_naming_view told.now).texts f layout.now.memory.now layout.now.uses.now layout.now.waits.now between.now.by.now from to between.now.from between.now.to (string_bytes text)) }
 {
     if between.from == between.to {
-        return chains_of_one_part::<P>(alloc, names, filled, from, to);
+        return chains_of_one_part::<P>(alloc, told, filled, from, to);
     }
-    chain_between_parts::<P>(alloc, names, filled, layout, between, from)
+    chain_between_parts::<P>(alloc, told, filled, layout, between, from)
 }
 
 /// The chains that are told for two threads, each with its part. `filled` has all full slots.
@@ -214,7 +222,7 @@ fn chains_of_parts<P: Profile>(
 /// Memory was refused.
 pub fn chains_between<P: Profile>(
     alloc: Global,
-    names: &[Name],
+    told: &PartNaming<'_>,
     filled: &[FullSlot],
     layout: &Layout<'_>,
     by: &[u64],
@@ -222,7 +230,7 @@ pub fn chains_between<P: Profile>(
     to: (u64, Option<u64>),
 ) -> Result<String, AllocError>
     ensures { IfOk result (λ text. (f : Forest Entry) → AreFullSlots f filled.now →
-        spec.AreChainsBetween P.profile (names_view names.now) f layout.now.memory.now layout.now.uses.now layout.now.waits.now by.now from.0 to.0 from.1 to.1 (string_bytes text)) }
+        spec.AreChainsBetween P.profile (part_naming_view told.now).texts f layout.now.memory.now layout.now.uses.now layout.now.waits.now by.now from.0 to.0 from.1 to.1 (string_bytes text)) }
 {
     let (Some(first), Some(second)) = (from.1, to.1) else {
         return Ok(String::new(alloc));
@@ -232,5 +240,5 @@ pub fn chains_between<P: Profile>(
         to: second,
         by,
     };
-    chains_of_parts::<P>(alloc, names, filled, layout, &between, from.0, to.0)
+    chains_of_parts::<P>(alloc, told, filled, layout, &between, from.0, to.0)
 }

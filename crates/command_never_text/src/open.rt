@@ -4,11 +4,12 @@ ghost use Rattle.std.specs.List.{flat_map};
 ghost use Rattle.kernel_abstract.specs.Memory.{IsInMemory};
 ghost use Rattle.kernel_abstract.specs.Waiting.{offer_at};
 ghost use Rattle.query_reach.specs.FullSlots.{AreFullSlots};
-ghost use Rattle.setup_values.specs.Names.{names_view};
+ghost use Rattle.setup_naming.specs.Naming.{naming_view};
+ghost use Rattle.command_parts.specs.Telling.{part_naming_view};
+ghost use Rattle.query_parts.specs.Listed as listed_at;
 ghost use Rattle.command_never_text.specs.Never as answers;
 ghost use Rattle.command_never_text.specs.Waits.{waits as waits_of};
 ghost use Rattle.setup_report.specs.State.{endpoints as endpoints_of};
-ghost use Rattle.setup_values.specs.Told as told;
 ghost use Rattle.command_never_text.specs.Open as spec;
 
 use crate::chain_text::chains_between;
@@ -19,32 +20,46 @@ use crate::never::{
 use crate::waits::{Wait, waits};
 use cap_core::Profile;
 use command_parts::{
-    BadgeText, Heading, add_heading, add_sel4_lines, add_take_of, all_trusted, is_in, listed,
-    none_text, part_slots, parts_of_callers,
+    BadgeText, Heading, PartNaming, PartTold, add_heading, add_sel4_lines, add_take_of,
+    all_trusted, is_in, listed, none_text, part_slots, parts_of_callers,
 };
 use ipc_core::Waiters;
 use kernel_core::Kernel;
 use query_parts::{PartMemory, PartUse, PartsFault, part_at};
 use query_reach::{FullSlot, full_slots};
+use setup_naming::Naming;
 use setup_report::{RightsText, state_rows};
-use setup_values::{Name, thread_name};
 use slot_core::{CapStore, DerivationStore};
 use std::alloc::{AllocError, Global};
 use std::fmt;
 use std::fmt::Write;
 
-/// The number of a part, or that there is none.
-#[derive(Clone, Copy)]
-struct PartText(Option<u64>);
+/// A part, or that there is none.
+#[derive(Drop)]
+struct PartText(Option<PartTold>);
 
 impl fmt::Display for PartText {
-    ghost output = { λ p. Some (spec.part_text p.0) };
+    ghost output = { λ p. Some (spec.part_or_none_told p.0) };
 
     fn fmt<W: fmt::Write>(&self, f: &mut fmt::Formatter<W>) -> fmt::Result {
-        match self.0 {
+        match &self.0 {
             None => write!(f, "none"),
             Some(part) => write!(f, "{part}"),
         }
+    }
+}
+
+/// The part at an address.
+fn part_text(
+    told: &PartNaming<'_>,
+    memory: &[PartMemory],
+    address: u64,
+) -> Result<PartText, AllocError>
+    ensures { IfOk result (λ text. spec.part_or_none_told text.0 ≡ spec.part_text (part_naming_view told.now).part (listed_at.part_at memory.now address)) }
+{
+    match part_at(memory, address) {
+        None => Ok(PartText(None)),
+        Some(part) => Ok(PartText(Some(told.part(part)?))),
     }
 }
 
@@ -59,19 +74,19 @@ fn never_word(answer: Never) -> &'static str
 
 fn add_answer(
     out: &mut String,
-    names: &[Name],
+    told: &PartNaming<'_>,
     memory: &[PartMemory],
     from: u64,
     to: u64,
     answer: Never,
 ) -> Result<(), AllocError>
     ensures { OnOk result (string_bytes out.new ≡ string_bytes out.old
-        ++ spec.answer_line (names_view names.now) memory.now from to answer) }
+        ++ spec.answer_line (part_naming_view told.now) memory.now from to answer) }
 {
-    let sender = thread_name(names, from);
-    let receiver = thread_name(names, to);
-    let first = PartText(part_at(memory, from));
-    let second = PartText(part_at(memory, to));
+    let sender = told.thread(from);
+    let receiver = told.thread(to);
+    let first = part_text(told, memory, from)?;
+    let second = part_text(told, memory, to)?;
     let word = never_word(answer);
     writeln!(
         out,
@@ -81,16 +96,18 @@ fn add_answer(
 
 fn add_bytes<P: Profile>(
     out: &mut String,
+    told: &PartNaming<'_>,
     part: u64,
     endpoint: u64,
     stretch: &PartMemory,
 ) -> Result<(), AllocError>
     ensures { OnOk result (string_bytes out.new ≡ string_bytes out.old
-        ++ spec.bytes_line P.profile part endpoint stretch.now) }
+        ++ spec.bytes_line (part_naming_view told.now) P.profile part endpoint stretch.now) }
 {
     let first = stretch.first;
     let last = stretch.last;
     if has_some(stretch, part, endpoint, endpoint_size::<P>()) {
+        let part = told.part(part)?;
         writeln!(out, "  part {part} memory {first} to {last}")
     } else {
         Ok(())
@@ -99,25 +116,34 @@ fn add_bytes<P: Profile>(
 
 fn add_all_bytes<P: Profile>(
     out: &mut String,
+    told: &PartNaming<'_>,
     part: u64,
     endpoint: u64,
     memory: &[PartMemory],
 ) -> Result<(), AllocError>
     ensures { OnOk result (string_bytes out.new ≡ string_bytes out.old
-        ++ flat_map (spec.bytes_line P.profile part endpoint) memory.now) }
+        ++ flat_map (spec.bytes_line (part_naming_view told.now) P.profile part endpoint) memory.now) }
 {
     for stretch in memory {
-        add_bytes::<P>(out, part, endpoint, stretch)?;
+        add_bytes::<P>(out, told, part, endpoint, stretch)?;
     }
     Ok(())
 }
 
-fn add_used(out: &mut String, part: u64, endpoint: u64, allowed: &PartUse) -> Result<(), AllocError>
-    ensures { OnOk result (string_bytes out.new ≡ string_bytes out.old ++ spec.used_line part endpoint allowed.now) }
+fn add_used(
+    out: &mut String,
+    told: &PartNaming<'_>,
+    part: u64,
+    endpoint: u64,
+    allowed: &PartUse,
+) -> Result<(), AllocError>
+    ensures { OnOk result (string_bytes out.new ≡ string_bytes out.old ++ spec.used_line (part_naming_view told.now) part endpoint allowed.now) }
 {
     let badge = BadgeText(allowed.badge.0);
     let rights = RightsText(allowed.rights);
     if is_use_of(allowed, part, endpoint) {
+        let part = told.part(part)?;
+        let endpoint = told.endpoint(endpoint);
         writeln!(
             out,
             "  part {part} use {endpoint} badge {badge} rights {rights}"
@@ -129,15 +155,16 @@ fn add_used(out: &mut String, part: u64, endpoint: u64, allowed: &PartUse) -> Re
 
 fn add_all_used(
     out: &mut String,
+    told: &PartNaming<'_>,
     part: u64,
     endpoint: u64,
     uses: &[PartUse],
 ) -> Result<(), AllocError>
     ensures { OnOk result (string_bytes out.new ≡ string_bytes out.old
-        ++ flat_map (spec.used_line part endpoint) uses.now) }
+        ++ flat_map (spec.used_line (part_naming_view told.now) part endpoint) uses.now) }
 {
     for allowed in uses {
-        add_used(out, part, endpoint, allowed)?;
+        add_used(out, told, part, endpoint, allowed)?;
     }
     Ok(())
 }
@@ -145,32 +172,35 @@ fn add_all_used(
 /// Adds what a part has of an endpoint by its memory and by its uses.
 fn add_had<P: Profile>(
     out: &mut String,
+    told: &PartNaming<'_>,
     layout: &Layout<'_>,
     part: u64,
     endpoint: u64,
 ) -> Result<(), AllocError>
     ensures { OnOk result (string_bytes out.new ≡ string_bytes out.old
-        ++ spec.had_lines P.profile layout.now.memory.now layout.now.uses.now part endpoint) }
+        ++ spec.had_lines (part_naming_view told.now) P.profile layout.now.memory.now layout.now.uses.now part endpoint) }
 {
-    add_all_bytes::<P>(out, part, endpoint, layout.memory)?;
-    add_all_used(out, part, endpoint, layout.uses)
+    add_all_bytes::<P>(out, told, part, endpoint, layout.memory)?;
+    add_all_used(out, told, part, endpoint, layout.uses)
 }
 
 fn add_offered<P: Profile, S: CapStore<P> + Drop, W: Waiters<P> + Drop>(
     out: &mut String,
-    names: &[Name],
+    told: &PartNaming<'_>,
     kernel: &Kernel<P, S, W>,
     thread: u64,
     part: u64,
     endpoint: u64,
 ) -> Result<(), AllocError>
     ensures { OnOk result (string_bytes out.new ≡ string_bytes out.old
-        ++ spec.offered_line (told.thread_name (names_view names.now) thread) part endpoint (offer_at kernel.now thread)) }
+        ++ spec.offered_line (part_naming_view told.now) thread part endpoint (offer_at kernel.now thread)) }
 {
     match kernel.offer(thread) {
         None => Ok(()),
         Some(offer) => {
-            let name = thread_name(names, thread);
+            let name = told.thread(thread);
+            let part = told.part(part)?;
+            let endpoint = told.endpoint(endpoint);
             let badge = offer.badge.0;
             writeln!(
                 out,
@@ -182,7 +212,7 @@ fn add_offered<P: Profile, S: CapStore<P> + Drop, W: Waiters<P> + Drop>(
 
 fn add_sender<P: Profile, S: CapStore<P> + Drop, W: Waiters<P> + Drop>(
     out: &mut String,
-    names: &[Name],
+    told: &PartNaming<'_>,
     memory: &[PartMemory],
     kernel: &Kernel<P, S, W>,
     part: u64,
@@ -190,10 +220,10 @@ fn add_sender<P: Profile, S: CapStore<P> + Drop, W: Waiters<P> + Drop>(
     wait: &Wait,
 ) -> Result<(), AllocError>
     ensures { OnOk result (string_bytes out.new ≡ string_bytes out.old
-        ++ spec.sender_line (names_view names.now) memory.now kernel.now part endpoint wait.now) }
+        ++ spec.sender_line (part_naming_view told.now) memory.now kernel.now part endpoint wait.now) }
 {
     if is_sender(memory, wait, part, endpoint) {
-        add_offered::<P, S, W>(out, names, kernel, wait.thread, part, endpoint)
+        add_offered::<P, S, W>(out, told, kernel, wait.thread, part, endpoint)
     } else {
         Ok(())
     }
@@ -201,34 +231,36 @@ fn add_sender<P: Profile, S: CapStore<P> + Drop, W: Waiters<P> + Drop>(
 
 fn add_senders<P: Profile, S: CapStore<P> + Drop, W: Waiters<P> + Drop>(
     out: &mut String,
-    names: &[Name],
+    told: &PartNaming<'_>,
     layout: &Layout<'_>,
     kernel: &Kernel<P, S, W>,
     part: u64,
     endpoint: u64,
 ) -> Result<(), AllocError>
     ensures { OnOk result (string_bytes out.new ≡ string_bytes out.old
-        ++ flat_map (spec.sender_line (names_view names.now) layout.now.memory.now kernel.now part endpoint) layout.now.waits.now) }
+        ++ flat_map (spec.sender_line (part_naming_view told.now) layout.now.memory.now kernel.now part endpoint) layout.now.waits.now) }
 {
     for wait in layout.waits {
-        add_sender::<P, S, W>(out, names, layout.memory, kernel, part, endpoint, wait)?;
+        add_sender::<P, S, W>(out, told, layout.memory, kernel, part, endpoint, wait)?;
     }
     Ok(())
 }
 
 fn add_receiver(
     out: &mut String,
-    names: &[Name],
+    told: &PartNaming<'_>,
     memory: &[PartMemory],
     part: u64,
     endpoint: u64,
     wait: &Wait,
 ) -> Result<(), AllocError>
     ensures { OnOk result (string_bytes out.new ≡ string_bytes out.old
-        ++ spec.open_receiver_line (names_view names.now) memory.now part endpoint wait.now) }
+        ++ spec.open_receiver_line (part_naming_view told.now) memory.now part endpoint wait.now) }
 {
-    let name = thread_name(names, wait.thread);
     if is_receiver(memory, wait, part, endpoint) {
+        let name = told.thread(wait.thread);
+        let part = told.part(part)?;
+        let endpoint = told.endpoint(endpoint);
         writeln!(out, "  part {part} waiting {endpoint} -> {name}")
     } else {
         Ok(())
@@ -237,30 +269,31 @@ fn add_receiver(
 
 fn add_receivers(
     out: &mut String,
-    names: &[Name],
+    told: &PartNaming<'_>,
     layout: &Layout<'_>,
     part: u64,
     endpoint: u64,
 ) -> Result<(), AllocError>
     ensures { OnOk result (string_bytes out.new ≡ string_bytes out.old
-        ++ flat_map (spec.open_receiver_line (names_view names.now) layout.now.memory.now part endpoint) layout.now.waits.now) }
+        ++ flat_map (spec.open_receiver_line (part_naming_view told.now) layout.now.memory.now part endpoint) layout.now.waits.now) }
 {
     for wait in layout.waits {
-        add_receiver(out, names, layout.memory, part, endpoint, wait)?;
+        add_receiver(out, told, layout.memory, part, endpoint, wait)?;
     }
     Ok(())
 }
 
-fn add_number(out: &mut String, endpoint: u64) -> Result<(), AllocError>
-    ensures { OnOk result (string_bytes out.new ≡ string_bytes out.old ++ spec.open_endpoint_line endpoint) }
+fn add_number(out: &mut String, told: &PartNaming<'_>, endpoint: u64) -> Result<(), AllocError>
+    ensures { OnOk result (string_bytes out.new ≡ string_bytes out.old ++ spec.open_endpoint_line (part_naming_view told.now) endpoint) }
 {
+    let endpoint = told.endpoint(endpoint);
     writeln!(out, "open {endpoint}")
 }
 
 /// Adds what two parts have of an endpoint: the one to send there, and the other to receive.
 fn add_endpoint<P: Profile, S: CapStore<P> + Drop, W: Waiters<P> + Drop>(
     out: &mut String,
-    names: &[Name],
+    told: &PartNaming<'_>,
     layout: &Layout<'_>,
     kernel: &Kernel<P, S, W>,
     between: &Between<'_>,
@@ -268,18 +301,18 @@ fn add_endpoint<P: Profile, S: CapStore<P> + Drop, W: Waiters<P> + Drop>(
 ) -> Result<(), AllocError>
     requires { layout.now.waits.now ≡ waits_of P.profile kernel.now }
     ensures { OnOk result (string_bytes out.new ≡ string_bytes out.old
-        ++ spec.open_endpoint_lines P.profile (names_view names.now) layout.now.memory.now layout.now.uses.now kernel.now between.now.from between.now.to endpoint) }
+        ++ spec.open_endpoint_lines P.profile (part_naming_view told.now) layout.now.memory.now layout.now.uses.now kernel.now between.now.from between.now.to endpoint) }
 {
-    add_number(out, endpoint)?;
-    add_had::<P>(out, layout, between.from, endpoint)?;
-    add_senders::<P, S, W>(out, names, layout, kernel, between.from, endpoint)?;
-    add_had::<P>(out, layout, between.to, endpoint)?;
-    add_receivers(out, names, layout, between.to, endpoint)
+    add_number(out, told, endpoint)?;
+    add_had::<P>(out, told, layout, between.from, endpoint)?;
+    add_senders::<P, S, W>(out, told, layout, kernel, between.from, endpoint)?;
+    add_had::<P>(out, told, layout, between.to, endpoint)?;
+    add_receivers(out, told, layout, between.to, endpoint)
 }
 
 fn add_where_open<P: Profile, S: CapStore<P> + Drop, W: Waiters<P> + Drop>(
     out: &mut String,
-    names: &[Name],
+    told: &PartNaming<'_>,
     layout: &Layout<'_>,
     kernel: &Kernel<P, S, W>,
     between: &Between<'_>,
@@ -287,10 +320,10 @@ fn add_where_open<P: Profile, S: CapStore<P> + Drop, W: Waiters<P> + Drop>(
 ) -> Result<(), AllocError>
     requires { layout.now.waits.now ≡ waits_of P.profile kernel.now }
     ensures { OnOk result (string_bytes out.new ≡ string_bytes out.old
-        ++ spec.open_lines P.profile (names_view names.now) layout.now.memory.now layout.now.uses.now kernel.now between.now.by.now between.now.from between.now.to endpoint) }
+        ++ spec.open_lines P.profile (part_naming_view told.now) layout.now.memory.now layout.now.uses.now kernel.now between.now.by.now between.now.from between.now.to endpoint) }
 {
     if is_open::<P>(layout, between, endpoint) {
-        add_endpoint::<P, S, W>(out, names, layout, kernel, between, endpoint)
+        add_endpoint::<P, S, W>(out, told, layout, kernel, between, endpoint)
     } else {
         Ok(())
     }
@@ -298,7 +331,7 @@ fn add_where_open<P: Profile, S: CapStore<P> + Drop, W: Waiters<P> + Drop>(
 
 fn add_all_open<P: Profile, S: CapStore<P> + Drop, W: Waiters<P> + Drop>(
     out: &mut String,
-    names: &[Name],
+    told: &PartNaming<'_>,
     layout: &Layout<'_>,
     kernel: &Kernel<P, S, W>,
     between: &Between<'_>,
@@ -306,10 +339,10 @@ fn add_all_open<P: Profile, S: CapStore<P> + Drop, W: Waiters<P> + Drop>(
 ) -> Result<(), AllocError>
     requires { layout.now.waits.now ≡ waits_of P.profile kernel.now }
     ensures { OnOk result (string_bytes out.new ≡ string_bytes out.old
-        ++ flat_map (spec.open_lines P.profile (names_view names.now) layout.now.memory.now layout.now.uses.now kernel.now between.now.by.now between.now.from between.now.to) endpoints.now) }
+        ++ flat_map (spec.open_lines P.profile (part_naming_view told.now) layout.now.memory.now layout.now.uses.now kernel.now between.now.by.now between.now.from between.now.to) endpoints.now) }
 {
     for endpoint in endpoints {
-        add_where_open::<P, S, W>(out, names, layout, kernel, between, *endpoint)?;
+        add_where_open::<P, S, W>(out, told, layout, kernel, between, *endpoint)?;
     }
     Ok(())
 }
@@ -317,7 +350,7 @@ fn add_all_open<P: Profile, S: CapStore<P> + Drop, W: Waiters<P> + Drop>(
 /// Adds the endpoints that are open between the parts of two threads, where these are two.
 fn add_between<P: Profile, S: CapStore<P> + Drop, W: Waiters<P> + Drop>(
     out: &mut String,
-    names: &[Name],
+    told: &PartNaming<'_>,
     layout: &Layout<'_>,
     kernel: &Kernel<P, S, W>,
     endpoints: &[u64],
@@ -328,7 +361,7 @@ fn add_between<P: Profile, S: CapStore<P> + Drop, W: Waiters<P> + Drop>(
     requires waits { layout.now.waits.now ≡ waits_of P.profile kernel.now }
     requires endpoints { endpoints.now ≡ answers.endpoints_met layout.now.uses.now layout.now.waits.now }
     ensures { OnOk result (string_bytes out.new ≡ string_bytes out.old
-        ++ spec.lines_between P.profile (names_view names.now) layout.now.memory.now layout.now.uses.now kernel.now by.now from to) }
+        ++ spec.lines_between P.profile (part_naming_view told.now) layout.now.memory.now layout.now.uses.now kernel.now by.now from to) }
 {
     let (Some(from), Some(to)) = (from, to) else {
         return Ok(());
@@ -337,19 +370,20 @@ fn add_between<P: Profile, S: CapStore<P> + Drop, W: Waiters<P> + Drop>(
         return Ok(());
     }
     let between = Between { from, to, by };
-    add_all_open::<P, S, W>(out, names, layout, kernel, &between, endpoints)
+    add_all_open::<P, S, W>(out, told, layout, kernel, &between, endpoints)
 }
 
 /// Adds what passes between the parts of two threads in seL4, beside messages, where these are two.
 fn add_sel4_between<P: Profile>(
     alloc: Global,
     out: &mut String,
+    told: &PartNaming<'_>,
     layout: &Layout<'_>,
     from: Option<u64>,
     to: Option<u64>,
 ) -> Result<(), AllocError>
     ensures { OnOk result (string_bytes out.new ≡ string_bytes out.old
-        ++ spec.sel4_between P.profile layout.now.memory.now layout.now.uses.now from to) }
+        ++ spec.sel4_between (part_naming_view told.now) P.profile layout.now.memory.now layout.now.uses.now from to) }
 {
     let (Some(from), Some(to)) = (from, to) else {
         return Ok(());
@@ -357,19 +391,20 @@ fn add_sel4_between<P: Profile>(
     if from == to {
         return Ok(());
     }
-    add_sel4_lines::<P>(alloc, out, layout.memory, layout.uses, from, to)
+    add_sel4_lines::<P>(alloc, out, told, layout.memory, layout.uses, from, to)
 }
 
 /// Adds a line where one of the parts of two threads may take slots from the other.
 fn add_taken_between<P: Profile, S: DerivationStore<P> + Drop, W: Waiters<P> + Drop>(
     alloc: Global,
     out: &mut String,
+    told: &PartNaming<'_>,
     memory: &[PartMemory],
     kernel: &Kernel<P, S, W>,
     from: Option<u64>,
     to: Option<u64>,
 ) -> Result<(), AllocError>
-    ensures { OnOk result (string_bytes out.new ≡ string_bytes out.old ++ spec.taken_between memory.now kernel.now from to) }
+    ensures { OnOk result (string_bytes out.new ≡ string_bytes out.old ++ spec.taken_between (part_naming_view told.now) memory.now kernel.now from to) }
 {
     let (Some(from), Some(to)) = (from, to) else {
         return Ok(());
@@ -378,23 +413,34 @@ fn add_taken_between<P: Profile, S: DerivationStore<P> + Drop, W: Waiters<P> + D
         return Ok(());
     }
     let part_slots = part_slots::<P, S, W>(alloc, memory, kernel)?;
-    add_take_of(alloc, out, part_slots.as_slice(), from, to)?;
-    add_take_of(alloc, out, part_slots.as_slice(), to, from)
+    add_take_of(alloc, out, told, part_slots.as_slice(), from, to)?;
+    add_take_of(alloc, out, told, part_slots.as_slice(), to, from)
 }
 
-fn add_allowed(out: &mut String, live: &[u64], endpoint: u64) -> Result<(), AllocError>
-    ensures { OnOk result (string_bytes out.new ≡ string_bytes out.old ++ spec.allowed_line live.now endpoint) }
+fn add_allowed(
+    out: &mut String,
+    told: &PartNaming<'_>,
+    live: &[u64],
+    endpoint: u64,
+) -> Result<(), AllocError>
+    ensures { OnOk result (string_bytes out.new ≡ string_bytes out.old ++ spec.allowed_line (part_naming_view told.now) live.now endpoint) }
 {
     let none = none_text(is_in(live, endpoint));
+    let endpoint = told.endpoint(endpoint);
     writeln!(out, "by {endpoint}{none}")
 }
 
 /// Adds a line for each endpoint that is allowed. `live` has the live endpoints.
-fn add_all_allowed(out: &mut String, live: &[u64], by: &[u64]) -> Result<(), AllocError>
-    ensures { OnOk result (string_bytes out.new ≡ string_bytes out.old ++ flat_map (spec.allowed_line live.now) by.now) }
+fn add_all_allowed(
+    out: &mut String,
+    told: &PartNaming<'_>,
+    live: &[u64],
+    by: &[u64],
+) -> Result<(), AllocError>
+    ensures { OnOk result (string_bytes out.new ≡ string_bytes out.old ++ flat_map (spec.allowed_line (part_naming_view told.now) live.now) by.now) }
 {
     for endpoint in by {
-        add_allowed(out, live, *endpoint)?;
+        add_allowed(out, told, live, *endpoint)?;
     }
     Ok(())
 }
@@ -415,7 +461,7 @@ fn slots_of<P: Profile, S: DerivationStore<P> + Drop, W: Waiters<P> + Drop>(
 fn add_lines_of_answer<P: Profile, S: DerivationStore<P> + Drop, W: Waiters<P> + Drop>(
     alloc: Global,
     out: &mut String,
-    names: &[Name],
+    told: &PartNaming<'_>,
     from: u64,
     to: u64,
     by: &[u64],
@@ -424,17 +470,17 @@ fn add_lines_of_answer<P: Profile, S: DerivationStore<P> + Drop, W: Waiters<P> +
 ) -> Result<Never, AllocError>
     requires { layout.now.waits.now ≡ waits_of P.profile kernel.now }
     ensures text { OnOk result (string_bytes out.new ≡ string_bytes out.old
-        ++ spec.lines_of_answer P.profile (names_view names.now) layout.now.memory.now layout.now.uses.now kernel.now by.now from to) }
+        ++ spec.lines_of_answer P.profile (part_naming_view told.now) layout.now.memory.now layout.now.uses.now kernel.now by.now from to) }
     ensures answer { IfOk result (λ answer. answer ≡ answers.never P.profile layout.now.memory.now layout.now.uses.now (waits_of P.profile kernel.now) by.now from to) }
 {
     let endpoints = endpoints_met(alloc, layout)?;
     let first = part_at(layout.memory, from);
     let second = part_at(layout.memory, to);
     let answer = never_between::<P>(layout, endpoints.as_slice(), by, first, second);
-    add_answer(out, names, layout.memory, from, to, answer)?;
+    add_answer(out, told, layout.memory, from, to, answer)?;
     add_between::<P, S, W>(
         out,
-        names,
+        told,
         layout,
         kernel,
         endpoints.as_slice(),
@@ -442,8 +488,8 @@ fn add_lines_of_answer<P: Profile, S: DerivationStore<P> + Drop, W: Waiters<P> +
         first,
         second,
     )?;
-    add_sel4_between::<P>(alloc, out, layout, first, second)?;
-    add_taken_between::<P, S, W>(alloc, out, layout.memory, kernel, first, second)?;
+    add_sel4_between::<P>(alloc, out, told, layout, first, second)?;
+    add_taken_between::<P, S, W>(alloc, out, told, layout.memory, kernel, first, second)?;
     Ok(answer)
 }
 
@@ -451,7 +497,7 @@ fn add_lines_of_answer<P: Profile, S: DerivationStore<P> + Drop, W: Waiters<P> +
 #[tactic(auto, unfolding(crate::specs::Open::never_text))]
 fn never_of_parts<P: Profile, S: DerivationStore<P> + Drop, W: Waiters<P> + Drop>(
     alloc: Global,
-    names: &[Name],
+    told: &PartNaming<'_>,
     heading: &Heading<'_>,
     from: u64,
     to: u64,
@@ -462,15 +508,15 @@ fn never_of_parts<P: Profile, S: DerivationStore<P> + Drop, W: Waiters<P> + Drop
 ) -> Result<(String, Never), AllocError>
     requires waits { layout.now.waits.now ≡ waits_of P.profile kernel.now }
     requires live { live.now ≡ endpoints_of P.profile kernel.now }
-    ensures text { IfOk result (λ made. string_bytes made.0 ≡ spec.never_text P.profile (names_view names.now) heading.now.setup.now heading.now.made heading.now.refused
+    ensures text { IfOk result (λ made. string_bytes made.0 ≡ spec.never_text P.profile (part_naming_view told.now) heading.now.setup.now heading.now.made heading.now.refused
         heading.now.without.now heading.now.messages.now layout.now.memory.now layout.now.uses.now kernel.now by.now from to) }
     ensures answer { IfOk result (λ made. made.1 ≡ answers.never P.profile layout.now.memory.now layout.now.uses.now (waits_of P.profile kernel.now) by.now from to) }
 {
     let mut out = String::new(alloc);
-    add_heading::<P, S, W>(&mut out, "never", names, heading, kernel)?;
-    add_all_allowed(&mut out, live, by)?;
+    add_heading::<P, S, W>(&mut out, "never", told, heading, kernel)?;
+    add_all_allowed(&mut out, told, live, by)?;
     let answer = add_lines_of_answer::<P, S, W>(
-        alloc, &mut out, names, from, to, by, kernel, layout,
+        alloc, &mut out, told, from, to, by, kernel, layout,
     )?;
     Ok((out, answer))
 }
@@ -478,7 +524,7 @@ fn never_of_parts<P: Profile, S: DerivationStore<P> + Drop, W: Waiters<P> + Drop
 /// The text of an answer for parts that are given, with the chains behind it, and the answer.
 fn never_with_chains<P: Profile, S: DerivationStore<P> + Drop, W: Waiters<P> + Drop>(
     alloc: Global,
-    names: &[Name],
+    told: &PartNaming<'_>,
     heading: &Heading<'_>,
     from: u64,
     to: u64,
@@ -489,17 +535,17 @@ fn never_with_chains<P: Profile, S: DerivationStore<P> + Drop, W: Waiters<P> + D
 ) -> Result<(Vec<u8>, Never), AllocError>
     requires waits { layout.now.waits.now ≡ waits_of P.profile kernel.now }
     requires live { live.now ≡ endpoints_of P.profile kernel.now }
-    ensures text { IfOk result (λ made. spec.IsNeverText P.profile (names_view names.now) heading.now.setup.now heading.now.made heading.now.refused
+    ensures text { IfOk result (λ made. spec.IsNeverText P.profile (part_naming_view told.now) heading.now.setup.now heading.now.made heading.now.refused
         heading.now.without.now heading.now.messages.now layout.now.memory.now layout.now.uses.now kernel.now by.now from to made.0.items) }
     ensures answer { IfOk result (λ made. made.1 ≡ answers.never P.profile layout.now.memory.now layout.now.uses.now (waits_of P.profile kernel.now) by.now from to) }
 {
     let (mut text, answer) = never_of_parts::<P, S, W>(
-        alloc, names, heading, from, to, by, live, kernel, layout,
+        alloc, told, heading, from, to, by, live, kernel, layout,
     )?;
     let filled = slots_of::<P, S, W>(alloc, kernel)?;
     let from_in = (from, part_at(layout.memory, from));
     let to_in = (to, part_at(layout.memory, to));
-    let chains = chains_between::<P>(alloc, names, filled.as_slice(), layout, by, from_in, to_in)?;
+    let chains = chains_between::<P>(alloc, told, filled.as_slice(), layout, by, from_in, to_in)?;
     text.push_str(chains.as_str())?;
     Ok((text.into_bytes(), answer))
 }
@@ -514,14 +560,14 @@ fn never_with_chains<P: Profile, S: DerivationStore<P> + Drop, W: Waiters<P> + D
 /// whose objects lie in its memory has such a thread (`fault`).
 pub fn never_gets<P: Profile, S: DerivationStore<P> + Drop, W: Waiters<P> + Drop>(
     alloc: Global,
-    names: &[Name],
+    naming: &Naming<'_>,
     heading: &Heading<'_>,
     from: u64,
     to: u64,
     by: &[u64],
     kernel: &Kernel<P, S, W>,
 ) -> Result<(Vec<u8>, Never), PartsFault>
-    ensures told { IfOk result (λ made. spec.IsNeverOf P.profile (names_view names.now) heading.now.setup.now heading.now.made heading.now.refused
+    ensures told { IfOk result (λ made. spec.IsNeverOf P.profile (naming_view naming.now) heading.now.setup.now heading.now.made heading.now.refused
         heading.now.without.now heading.now.messages.now kernel.now by.now from to made.0.items made.1) }
     ensures fault { IfErr result (λ fault. fault ≡ PartsFault.Block → (memory : ℕ) → IsInMemory P.profile memory kernel.now → ⊥) }
 {
@@ -537,8 +583,9 @@ pub fn never_gets<P: Profile, S: DerivationStore<P> + Drop, W: Waiters<P> + Drop
         waits: waits.as_slice(),
     };
     let live = live.as_slice();
+    let told = PartNaming::new(alloc, naming, layout.memory, threads.as_slice())?;
     let made = never_with_chains::<P, S, W>(
-        alloc, names, heading, from, to, by, live, kernel, &layout,
+        alloc, &told, heading, from, to, by, live, kernel, &layout,
     )?;
     Ok(made)
 }

@@ -10,7 +10,7 @@ use Rattle.cap_core.specs.declared.capability.Badge.{Badge}
 use Rattle.cap_core.specs.declared.capability.Cap.{Cap}
 use Rattle.cap_core.specs.declared.capability.Cap.TheVariants.{Null, Untyped, Endpoint, CNode, Tcb}
 use Rattle.cap_core.specs.declared.rights.Rights.{Rights}
-use Rattle.cap_core.specs.Numbers.{slot_bits, slot_size}
+use Rattle.cap_core.specs.Numbers.{slot_bits}
 use Rattle.cap_core.specs.Rights.{write_bit}
 use Rattle.cspace_core.specs.Inside.{IsSlotOf}
 use Rattle.cspace_core.specs.Resolution.{slot_of}
@@ -18,7 +18,7 @@ use Rattle.ipc_core.specs.Records.{SendRecord}
 use Rattle.kernel_forest.specs.Forest.{Forest, preorder}
 use Rattle.kernel_forest.specs.Entries.{Entry, cap_in, cap_at, derivations_of}
 use Rattle.kernel_delete.specs.Members.{In}
-use Rattle.kernel_delete.proofs.Members.{any_in, both_true, eqb_self, in_left, in_right}
+use Rattle.kernel_delete.proofs.Members.{any_in, eqb_self, in_left, in_right}
 use Rattle.kernel_abstract.specs.declared.call.Call.{Call}
 use Rattle.kernel_abstract.specs.Decode.{has_right}
 use Rattle.kernel_abstract.specs.Shown.{Shown}

@@ -1,12 +1,11 @@
 -- What stands below a slot of a part is found, by one walk from the top down.
-use Rattle.std.proofs.Common.{◌≡◌, ℕ, Bool, true, false, not, cond, ◌==◌, ◌||◌, ◌&&◌, List, [], ◌∷◌, ◌++◌, map, filter, Option, Some, None, inl, inr, ◌⊎◌, refl, sym, ap, subst, ◌∙◌, append_assoc}
+use Rattle.std.proofs.Common.{◌≡◌, ℕ, Bool, true, false, not, cond, ◌==◌, ◌||◌, ◌&&◌, List, [], ◌∷◌, ◌++◌, map, Option, Some, None, inl, inr, ◌⊎◌, refl, sym, ap, subst, ◌∙◌, append_assoc}
 use Rattle.std.specs.Prelude.{option_map}
-use Rattle.std.specs.List.{list_any, Contains}
 use Rattle.std.proofs.lemmas.Bool.{false≢true, eqb-true, ne_eqb}
 use Rattle.std.proofs.lemmas.List.{map-append}
 use Rattle.std.proofs.lemmas.List.Folds.{list_any-append}
 use Rattle.kernel_forest.specs.Forest.{Forest, none, tree, join, preorder, below_those, descendants, parented}
-use Rattle.kernel_forest.specs.Entries.{Entry, is_at, slot_of, derivations_of}
+use Rattle.kernel_forest.specs.Entries.{Entry, is_at, slot_of}
 use Rattle.kernel_forest.proofs.Trees.Forests.{preorder-join}
 use Rattle.kernel_delete.specs.Members.{In}
 use Rattle.kernel_delete.proofs.Members.{true_left, true_right, in_append, eqb_self}
@@ -17,7 +16,7 @@ use Rattle.query_parts.specs.Listed.{part_at}
 use Rattle.setup_report.specs.State.{is_in, rising}
 use Rattle.setup_report.proofs.Addresses.Rising.{any_rising, in_filter}
 use Rattle.command_parts.specs.declared.takes.PartSlot.{PartSlot}
-use Rattle.command_parts.specs.Takes.{part_slot, part_slots, is_beneath, is_part, part_or_none, part_below, with_slot, parts_below, taken_by}
+use Rattle.command_parts.specs.Takes.{part_slot, part_slots, is_beneath, is_part, part_or_none, part_below, with_slot, parts_below}
 use Rattle.command_parts.specs.NotTaken.{TakesNone}
 
 -- a number is in a list, and so in what begins or ends with it

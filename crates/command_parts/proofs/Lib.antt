@@ -8,3 +8,4 @@ pub mod Given
 pub mod Held
 pub mod Alone
 pub mod Faults
+pub mod Homes

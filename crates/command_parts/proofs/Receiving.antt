@@ -14,7 +14,8 @@ use Rattle.query_parts.specs.Order.{owns_endpoint}
 use Rattle.setup_report.specs.State.{rising}
 use Rattle.command_parts.specs.declared.ways.Passing.{Passing}
 use Rattle.command_parts.specs.declared.ways.Passing.TheVariants.{Message, Grant, Answer}
-use Rattle.command_parts.specs.Text.{parts_of, passes_by, may_pass, badges_by, is_use, is_of_part, is_of_endpoint, sends_with_any, may_send_any, badges, may_part_receive, receivers_on, other_receivers, way, ways_on}
+use Rattle.command_parts.specs.Text.{parts_of, passes_by, may_pass, badges_by, is_use, is_of_part, is_of_endpoint, sends_with_any, may_send_any, badges, may_part_receive, receivers_on, other_receivers, way, ways_on, badges_held, between_line, passing_line}
+use Rattle.command_parts.specs.Telling.{PartTexts}
 
 -- ---- what a filter leaves out, a stricter test does not miss
 
@@ -118,6 +119,23 @@ module _ (p : ProfileName) (memory : List PartMemory) (uses : List PartUse) wher
       ∙ kept_by (is_of_part from) passing from endpoint (of_part from endpoint) uses)
       ∙ ap (λ (r : List ℕ). flat_map (λ badge. map (way from endpoint badge) r) (badges_by passing p memory uses from endpoint))
       (ap (filter (λ other. not (other == from))) heard_is ∙ others_are from endpoint)
+
+  -- what passes between two parts by an endpoint, by the uses of it
+  pub between_here : (told : PartTexts) (passing : Passing) (from to endpoint : ℕ) (here : List PartUse) → here ≡ filter (is_of_endpoint endpoint) uses →
+      between_line told passing p memory here from to endpoint ≡ between_line told passing p memory uses from to endpoint
+  between_here told passing from to endpoint here is =
+      ap (λ (l : List PartUse). between_line told passing p memory l from to endpoint) is
+      ∙ ap (λ b. cond (b && may_part_receive p memory (filter (is_of_endpoint endpoint) uses) endpoint to) (passing_line told passing (way from endpoint 0 to)) [])
+      (kept_passes (is_of_endpoint endpoint) passing from endpoint (of_endpoint from endpoint) uses)
+      ∙ ap (λ b. cond (may_pass passing p memory uses from endpoint && (owns_endpoint p memory to endpoint || b)) (passing_line told passing (way from endpoint 0 to)) [])
+      (any_kept (is_use read_bit to endpoint) (is_of_endpoint endpoint) (λ u h. of_endpoint to endpoint read_bit u h) uses)
+
+  -- the badges that a part holds of an endpoint, by the uses of it
+  pub held_here : (from endpoint : ℕ) (here : List PartUse) → here ≡ filter (is_of_endpoint endpoint) uses → badges_held here from endpoint ≡ badges_held uses from endpoint
+  held_here from endpoint here is =
+      ap (λ (l : List PartUse). badges_held l from endpoint) is
+      ∙ ap (λ (l : List PartUse). rising (map (λ (u : PartUse). u.badge.0) l))
+      (filter_kept (is_use write_bit from endpoint) (is_of_endpoint endpoint) (λ u h. of_endpoint from endpoint write_bit u h) uses)
 
   -- by uses that are the same of each endpoint
   pub receivers_same : (list : List PartUse) → ((n : ℕ) → filter (is_of_endpoint n) list ≡ filter (is_of_endpoint n) uses) → (endpoint : ℕ) →

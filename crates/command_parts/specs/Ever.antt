@@ -7,9 +7,11 @@ use Rattle.query_parts.specs.declared.listed.PartUse.{PartUse}
 use Rattle.query_parts.specs.Order.{AreInOrder, AreInParts}
 use Rattle.query_parts.specs.Ever.{AreConfinedEver}
 use Rattle.query_parts.specs.Least.{AreLeast}
-use Rattle.setup_values.specs.Names.{Names}
 use Rattle.setup_format.specs.Views.{SetupView}
+use Rattle.setup_report.specs.State.{threads}
+use Rattle.setup_naming.specs.Naming.{Texts}
 use Rattle.command_parts.specs.Threads.{callers}
+use Rattle.command_parts.specs.Telling.{part_texts}
 use Rattle.command_parts.specs.Text.{ever_text}
 
 -- Parts that may be written: whatever calls their threads make, nothing leaves them; they stand in order, with nothing in them
@@ -22,7 +24,7 @@ pub record AreRightParts (p : ProfileName) (v : Shown) (trusted : List ℕ) (mem
   pub callers : AreInParts p memory (callers p v trusted)
 
 -- the text of such parts, where so many of the calls that are made were refused
-abbrev pub IsPartsText : ProfileName → Names → SetupView → ℕ → ℕ → List ℕ → List ℕ → Shown → List ℕ → Type 0
-IsPartsText p names setup made refused without messages v text =
+abbrev pub IsPartsText : ProfileName → Texts → SetupView → ℕ → ℕ → List ℕ → List ℕ → Shown → List ℕ → Type 0
+IsPartsText p texts setup made refused without messages v text =
     (memory : List PartMemory) × ((uses : List PartUse)
-    × (AreRightParts p v (without ++ messages) memory uses × (text ≡ ever_text p names setup made refused without messages memory uses v)))
+    × (AreRightParts p v (without ++ messages) memory uses × (text ≡ ever_text p (part_texts texts memory (threads p v)) setup made refused without messages memory uses v)))

@@ -1,10 +1,9 @@
 -- Parts that only pass messages: what they may use is what their slots hold.
-use Rattle.std.specs.Prelude.{◌≡◌, ℕ, Bool, true, false, not, cond, ◌==◌, ◌&&◌, List, [], ◌∷◌, ◌++◌, map, filter, is_some}
+use Rattle.std.specs.Prelude.{ℕ, Bool, true, false, not, cond, ◌&&◌, List, [], ◌∷◌, ◌++◌, filter, is_some}
 use Rattle.std.specs.List.{flat_map, list_any}
 use Rattle.cap_core.specs.declared.profile.ProfileName.{ProfileName}
 use Rattle.cap_core.specs.declared.capability.Cap.{Cap}
 use Rattle.cap_core.specs.declared.capability.Cap.TheVariants.{Endpoint, CNode}
-use Rattle.cap_core.specs.Rights.{write_bit}
 use Rattle.query_parts.specs.declared.listed.PartUse.{PartUse}
 use Rattle.query_parts.specs.Order.{comes_before}
 use Rattle.setup_report.specs.declared.naming.NamedObject.{NamedObject}

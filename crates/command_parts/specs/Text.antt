@@ -1,5 +1,5 @@
 -- The text of the parts of a layout. Numbers are decimal.
-use Rattle.std.specs.Prelude.{codes, ℕ, ◌==◌, ◌&&◌, ◌||◌, Bool, not, false, cond, List, [], ◌∷◌, ◌++◌, map, length, filter, Option, Some, None, is_some}
+use Rattle.std.specs.Prelude.{codes, ℕ, ◌==◌, ◌&&◌, ◌||◌, Bool, not, cond, List, [], ◌∷◌, ◌++◌, map, length, filter, Option, Some, None, is_some}
 use Rattle.std.specs.List.{flat_map, list_any}
 use Rattle.std.specs.Fmt.{decimal}
 use Rattle.cap_core.specs.declared.profile.ProfileName.{ProfileName}
@@ -14,15 +14,17 @@ use Rattle.query_parts.specs.declared.listed.PartMemory.{PartMemory}
 use Rattle.query_parts.specs.declared.listed.PartUse.{PartUse}
 use Rattle.query_parts.specs.Listed.{part_at}
 use Rattle.query_parts.specs.Order.{owns_endpoint}
-use Rattle.setup_values.specs.Names.{Names}
-use Rattle.setup_values.specs.Told.{profile_text, thread_name}
+use Rattle.setup_values.specs.Told.{profile_text}
 use Rattle.setup_format.specs.Views.{SetupView}
 use Rattle.setup_report.specs.State.{is_in, rising, threads, endpoints}
 use Rattle.setup_report.specs.Text.{rights_text}
 use Rattle.setup_report.specs.Report.{terminated, threads_at}
 use Rattle.command_parts.specs.declared.takes.PartSlot.{PartSlot}
 use Rattle.command_parts.specs.declared.takes.Take.{Take}
+use Rattle.setup_naming.specs.declared.objects.Object.{Object}
+use Rattle.setup_naming.specs.Naming.{Texts}
 use Rattle.command_parts.specs.Messages.{passes_alone, uses_held}
+use Rattle.command_parts.specs.Telling.{PartTexts}
 use Rattle.command_parts.specs.Takes.{part_slots, taken_by, takes, taking}
 pub use Rattle.command_parts.specs.Takes.{is_part}
 use Rattle.command_parts.specs.declared.ways.Way.{Way}
@@ -48,16 +50,16 @@ parts_head_line name setup made refused =
 abbrev pub none_text : Bool → List ℕ
 none_text live = cond live [] (codes " none")
 
-abbrev pub without_line : Names → Shown → ℕ → List ℕ
-without_line names v thread = terminated (codes "without " ++ (thread_name names thread ++ none_text (is_some (state_at v thread))))
+abbrev pub without_line : Texts → Shown → ℕ → List ℕ
+without_line texts v thread = terminated (codes "without " ++ (texts.about thread ++ none_text (is_some (state_at v thread))))
 
-abbrev pub messages_line : Names → Shown → ℕ → List ℕ
-messages_line names v thread = terminated (codes "messages " ++ (thread_name names thread ++ none_text (is_some (state_at v thread))))
+abbrev pub messages_line : Texts → Shown → ℕ → List ℕ
+messages_line texts v thread = terminated (codes "messages " ++ (texts.about thread ++ none_text (is_some (state_at v thread))))
 
 -- the first line, the threads that make no more calls, and those that go on to send and receive alone
-abbrev pub head_lines : List ℕ → Names → SetupView → ℕ → ℕ → List ℕ → List ℕ → Shown → List ℕ
-head_lines name names setup made refused without messages v =
-    parts_head_line name setup made refused ++ (flat_map (without_line names v) without ++ flat_map (messages_line names v) messages)
+abbrev pub head_lines : List ℕ → Texts → SetupView → ℕ → ℕ → List ℕ → List ℕ → Shown → List ℕ
+head_lines name texts setup made refused without messages v =
+    parts_head_line name setup made refused ++ (flat_map (without_line texts v) without ++ flat_map (messages_line texts v) messages)
 
 -- ---- a part: its live threads, its memory and the endpoints that it may use
 
@@ -71,40 +73,44 @@ abbrev pub state_line : List ℕ → Option ThreadState → List ℕ
 state_line name None = []
 state_line name (Some state) = terminated (codes "  thread " ++ (name ++ (codes " " ++ state_word state)))
 
-abbrev pub part_thread_line : Names → List PartMemory → ℕ → Shown → ℕ → List ℕ
-part_thread_line names memory part v thread =
-    cond (is_part part (part_at memory thread)) (state_line (thread_name names thread) (state_at v thread)) []
+abbrev pub part_thread_line : PartTexts → List PartMemory → ℕ → Shown → ℕ → List ℕ
+part_thread_line told memory part v thread =
+    cond (is_part part (part_at memory thread)) (state_line (told.texts.about thread) (state_at v thread)) []
 
 abbrev pub memory_line : ℕ → PartMemory → List ℕ
 memory_line part m =
     cond (m.part == part) (terminated (codes "  memory " ++ (decimal m.first ++ (codes " to " ++ decimal m.last)))) []
 
--- of a part that only passes messages: a line that says so, and what it has
-abbrev pub held_line : PartUse → List ℕ
-held_line u =
-    terminated (codes "  use " ++ (decimal u.endpoint ++ (codes " badge " ++ (decimal u.badge.0 ++ (codes " rights " ++ rights_text u.rights)))))
+-- an endpoint
+abbrev pub endpoint_told : PartTexts → ℕ → List ℕ
+endpoint_told told endpoint = told.texts.object (Object.Endpoint endpoint)
 
-abbrev pub held_lines : List PartSlot → ℕ → List ℕ
-held_lines slots part = terminated (codes "  only messages") ++ flat_map held_line (uses_held slots part)
+-- of a part that only passes messages: a line that says so, and what it has
+abbrev pub held_line : PartTexts → PartUse → List ℕ
+held_line told u =
+    terminated (codes "  use " ++ (endpoint_told told u.endpoint ++ (codes " badge " ++ (decimal u.badge.0 ++ (codes " rights " ++ rights_text u.rights)))))
+
+abbrev pub held_lines : PartTexts → List PartSlot → ℕ → List ℕ
+held_lines told slots part = terminated (codes "  only messages") ++ flat_map (held_line told) (uses_held slots part)
 
 -- 0 stands for any badge
 abbrev pub any_badge_text : ℕ → List ℕ
 any_badge_text badge = cond (badge == 0) (codes "any") (decimal badge)
 
-abbrev pub use_line : ℕ → PartUse → List ℕ
-use_line part u =
+abbrev pub use_line : PartTexts → ℕ → PartUse → List ℕ
+use_line told part u =
     cond (u.part == part)
-    (terminated (codes "  use " ++ (decimal u.endpoint ++ (codes " badge " ++ (any_badge_text u.badge.0 ++ (codes " rights " ++ rights_text u.rights)))))) []
+    (terminated (codes "  use " ++ (endpoint_told told u.endpoint ++ (codes " badge " ++ (any_badge_text u.badge.0 ++ (codes " rights " ++ rights_text u.rights)))))) []
 
-abbrev pub use_lines : List PartSlot → List ℕ → List PartUse → ℕ → List ℕ
-use_lines slots alone uses part = cond (is_in part alone) (held_lines slots part) (flat_map (use_line part) uses)
+abbrev pub use_lines : PartTexts → List PartSlot → List ℕ → List PartUse → ℕ → List ℕ
+use_lines told slots alone uses part = cond (is_in part alone) (held_lines told slots part) (flat_map (use_line told part) uses)
 
 -- some parts pass messages alone
-abbrev pub part_lines : ProfileName → Names → List PartMemory → List PartUse → Shown → List PartSlot → List ℕ → ℕ → List ℕ
-part_lines p names memory uses v slots alone part =
-    terminated (codes "part " ++ decimal part)
-    ++ (flat_map (part_thread_line names memory part v) (threads p v)
-    ++ (flat_map (memory_line part) memory ++ use_lines slots alone uses part))
+abbrev pub part_lines : ProfileName → PartTexts → List PartMemory → List PartUse → Shown → List PartSlot → List ℕ → ℕ → List ℕ
+part_lines p told memory uses v slots alone part =
+    terminated (codes "part " ++ told.part part)
+    ++ (flat_map (part_thread_line told memory part v) (threads p v)
+    ++ (flat_map (memory_line part) memory ++ use_lines told slots alone uses part))
 
 -- ---- ways: from one part to another, by an endpoint that the one may send to, and the other receive on
 
@@ -207,91 +213,91 @@ message_ways_from p memory uses slots alone from =
 abbrev pub message_ways : ProfileName → List PartMemory → List PartUse → List PartSlot → List ℕ → List Way
 message_ways p memory uses slots alone = flat_map (message_ways_from p memory uses slots alone) (parts_of memory)
 
-abbrev pub way_line : Way → List ℕ
-way_line w =
-    terminated (codes "way " ++ (decimal w.from ++ (codes " -> " ++ (decimal w.endpoint ++ (codes " badge " ++ (any_badge_text w.badge
-    ++ (codes " -> " ++ decimal w.to)))))))
+abbrev pub way_line : PartTexts → Way → List ℕ
+way_line told w =
+    terminated (codes "way " ++ (told.part w.from ++ (codes " -> " ++ (endpoint_told told w.endpoint ++ (codes " badge " ++ (any_badge_text w.badge
+    ++ (codes " -> " ++ told.part w.to)))))))
 
-abbrev pub passing_line : Passing → Way → List ℕ
-passing_line Message w = way_line w
-passing_line Grant w =
-    terminated (codes "grant " ++ (decimal w.from ++ (codes " -> " ++ (decimal w.endpoint ++ (codes " -> " ++ decimal w.to)))))
-passing_line Answer w =
-    terminated (codes "reply " ++ (decimal w.to ++ (codes " -> " ++ (decimal w.endpoint ++ (codes " -> " ++ decimal w.from)))))
+abbrev pub passing_line : PartTexts → Passing → Way → List ℕ
+passing_line told Message w = way_line told w
+passing_line told Grant w =
+    terminated (codes "grant " ++ (told.part w.from ++ (codes " -> " ++ (endpoint_told told w.endpoint ++ (codes " -> " ++ told.part w.to)))))
+passing_line told Answer w =
+    terminated (codes "reply " ++ (told.part w.to ++ (codes " -> " ++ (endpoint_told told w.endpoint ++ (codes " -> " ++ told.part w.from)))))
 
 -- the same of two parts alone
-abbrev pub between_line : Passing → ProfileName → List PartMemory → List PartUse → ℕ → ℕ → ℕ → List ℕ
-between_line passing p memory uses from to endpoint =
-    cond (may_pass passing p memory uses from endpoint && may_part_receive p memory uses endpoint to) (passing_line passing (way from endpoint 0 to)) []
+abbrev pub between_line : PartTexts → Passing → ProfileName → List PartMemory → List PartUse → ℕ → ℕ → ℕ → List ℕ
+between_line told passing p memory uses from to endpoint =
+    cond (may_pass passing p memory uses from endpoint && may_part_receive p memory uses endpoint to) (passing_line told passing (way from endpoint 0 to)) []
 
-abbrev pub lines_of_two : Passing → ProfileName → List PartMemory → List PartUse → ℕ → ℕ → List ℕ
-lines_of_two passing p memory uses from to = flat_map (between_line passing p memory uses from to) (endpoints_used uses)
+abbrev pub lines_of_two : PartTexts → Passing → ProfileName → List PartMemory → List PartUse → ℕ → ℕ → List ℕ
+lines_of_two told passing p memory uses from to = flat_map (between_line told passing p memory uses from to) (endpoints_used uses)
 
 -- capabilities and answers that pass between two parts in seL4, either way
-abbrev pub sel4_lines : ProfileName → List PartMemory → List PartUse → ℕ → ℕ → List ℕ
-sel4_lines p memory uses i j =
-    lines_of_two Grant p memory uses i j ++ (lines_of_two Grant p memory uses j i
-    ++ (lines_of_two Answer p memory uses i j ++ lines_of_two Answer p memory uses j i))
+abbrev pub sel4_lines : PartTexts → ProfileName → List PartMemory → List PartUse → ℕ → ℕ → List ℕ
+sel4_lines told p memory uses i j =
+    lines_of_two told Grant p memory uses i j ++ (lines_of_two told Grant p memory uses j i
+    ++ (lines_of_two told Answer p memory uses i j ++ lines_of_two told Answer p memory uses j i))
 
 -- ---- takes: a part may take slots from another, where full slots of the other stand below its own
 
-abbrev pub take_line : Take → List ℕ
-take_line t = terminated (codes "take " ++ (decimal t.by ++ (codes " -> " ++ decimal t.of)))
+abbrev pub take_line : PartTexts → Take → List ℕ
+take_line told t = terminated (codes "take " ++ (told.part t.by ++ (codes " -> " ++ told.part t.of)))
 
 -- the same of two parts alone
-abbrev pub take_of_two : List PartSlot → ℕ → ℕ → List ℕ
-take_of_two list by of = cond (is_in of (taken_by list by)) (take_line (taking by of)) []
+abbrev pub take_of_two : PartTexts → List PartSlot → ℕ → ℕ → List ℕ
+take_of_two told list by of = cond (is_in of (taken_by list by)) (take_line told (taking by of)) []
 
-abbrev pub takes_between : List PartMemory → Shown → ℕ → ℕ → List ℕ
-takes_between memory v i j = take_of_two (part_slots memory v.derivations) i j ++ take_of_two (part_slots memory v.derivations) j i
+abbrev pub takes_between : PartTexts → List PartMemory → Shown → ℕ → ℕ → List ℕ
+takes_between told memory v i j = take_of_two told (part_slots memory v.derivations) i j ++ take_of_two told (part_slots memory v.derivations) j i
 
 -- ---- sends that wait: each may be delivered, whatever the uses are
 
-abbrev pub offer_line : List ℕ → ℕ → Option Offer → List ℕ
-offer_line name endpoint None = []
-offer_line name endpoint (Some offer) =
-    terminated (codes "waiting " ++ (name ++ (codes " -> " ++ (decimal endpoint ++ (codes " badge " ++ decimal offer.badge.0)))))
+abbrev pub offer_line : PartTexts → ℕ → ℕ → Option Offer → List ℕ
+offer_line told endpoint thread None = []
+offer_line told endpoint thread (Some offer) =
+    terminated (codes "waiting " ++ (told.texts.about thread ++ (codes " -> " ++ (endpoint_told told endpoint ++ (codes " badge " ++ decimal offer.badge.0)))))
 
-abbrev pub waiting_line : Names → Shown → ℕ → ℕ → List ℕ
-waiting_line names v endpoint thread = offer_line (thread_name names thread) endpoint (offer_at v thread)
+abbrev pub waiting_line : PartTexts → Shown → ℕ → ℕ → List ℕ
+waiting_line told v endpoint thread = offer_line told endpoint thread (offer_at v thread)
 
-abbrev pub waiting_lines : Names → Shown → ℕ → List ℕ
-waiting_lines names v endpoint = flat_map (waiting_line names v endpoint) (threads_at v endpoint)
+abbrev pub waiting_lines : PartTexts → Shown → ℕ → List ℕ
+waiting_lines told v endpoint = flat_map (waiting_line told v endpoint) (threads_at v endpoint)
 
 abbrev pub parts_count_line : ℕ → ℕ → ℕ → ℕ → ℕ → List ℕ
 parts_count_line parts ways grants replies taken =
     terminated (codes "parts " ++ (decimal parts ++ (codes " ways " ++ (decimal ways ++ (codes " grants " ++ (decimal grants
     ++ (codes " replies " ++ (decimal replies ++ (codes " takes " ++ decimal taken)))))))))
 
-abbrev pub held_way_line : Way → List ℕ
-held_way_line w =
-    terminated (codes "way " ++ (decimal w.from ++ (codes " -> " ++ (decimal w.endpoint ++ (codes " badge " ++ (decimal w.badge ++ (codes " -> " ++ decimal w.to)))))))
+abbrev pub held_way_line : PartTexts → Way → List ℕ
+held_way_line told w =
+    terminated (codes "way " ++ (told.part w.from ++ (codes " -> " ++ (endpoint_told told w.endpoint ++ (codes " badge " ++ (decimal w.badge ++ (codes " -> " ++ told.part w.to)))))))
 
-abbrev pub message_line : List ℕ → Way → List ℕ
-message_line alone w = cond (is_in w.from alone) (held_way_line w) (way_line w)
+abbrev pub message_line : PartTexts → List ℕ → Way → List ℕ
+message_line told alone w = cond (is_in w.from alone) (held_way_line told w) (way_line told w)
 
 -- ---- all of it
 
-abbrev pub way_lines : Passing → ProfileName → List PartMemory → List PartUse → List ℕ
-way_lines passing p memory uses = flat_map (passing_line passing) (ways passing p memory uses)
+abbrev pub way_lines : PartTexts → Passing → ProfileName → List PartMemory → List PartUse → List ℕ
+way_lines told passing p memory uses = flat_map (passing_line told passing) (ways passing p memory uses)
 
 -- the lines by the full slots, and the parts that only pass messages
-unfoldable pub lines_by_slots : ProfileName → Names → List PartMemory → List PartUse → Shown → List PartSlot → List ℕ → List ℕ
-lines_by_slots p names memory uses v slots alone =
-    flat_map (part_lines p names memory uses v slots alone) (parts_of memory)
-    ++ (flat_map (message_line alone) (message_ways p memory uses slots alone)
-    ++ (way_lines Grant p memory uses ++ (way_lines Answer p memory uses
-    ++ (flat_map take_line (takes slots (parts_of memory))
-    ++ (flat_map (waiting_lines names v) (endpoints p v)
+unfoldable pub lines_by_slots : ProfileName → PartTexts → List PartMemory → List PartUse → Shown → List PartSlot → List ℕ → List ℕ
+lines_by_slots p told memory uses v slots alone =
+    flat_map (part_lines p told memory uses v slots alone) (parts_of memory)
+    ++ (flat_map (message_line told alone) (message_ways p memory uses slots alone)
+    ++ (way_lines told Grant p memory uses ++ (way_lines told Answer p memory uses
+    ++ (flat_map (take_line told) (takes slots (parts_of memory))
+    ++ (flat_map (waiting_lines told v) (endpoints p v)
     ++ parts_count_line (length (parts_of memory)) (length (message_ways p memory uses slots alone)) (length (ways Grant p memory uses))
     (length (ways Answer p memory uses)) (length (takes slots (parts_of memory))))))))
 
 abbrev pub parts_alone : ProfileName → List PartMemory → Shown → List ℕ
 parts_alone p memory v = filter (passes_alone p (part_slots memory v.derivations)) (parts_of memory)
 
-unfoldable pub ever_lines : ProfileName → Names → List PartMemory → List PartUse → Shown → List ℕ
-ever_lines p names memory uses v = lines_by_slots p names memory uses v (part_slots memory v.derivations) (parts_alone p memory v)
+unfoldable pub ever_lines : ProfileName → PartTexts → List PartMemory → List PartUse → Shown → List ℕ
+ever_lines p told memory uses v = lines_by_slots p told memory uses v (part_slots memory v.derivations) (parts_alone p memory v)
 
-unfoldable pub ever_text : ProfileName → Names → SetupView → ℕ → ℕ → List ℕ → List ℕ → List PartMemory → List PartUse → Shown → List ℕ
-ever_text p names setup made refused without messages memory uses v =
-    head_lines (codes "ever") names setup made refused without messages v ++ ever_lines p names memory uses v
+unfoldable pub ever_text : ProfileName → PartTexts → SetupView → ℕ → ℕ → List ℕ → List ℕ → List PartMemory → List PartUse → Shown → List ℕ
+ever_text p told setup made refused without messages memory uses v =
+    head_lines (codes "ever") told.texts setup made refused without messages v ++ ever_lines p told memory uses v

@@ -3,6 +3,7 @@ ghost use Rattle.std.specs.Prelude.{◌≡◌, ℕ, IfOk};
 ghost use Rattle.kernel_abstract.specs.Memory.{IsInMemory};
 ghost use Rattle.kernel_abstract.specs.Plan.{IsWithinLimits};
 ghost use Rattle.setup_values.specs.Names.{names_view};
+ghost use Rattle.setup_naming.specs.Naming.{naming_view};
 ghost use Rattle.setup_objects.specs.declared.meant.ObjectKind.TheVariants as objects;
 ghost use Rattle.command_parts.specs.Ever as spec;
 ghost use Rattle.command_parts.specs.Threads as meant;
@@ -20,6 +21,7 @@ use ipc_core::{MakeWaiters, Waiters};
 use kernel_core::Kernel;
 use query_parts::PartsFault;
 use setup_format::{ReadSetup, Setup};
+use setup_naming::Naming;
 use setup_objects::ObjectKind;
 use setup_report::calls_made;
 use setup_values::Name;
@@ -27,11 +29,13 @@ use slot_core::{DerivationStore, MakeStore};
 use std::alloc::{AllocError, Global};
 
 /// What the threads of a set-up can never get, whatever they call, behind its first `after` calls, or behind all: closed parts of
-/// the memory, the endpoints that each may use, and the ways between them. Some threads are trusted. The verdict is `AllMet`, or
+/// the memory, the endpoints that each may use, and the ways between them. Some threads are trusted. If `names` is set, objects that have
+/// a name are told by it, and a part by its threads. The verdict is `AllMet`, or
 /// `Absent` with nothing written where the set-up has fewer calls, and where a word stands for no thread.
 #[derive(Clone, Copy, Drop)]
 pub struct Ever<'a> {
     pub trust: Trust<'a>,
+    pub names: bool,
     pub after: Option<u64>,
 }
 
@@ -40,6 +44,7 @@ impl Ever<'_> {
     fn text_of<P: Profile, S: DerivationStore<P> + Drop, W: Waiters<P> + Drop>(
         &self,
         alloc: Global,
+        naming: &Naming<'_>,
         names: &[Name],
         setup: &Setup,
         made: usize,
@@ -48,7 +53,7 @@ impl Ever<'_> {
     ) -> Result<Vec<u8>, AllocError>
         requires limits { IsWithinLimits P.profile setup.now.plan }
         requires memory { (memory : ℕ) × IsInMemory P.profile memory kernel.now }
-        ensures { IfOk result (λ text. spec.IsPartsText P.profile (names_view names.now) setup.now made refused
+        ensures { IfOk result (λ text. spec.IsPartsText P.profile (naming_view naming.now) setup.now made refused
             (meant.objects_named objects.Thread P.profile (names_view names.now) setup.now.plan kernel.now (trusted_by self.now.trust).without)
             (meant.objects_named objects.Thread P.profile (names_view names.now) setup.now.plan kernel.now (trusted_by self.now.trust).messages) kernel.now text.items) }
     {
@@ -62,7 +67,7 @@ impl Ever<'_> {
             without: without.as_slice(),
             messages: messages.as_slice(),
         };
-        match ever::<P, S, W>(alloc, names, &heading, kernel) {
+        match ever::<P, S, W>(alloc, naming, &heading, kernel) {
             Ok(text) => Ok(text),
             Err(PartsFault::Memory) => Err(AllocError),
             Err(PartsFault::Block) => unreachable!(),
@@ -73,6 +78,7 @@ impl Ever<'_> {
     fn answer_of<P: Profile, S: DerivationStore<P> + Drop, W: Waiters<P> + Drop>(
         &self,
         alloc: Global,
+        naming: &Naming<'_>,
         names: &[Name],
         setup: &Setup,
         made: usize,
@@ -81,13 +87,13 @@ impl Ever<'_> {
     ) -> Result<Answer, AllocError>
         requires limits { IsWithinLimits P.profile setup.now.plan }
         requires memory { (memory : ℕ) × IsInMemory P.profile memory kernel.now }
-        ensures { IfOk result (λ answer. IsEverOf (trusted_by self.now.trust) P.profile (names_view names.now) setup.now made refused kernel.now answer.text.items answer.verdict) }
+        ensures { IfOk result (λ answer. IsEverOf (trusted_by self.now.trust) (naming_view naming.now) P.profile (names_view names.now) setup.now made refused kernel.now answer.text.items answer.verdict) }
     {
         if !self.trust.is_meant::<P, S, W>(names, setup, kernel) {
             let absent = self.trust.absent::<P, S, W>(alloc, names, setup, kernel)?;
             return Ok(Answer::absent(alloc, absent));
         }
-        let text = self.text_of::<P, S, W>(alloc, names, setup, made, refused, kernel)?;
+        let text = self.text_of::<P, S, W>(alloc, naming, names, setup, made, refused, kernel)?;
         Ok(Answer::new(alloc, text, Verdict::AllMet))
     }
 }
@@ -97,7 +103,7 @@ impl Command for Ever<'_> {
     ghost use Rattle.command_parts.specs.Threads.{trusted_by};
     ghost use Rattle.command_parts.specs.Told.{IsEver};
 
-    ghost answers = { λ ever. IsStateAnswer (IsEver (trusted_by ever.trust)) ever.after };
+    ghost answers = { λ ever. IsStateAnswer (IsEver (trusted_by ever.trust) ever.names) ever.after };
 
     fn answer<P: Profile, S: MakeStore<P> + DerivationStore<P>, W: MakeWaiters<P>>(
         &self,
@@ -111,6 +117,7 @@ impl Command for Ever<'_> {
             return Ok(Answer::absent(alloc, absent));
         };
         let (kernel, refused) = kernel_behind::<P, S, W>(alloc, setup, made)?;
-        self.answer_of::<P, S, W>(alloc, names, setup, made, refused, &kernel)
+        let naming = Naming::of::<P, S, W>(alloc, self.names, names, setup.plan(), &kernel)?;
+        self.answer_of::<P, S, W>(alloc, &naming, names, setup, made, refused, &kernel)
     }
 }

@@ -1,14 +1,15 @@
 //! The first lines: of which state a text tells, and which threads are trusted.
 ghost use Rattle.std.specs.Prelude.{◌≡◌, ◌++◌, OnOk, Some, string_bytes};
 ghost use Rattle.std.specs.List.{flat_map};
-ghost use Rattle.setup_values.specs.Names.{names_view};
+ghost use Rattle.command_parts.specs.Telling.{part_naming_view};
 ghost use Rattle.command_parts.specs.Text as spec;
 
+use crate::telling::PartNaming;
 use cap_core::Profile;
 use ipc_core::Waiters;
 use kernel_core::Kernel;
 use setup_format::Setup;
-use setup_values::{Name, profile_text, thread_name};
+use setup_values::profile_text;
 use slot_core::CapStore;
 use std::alloc::AllocError;
 use std::fmt;
@@ -90,58 +91,58 @@ pub fn none_text(live: bool) -> &'static str
 
 fn add_without<P: Profile, S: CapStore<P> + Drop, W: Waiters<P> + Drop>(
     out: &mut String,
-    names: &[Name],
+    told: &PartNaming<'_>,
     kernel: &Kernel<P, S, W>,
     thread: u64,
 ) -> Result<(), AllocError>
     ensures { OnOk result (string_bytes out.new ≡ string_bytes out.old
-        ++ spec.without_line (names_view names.now) kernel.now thread) }
+        ++ spec.without_line (part_naming_view told.now).texts kernel.now thread) }
 {
-    let name = thread_name(names, thread);
+    let name = told.thread(thread);
     let none = none_text(kernel.thread_state(thread).is_some());
     writeln!(out, "without {name}{none}")
 }
 
 fn add_all_without<P: Profile, S: CapStore<P> + Drop, W: Waiters<P> + Drop>(
     out: &mut String,
-    names: &[Name],
+    told: &PartNaming<'_>,
     kernel: &Kernel<P, S, W>,
     without: &[u64],
 ) -> Result<(), AllocError>
     ensures { OnOk result (string_bytes out.new ≡ string_bytes out.old
-        ++ flat_map (spec.without_line (names_view names.now) kernel.now) without.now) }
+        ++ flat_map (spec.without_line (part_naming_view told.now).texts kernel.now) without.now) }
 {
     for thread in without {
-        add_without::<P, S, W>(out, names, kernel, *thread)?;
+        add_without::<P, S, W>(out, told, kernel, *thread)?;
     }
     Ok(())
 }
 
 fn add_messenger<P: Profile, S: CapStore<P> + Drop, W: Waiters<P> + Drop>(
     out: &mut String,
-    names: &[Name],
+    told: &PartNaming<'_>,
     kernel: &Kernel<P, S, W>,
     thread: u64,
 ) -> Result<(), AllocError>
     ensures { OnOk result (string_bytes out.new ≡ string_bytes out.old
-        ++ spec.messages_line (names_view names.now) kernel.now thread) }
+        ++ spec.messages_line (part_naming_view told.now).texts kernel.now thread) }
 {
-    let name = thread_name(names, thread);
+    let name = told.thread(thread);
     let none = none_text(kernel.thread_state(thread).is_some());
     writeln!(out, "messages {name}{none}")
 }
 
 fn add_messengers<P: Profile, S: CapStore<P> + Drop, W: Waiters<P> + Drop>(
     out: &mut String,
-    names: &[Name],
+    told: &PartNaming<'_>,
     kernel: &Kernel<P, S, W>,
     messages: &[u64],
 ) -> Result<(), AllocError>
     ensures { OnOk result (string_bytes out.new ≡ string_bytes out.old
-        ++ flat_map (spec.messages_line (names_view names.now) kernel.now) messages.now) }
+        ++ flat_map (spec.messages_line (part_naming_view told.now).texts kernel.now) messages.now) }
 {
     for thread in messages {
-        add_messenger::<P, S, W>(out, names, kernel, *thread)?;
+        add_messenger::<P, S, W>(out, told, kernel, *thread)?;
     }
     Ok(())
 }
@@ -154,14 +155,14 @@ fn add_messengers<P: Profile, S: CapStore<P> + Drop, W: Waiters<P> + Drop>(
 pub fn add_heading<P: Profile, S: CapStore<P> + Drop, W: Waiters<P> + Drop>(
     out: &mut String,
     name: &str,
-    names: &[Name],
+    told: &PartNaming<'_>,
     heading: &Heading<'_>,
     kernel: &Kernel<P, S, W>,
 ) -> Result<(), AllocError>
     ensures { OnOk result (string_bytes out.new ≡ string_bytes out.old
-        ++ spec.head_lines name.now (names_view names.now) heading.now.setup.now heading.now.made heading.now.refused heading.now.without.now heading.now.messages.now kernel.now) }
+        ++ spec.head_lines name.now (part_naming_view told.now).texts heading.now.setup.now heading.now.made heading.now.refused heading.now.without.now heading.now.messages.now kernel.now) }
 {
     add_head(out, name, heading.setup, heading.made, heading.refused)?;
-    add_all_without::<P, S, W>(out, names, kernel, heading.without)?;
-    add_messengers::<P, S, W>(out, names, kernel, heading.messages)
+    add_all_without::<P, S, W>(out, told, kernel, heading.without)?;
+    add_messengers::<P, S, W>(out, told, kernel, heading.messages)
 }

@@ -1,24 +1,22 @@
 //! The lines of a part: its live threads, its memory, and the endpoints that it may use.
 ghost use Rattle.std.specs.Prelude.{◌≡◌, ◌++◌, OnOk, Some, codes, string_bytes};
 ghost use Rattle.std.specs.List.{flat_map};
-ghost use Rattle.setup_values.specs.Names.{names_view};
-ghost use Rattle.std.specs.Fmt.{decimal};
 ghost use Rattle.kernel_abstract.specs.Shown.{state_at};
 ghost use Rattle.query_parts.specs.Listed as listed;
 ghost use Rattle.setup_report.specs.Report.{terminated};
 ghost use Rattle.setup_report.specs.State.{threads as threads_of};
-ghost use Rattle.setup_values.specs.Told as told;
+ghost use Rattle.command_parts.specs.Telling.{part_naming_view};
 ghost use Rattle.command_parts.specs.Text as spec;
 
 use crate::messages::uses_held;
 use crate::sets::is_in;
 use crate::takes::PartSlot;
+use crate::telling::PartNaming;
 use cap_core::Profile;
 use ipc_core::Waiters;
 use kernel_core::{Kernel, ThreadState};
 use query_parts::{PartMemory, PartUse, Parts, part_at};
 use setup_report::RightsText;
-use setup_values::{Name, thread_name};
 use slot_core::CapStore;
 use std::alloc::{AllocError, Global};
 use std::fmt;
@@ -54,17 +52,17 @@ fn state_word(state: ThreadState) -> &'static str
 
 fn add_state<P: Profile, S: CapStore<P> + Drop, W: Waiters<P> + Drop>(
     out: &mut String,
-    names: &[Name],
+    told: &PartNaming<'_>,
     kernel: &Kernel<P, S, W>,
     thread: u64,
 ) -> Result<(), AllocError>
     ensures { OnOk result (string_bytes out.new ≡ string_bytes out.old
-        ++ spec.state_line (told.thread_name (names_view names.now) thread) (state_at kernel.now thread)) }
+        ++ spec.state_line ((part_naming_view told.now).texts.about thread) (state_at kernel.now thread)) }
 {
     match kernel.thread_state(thread) {
         None => Ok(()),
         Some(state) => {
-            let name = thread_name(names, thread);
+            let name = told.thread(thread);
             let word = state_word(state);
             writeln!(out, "  thread {name} {word}")
         }
@@ -83,17 +81,17 @@ pub fn is_of_part(memory: &[PartMemory], part: u64, address: u64) -> bool
 
 fn add_thread<P: Profile, S: CapStore<P> + Drop, W: Waiters<P> + Drop>(
     out: &mut String,
-    names: &[Name],
+    told: &PartNaming<'_>,
     kernel: &Kernel<P, S, W>,
     memory: &[PartMemory],
     part: u64,
     thread: u64,
 ) -> Result<(), AllocError>
     ensures { OnOk result (string_bytes out.new ≡ string_bytes out.old
-        ++ spec.part_thread_line (names_view names.now) memory.now part kernel.now thread) }
+        ++ spec.part_thread_line (part_naming_view told.now) memory.now part kernel.now thread) }
 {
     if is_of_part(memory, part, thread) {
-        add_state::<P, S, W>(out, names, kernel, thread)
+        add_state::<P, S, W>(out, told, kernel, thread)
     } else {
         Ok(())
     }
@@ -101,17 +99,17 @@ fn add_thread<P: Profile, S: CapStore<P> + Drop, W: Waiters<P> + Drop>(
 
 fn add_threads<P: Profile, S: CapStore<P> + Drop, W: Waiters<P> + Drop>(
     out: &mut String,
-    names: &[Name],
+    told: &PartNaming<'_>,
     kernel: &Kernel<P, S, W>,
     memory: &[PartMemory],
     part: u64,
     threads: &[u64],
 ) -> Result<(), AllocError>
     ensures { OnOk result (string_bytes out.new ≡ string_bytes out.old
-        ++ flat_map (spec.part_thread_line (names_view names.now) memory.now part kernel.now) threads.now) }
+        ++ flat_map (spec.part_thread_line (part_naming_view told.now) memory.now part kernel.now) threads.now) }
 {
     for thread in threads {
-        add_thread::<P, S, W>(out, names, kernel, memory, part, *thread)?;
+        add_thread::<P, S, W>(out, told, kernel, memory, part, *thread)?;
     }
     Ok(())
 }
@@ -137,10 +135,15 @@ fn add_memory(out: &mut String, part: u64, memory: &[PartMemory]) -> Result<(), 
     Ok(())
 }
 
-fn add_use(out: &mut String, part: u64, allowed: &PartUse) -> Result<(), AllocError>
-    ensures { OnOk result (string_bytes out.new ≡ string_bytes out.old ++ spec.use_line part allowed.now) }
+fn add_use(
+    out: &mut String,
+    told: &PartNaming<'_>,
+    part: u64,
+    allowed: &PartUse,
+) -> Result<(), AllocError>
+    ensures { OnOk result (string_bytes out.new ≡ string_bytes out.old ++ spec.use_line (part_naming_view told.now) part allowed.now) }
 {
-    let endpoint = allowed.endpoint;
+    let endpoint = told.endpoint(allowed.endpoint);
     let badge = BadgeText(allowed.badge.0);
     let rights = RightsText(allowed.rights);
     if allowed.part == part {
@@ -150,29 +153,38 @@ fn add_use(out: &mut String, part: u64, allowed: &PartUse) -> Result<(), AllocEr
     }
 }
 
-fn add_uses(out: &mut String, part: u64, uses: &[PartUse]) -> Result<(), AllocError>
-    ensures { OnOk result (string_bytes out.new ≡ string_bytes out.old ++ flat_map (spec.use_line part) uses.now) }
+fn add_uses(
+    out: &mut String,
+    told: &PartNaming<'_>,
+    part: u64,
+    uses: &[PartUse],
+) -> Result<(), AllocError>
+    ensures { OnOk result (string_bytes out.new ≡ string_bytes out.old ++ flat_map (spec.use_line (part_naming_view told.now) part) uses.now) }
 {
     for allowed in uses {
-        add_use(out, part, allowed)?;
+        add_use(out, told, part, allowed)?;
     }
     Ok(())
 }
 
-fn add_held_use(out: &mut String, held: &PartUse) -> Result<(), AllocError>
-    ensures { OnOk result (string_bytes out.new ≡ string_bytes out.old ++ spec.held_line held.now) }
+fn add_held_use(out: &mut String, told: &PartNaming<'_>, held: &PartUse) -> Result<(), AllocError>
+    ensures { OnOk result (string_bytes out.new ≡ string_bytes out.old ++ spec.held_line (part_naming_view told.now) held.now) }
 {
-    let endpoint = held.endpoint;
+    let endpoint = told.endpoint(held.endpoint);
     let badge = held.badge.0;
     let rights = RightsText(held.rights);
     writeln!(out, "  use {endpoint} badge {badge} rights {rights}")
 }
 
-fn add_held_uses(out: &mut String, held: &[PartUse]) -> Result<(), AllocError>
-    ensures { OnOk result (string_bytes out.new ≡ string_bytes out.old ++ flat_map spec.held_line held.now) }
+fn add_held_uses(
+    out: &mut String,
+    told: &PartNaming<'_>,
+    held: &[PartUse],
+) -> Result<(), AllocError>
+    ensures { OnOk result (string_bytes out.new ≡ string_bytes out.old ++ flat_map (spec.held_line (part_naming_view told.now)) held.now) }
 {
     for u in held {
-        add_held_use(out, u)?;
+        add_held_use(out, told, u)?;
     }
     Ok(())
 }
@@ -180,45 +192,48 @@ fn add_held_uses(out: &mut String, held: &[PartUse]) -> Result<(), AllocError>
 fn add_held(
     alloc: Global,
     out: &mut String,
+    told: &PartNaming<'_>,
     part_slots: &[PartSlot],
     part: u64,
 ) -> Result<(), AllocError>
-    ensures { OnOk result (string_bytes out.new ≡ string_bytes out.old ++ spec.held_lines part_slots.now part) }
+    ensures { OnOk result (string_bytes out.new ≡ string_bytes out.old ++ spec.held_lines (part_naming_view told.now) part_slots.now part) }
 {
     let held = uses_held(alloc, part_slots, part)?;
     writeln!(out, "  only messages")?;
-    add_held_uses(out, held.as_slice())
+    add_held_uses(out, told, held.as_slice())
 }
 
 /// Adds the uses of a part; of one that only passes messages what it has, below a line that says so.
 fn add_uses_told(
     alloc: Global,
     out: &mut String,
+    told: &PartNaming<'_>,
     part_slots: &[PartSlot],
     alone: &[u64],
     uses: &[PartUse],
     part: u64,
 ) -> Result<(), AllocError>
     ensures { OnOk result (string_bytes out.new ≡ string_bytes out.old
-        ++ spec.use_lines part_slots.now alone.now uses.now part) }
+        ++ spec.use_lines (part_naming_view told.now) part_slots.now alone.now uses.now part) }
 {
     if is_in(alone, part) {
-        add_held(alloc, out, part_slots, part)
+        add_held(alloc, out, told, part_slots, part)
     } else {
-        add_uses(out, part, uses)
+        add_uses(out, told, part, uses)
     }
 }
 
-fn add_number(out: &mut String, part: u64) -> Result<(), AllocError>
-    ensures { OnOk result (string_bytes out.new ≡ string_bytes out.old ++ terminated (codes "part " ++ decimal part)) }
+fn add_number(out: &mut String, told: &PartNaming<'_>, part: u64) -> Result<(), AllocError>
+    ensures { OnOk result (string_bytes out.new ≡ string_bytes out.old ++ terminated (codes "part " ++ (part_naming_view told.now).part part)) }
 {
+    let part = told.part(part)?;
     writeln!(out, "part {part}")
 }
 
 fn add_part<P: Profile, S: CapStore<P> + Drop, W: Waiters<P> + Drop>(
     alloc: Global,
     out: &mut String,
-    names: &[Name],
+    told: &PartNaming<'_>,
     kernel: &Kernel<P, S, W>,
     threads: &[u64],
     parts: &Parts,
@@ -228,12 +243,20 @@ fn add_part<P: Profile, S: CapStore<P> + Drop, W: Waiters<P> + Drop>(
 ) -> Result<(), AllocError>
     requires { threads.now ≡ threads_of P.profile kernel.now }
     ensures { OnOk result (string_bytes out.new ≡ string_bytes out.old
-        ++ spec.part_lines P.profile (names_view names.now) parts.now.memory.items parts.now.uses.items kernel.now part_slots.now alone.now part) }
+        ++ spec.part_lines P.profile (part_naming_view told.now) parts.now.memory.items parts.now.uses.items kernel.now part_slots.now alone.now part) }
 {
-    add_number(out, part)?;
-    add_threads::<P, S, W>(out, names, kernel, parts.memory.as_slice(), part, threads)?;
+    add_number(out, told, part)?;
+    add_threads::<P, S, W>(out, told, kernel, parts.memory.as_slice(), part, threads)?;
     add_memory(out, part, parts.memory.as_slice())?;
-    add_uses_told(alloc, out, part_slots, alone, parts.uses.as_slice(), part)
+    add_uses_told(
+        alloc,
+        out,
+        told,
+        part_slots,
+        alone,
+        parts.uses.as_slice(),
+        part,
+    )
 }
 
 /// Adds the lines of parts, by their numbers.
@@ -244,7 +267,7 @@ fn add_part<P: Profile, S: CapStore<P> + Drop, W: Waiters<P> + Drop>(
 pub fn add_parts<P: Profile, S: CapStore<P> + Drop, W: Waiters<P> + Drop>(
     alloc: Global,
     out: &mut String,
-    names: &[Name],
+    told: &PartNaming<'_>,
     kernel: &Kernel<P, S, W>,
     threads: &[u64],
     parts: &Parts,
@@ -254,11 +277,11 @@ pub fn add_parts<P: Profile, S: CapStore<P> + Drop, W: Waiters<P> + Drop>(
 ) -> Result<(), AllocError>
     requires { threads.now ≡ threads_of P.profile kernel.now }
     ensures { OnOk result (string_bytes out.new ≡ string_bytes out.old
-        ++ flat_map (spec.part_lines P.profile (names_view names.now) parts.now.memory.items parts.now.uses.items kernel.now part_slots.now alone.now) numbers.now) }
+        ++ flat_map (spec.part_lines P.profile (part_naming_view told.now) parts.now.memory.items parts.now.uses.items kernel.now part_slots.now alone.now) numbers.now) }
 {
     for part in numbers {
         add_part::<P, S, W>(
-            alloc, out, names, kernel, threads, parts, part_slots, alone, *part,
+            alloc, out, told, kernel, threads, parts, part_slots, alone, *part,
         )?;
     }
     Ok(())

@@ -4,9 +4,11 @@ ghost use Rattle.std.specs.List.{flat_map};
 ghost use Rattle.slot_core.specs.Calls.{derivation_view};
 ghost use Rattle.setup_report.specs.State.{rising as rising_of};
 ghost use Rattle.command_parts.specs.Takes as spec;
+ghost use Rattle.command_parts.specs.Telling.{part_naming_view};
 ghost use Rattle.command_parts.specs.Text as text;
 
 use crate::sets::{is_in, rising};
+use crate::telling::PartNaming;
 use crate::ways::others;
 use cap_core::{Cap, Profile};
 use ipc_core::Waiters;
@@ -192,9 +194,11 @@ pub fn takes(alloc: Global, part_slots: &[PartSlot], parts: &[u64]) -> Result<Ve
     Ok(takes)
 }
 
-fn add_take(out: &mut String, by: u64, of: u64) -> Result<(), AllocError>
-    ensures { OnOk result (string_bytes out.new ≡ string_bytes out.old ++ text.take_line (spec.taking by of)) }
+fn add_take(out: &mut String, told: &PartNaming<'_>, by: u64, of: u64) -> Result<(), AllocError>
+    ensures { OnOk result (string_bytes out.new ≡ string_bytes out.old ++ text.take_line (part_naming_view told.now) (spec.taking by of)) }
 {
+    let by = told.part(by)?;
+    let of = told.part(of)?;
     writeln!(out, "take {by} -> {of}")
 }
 
@@ -203,11 +207,11 @@ fn add_take(out: &mut String, by: u64, of: u64) -> Result<(), AllocError>
 /// # Errors
 ///
 /// Memory was refused.
-pub fn add_takes(out: &mut String, takes: &[Take]) -> Result<(), AllocError>
-    ensures { OnOk result (string_bytes out.new ≡ string_bytes out.old ++ flat_map text.take_line takes.now) }
+pub fn add_takes(out: &mut String, told: &PartNaming<'_>, takes: &[Take]) -> Result<(), AllocError>
+    ensures { OnOk result (string_bytes out.new ≡ string_bytes out.old ++ flat_map (text.take_line (part_naming_view told.now)) takes.now) }
 {
     for take in takes {
-        add_take(out, take.by, take.of)?;
+        add_take(out, told, take.by, take.of)?;
     }
     Ok(())
 }
@@ -220,15 +224,16 @@ pub fn add_takes(out: &mut String, takes: &[Take]) -> Result<(), AllocError>
 pub fn add_take_of(
     alloc: Global,
     out: &mut String,
+    told: &PartNaming<'_>,
     part_slots: &[PartSlot],
     by: u64,
     of: u64,
 ) -> Result<(), AllocError>
-    ensures { OnOk result (string_bytes out.new ≡ string_bytes out.old ++ text.take_of_two part_slots.now by of) }
+    ensures { OnOk result (string_bytes out.new ≡ string_bytes out.old ++ text.take_of_two (part_naming_view told.now) part_slots.now by of) }
 {
     let taken = taken_by(alloc, part_slots, by)?;
     if is_in(taken.as_slice(), of) {
-        add_take(out, by, of)
+        add_take(out, told, by, of)
     } else {
         Ok(())
     }

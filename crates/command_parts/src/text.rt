@@ -2,9 +2,10 @@
 ghost use Rattle.std.specs.Prelude.{◌≡◌, ◌++◌, ℕ, IfErr, IfOk, OnOk, length, string_bytes};
 ghost use Rattle.std.specs.List.{flat_map};
 ghost use Rattle.kernel_abstract.specs.Memory.{IsInMemory};
-ghost use Rattle.setup_values.specs.Names.{names_view};
+ghost use Rattle.setup_naming.specs.Naming.{naming_view};
 ghost use Rattle.setup_report.specs.State as state;
 ghost use Rattle.command_parts.specs.Takes.{takes as spec_takes};
+ghost use Rattle.command_parts.specs.Telling.{part_naming_view, part_texts};
 ghost use Rattle.command_parts.specs.Text as spec;
 ghost use Rattle.command_parts.specs.Ever.{AreRightParts, IsPartsText};
 
@@ -13,32 +14,34 @@ use crate::messages::messengers;
 use crate::parts::add_parts;
 use crate::sets::listed;
 use crate::takes::{PartSlot, add_takes, part_slots, takes};
+use crate::telling::PartNaming;
 use crate::threads::callers;
 use crate::ways::{Passing, add_messages, add_ways, message_ways, parts_of, ways_by};
 use cap_core::Profile;
 use ipc_core::Waiters;
 use kernel_core::Kernel;
 use query_parts::{Parts, PartsFault, parts_around};
+use setup_naming::Naming;
 use setup_report::{StateRows, state_rows, waiting_threads};
-use setup_values::{Name, thread_name};
 use slot_core::{CapStore, DerivationStore};
 use std::alloc::{AllocError, Global};
 use std::fmt::Write;
 
 fn add_offer<P: Profile, S: CapStore<P> + Drop, W: Waiters<P> + Drop>(
     out: &mut String,
-    names: &[Name],
+    told: &PartNaming<'_>,
     kernel: &Kernel<P, S, W>,
     endpoint: u64,
     thread: u64,
 ) -> Result<(), AllocError>
     ensures { OnOk result (string_bytes out.new ≡ string_bytes out.old
-        ++ spec.waiting_line (names_view names.now) kernel.now endpoint thread) }
+        ++ spec.waiting_line (part_naming_view told.now) kernel.now endpoint thread) }
 {
     match kernel.offer(thread) {
         None => Ok(()),
         Some(offer) => {
-            let name = thread_name(names, thread);
+            let name = told.thread(thread);
+            let endpoint = told.endpoint(endpoint);
             let badge = offer.badge.0;
             writeln!(out, "waiting {name} -> {endpoint} badge {badge}")
         }
@@ -47,16 +50,16 @@ fn add_offer<P: Profile, S: CapStore<P> + Drop, W: Waiters<P> + Drop>(
 
 fn add_offers<P: Profile, S: CapStore<P> + Drop, W: Waiters<P> + Drop>(
     out: &mut String,
-    names: &[Name],
+    told: &PartNaming<'_>,
     kernel: &Kernel<P, S, W>,
     endpoint: u64,
     threads: &[u64],
 ) -> Result<(), AllocError>
     ensures { OnOk result (string_bytes out.new ≡ string_bytes out.old
-        ++ flat_map (spec.waiting_line (names_view names.now) kernel.now endpoint) threads.now) }
+        ++ flat_map (spec.waiting_line (part_naming_view told.now) kernel.now endpoint) threads.now) }
 {
     for thread in threads {
-        add_offer::<P, S, W>(out, names, kernel, endpoint, *thread)?;
+        add_offer::<P, S, W>(out, told, kernel, endpoint, *thread)?;
     }
     Ok(())
 }
@@ -64,30 +67,30 @@ fn add_offers<P: Profile, S: CapStore<P> + Drop, W: Waiters<P> + Drop>(
 fn add_waiting_on<P: Profile, S: CapStore<P> + Drop, W: Waiters<P> + Drop>(
     alloc: Global,
     out: &mut String,
-    names: &[Name],
+    told: &PartNaming<'_>,
     kernel: &Kernel<P, S, W>,
     endpoint: u64,
 ) -> Result<(), AllocError>
     ensures { OnOk result (string_bytes out.new ≡ string_bytes out.old
-        ++ spec.waiting_lines (names_view names.now) kernel.now endpoint) }
+        ++ spec.waiting_lines (part_naming_view told.now) kernel.now endpoint) }
 {
     let threads = waiting_threads::<P, S, W>(alloc, endpoint, kernel)?;
-    add_offers::<P, S, W>(out, names, kernel, endpoint, threads.as_slice())
+    add_offers::<P, S, W>(out, told, kernel, endpoint, threads.as_slice())
 }
 
 /// Adds a line for each send that waits.
 fn add_waiting<P: Profile, S: CapStore<P> + Drop, W: Waiters<P> + Drop>(
     alloc: Global,
     out: &mut String,
-    names: &[Name],
+    told: &PartNaming<'_>,
     kernel: &Kernel<P, S, W>,
     endpoints: &[u64],
 ) -> Result<(), AllocError>
     ensures { OnOk result (string_bytes out.new ≡ string_bytes out.old
-        ++ flat_map (spec.waiting_lines (names_view names.now) kernel.now) endpoints.now) }
+        ++ flat_map (spec.waiting_lines (part_naming_view told.now) kernel.now) endpoints.now) }
 {
     for endpoint in endpoints {
-        add_waiting_on::<P, S, W>(alloc, out, names, kernel, *endpoint)?;
+        add_waiting_on::<P, S, W>(alloc, out, told, kernel, *endpoint)?;
     }
     Ok(())
 }
@@ -112,18 +115,19 @@ fn add_count(
 fn add_passing<P: Profile>(
     alloc: Global,
     out: &mut String,
+    told: &PartNaming<'_>,
     parts: &Parts,
     numbers: &[u64],
     passing: Passing,
 ) -> Result<usize, AllocError>
     requires { numbers.now ≡ spec.parts_of parts.now.memory.items }
     ensures lines { OnOk result (string_bytes out.new ≡ string_bytes out.old
-        ++ spec.way_lines passing P.profile parts.now.memory.items parts.now.uses.items) }
+        ++ spec.way_lines (part_naming_view told.now) passing P.profile parts.now.memory.items parts.now.uses.items) }
     ensures count { IfOk result (λ n. n ≡ length (spec.ways passing P.profile parts.now.memory.items parts.now.uses.items)) }
 {
     let memory = parts.memory.as_slice();
     let ways = ways_by::<P>(alloc, memory, parts.uses.as_slice(), numbers, passing)?;
-    add_ways(out, passing, ways.as_slice())?;
+    add_ways(out, told, passing, ways.as_slice())?;
     Ok(ways.len())
 }
 
@@ -131,6 +135,7 @@ fn add_passing<P: Profile>(
 fn add_message_passing<P: Profile>(
     alloc: Global,
     out: &mut String,
+    told: &PartNaming<'_>,
     parts: &Parts,
     numbers: &[u64],
     part_slots: &[PartSlot],
@@ -138,13 +143,13 @@ fn add_message_passing<P: Profile>(
 ) -> Result<usize, AllocError>
     requires { numbers.now ≡ spec.parts_of parts.now.memory.items }
     ensures lines { OnOk result (string_bytes out.new ≡ string_bytes out.old
-        ++ flat_map (spec.message_line alone.now) (spec.message_ways P.profile parts.now.memory.items parts.now.uses.items part_slots.now alone.now)) }
+        ++ flat_map (spec.message_line (part_naming_view told.now) alone.now) (spec.message_ways P.profile parts.now.memory.items parts.now.uses.items part_slots.now alone.now)) }
     ensures count { IfOk result (λ n. n ≡ length (spec.message_ways P.profile parts.now.memory.items parts.now.uses.items part_slots.now alone.now)) }
 {
     let memory = parts.memory.as_slice();
     let uses = parts.uses.as_slice();
     let ways = message_ways::<P>(alloc, memory, uses, numbers, part_slots, alone)?;
-    add_messages(out, alone, ways.as_slice())?;
+    add_messages(out, told, alone, ways.as_slice())?;
     Ok(ways.len())
 }
 
@@ -152,14 +157,15 @@ fn add_message_passing<P: Profile>(
 fn add_taken(
     alloc: Global,
     out: &mut String,
+    told: &PartNaming<'_>,
     part_slots: &[PartSlot],
     numbers: &[u64],
 ) -> Result<usize, AllocError>
-    ensures lines { OnOk result (string_bytes out.new ≡ string_bytes out.old ++ flat_map spec.take_line (spec_takes part_slots.now numbers.now)) }
+    ensures lines { OnOk result (string_bytes out.new ≡ string_bytes out.old ++ flat_map (spec.take_line (part_naming_view told.now)) (spec_takes part_slots.now numbers.now)) }
     ensures count { IfOk result (λ n. n ≡ length (spec_takes part_slots.now numbers.now)) }
 {
     let taken = takes(alloc, part_slots, numbers)?;
-    add_takes(out, taken.as_slice())?;
+    add_takes(out, told, taken.as_slice())?;
     Ok(taken.len())
 }
 
@@ -168,7 +174,7 @@ fn add_taken(
 fn add_lines_by_slots<P: Profile, S: DerivationStore<P> + Drop, W: Waiters<P> + Drop>(
     alloc: Global,
     out: &mut String,
-    names: &[Name],
+    told: &PartNaming<'_>,
     kernel: &Kernel<P, S, W>,
     threads: &[u64],
     endpoints: &[u64],
@@ -181,16 +187,16 @@ fn add_lines_by_slots<P: Profile, S: DerivationStore<P> + Drop, W: Waiters<P> + 
     requires endpoints { endpoints.now ≡ state.endpoints P.profile kernel.now }
     requires numbers { numbers.now ≡ spec.parts_of parts.now.memory.items }
     ensures { OnOk result (string_bytes out.new ≡ string_bytes out.old
-        ++ spec.lines_by_slots P.profile (names_view names.now) parts.now.memory.items parts.now.uses.items kernel.now part_slots.now alone.now) }
+        ++ spec.lines_by_slots P.profile (part_naming_view told.now) parts.now.memory.items parts.now.uses.items kernel.now part_slots.now alone.now) }
 {
     add_parts::<P, S, W>(
-        alloc, out, names, kernel, threads, parts, part_slots, alone, numbers,
+        alloc, out, told, kernel, threads, parts, part_slots, alone, numbers,
     )?;
-    let ways = add_message_passing::<P>(alloc, out, parts, numbers, part_slots, alone)?;
-    let grants = add_passing::<P>(alloc, out, parts, numbers, Passing::Grant)?;
-    let replies = add_passing::<P>(alloc, out, parts, numbers, Passing::Answer)?;
-    let taken = add_taken(alloc, out, part_slots, numbers)?;
-    add_waiting::<P, S, W>(alloc, out, names, kernel, endpoints)?;
+    let ways = add_message_passing::<P>(alloc, out, told, parts, numbers, part_slots, alone)?;
+    let grants = add_passing::<P>(alloc, out, told, parts, numbers, Passing::Grant)?;
+    let replies = add_passing::<P>(alloc, out, told, parts, numbers, Passing::Answer)?;
+    let taken = add_taken(alloc, out, told, part_slots, numbers)?;
+    add_waiting::<P, S, W>(alloc, out, told, kernel, endpoints)?;
     add_count(out, numbers.len(), ways, grants, replies, taken)
 }
 
@@ -199,7 +205,7 @@ fn add_lines_by_slots<P: Profile, S: DerivationStore<P> + Drop, W: Waiters<P> + 
 fn add_lines<P: Profile, S: DerivationStore<P> + Drop, W: Waiters<P> + Drop>(
     alloc: Global,
     out: &mut String,
-    names: &[Name],
+    told: &PartNaming<'_>,
     kernel: &Kernel<P, S, W>,
     threads: &[u64],
     endpoints: &[u64],
@@ -208,7 +214,7 @@ fn add_lines<P: Profile, S: DerivationStore<P> + Drop, W: Waiters<P> + Drop>(
     requires threads { threads.now ≡ state.threads P.profile kernel.now }
     requires endpoints { endpoints.now ≡ state.endpoints P.profile kernel.now }
     ensures { OnOk result (string_bytes out.new ≡ string_bytes out.old
-        ++ spec.ever_lines P.profile (names_view names.now) parts.now.memory.items parts.now.uses.items kernel.now) }
+        ++ spec.ever_lines P.profile (part_naming_view told.now) parts.now.memory.items parts.now.uses.items kernel.now) }
 {
     let memory = parts.memory.as_slice();
     let numbers = parts_of(alloc, memory)?;
@@ -218,7 +224,7 @@ fn add_lines<P: Profile, S: DerivationStore<P> + Drop, W: Waiters<P> + Drop>(
     let alone = messengers::<P>(alloc, slots, numbers)?;
     let alone = alone.as_slice();
     add_lines_by_slots::<P, S, W>(
-        alloc, out, names, kernel, threads, endpoints, parts, numbers, slots, alone,
+        alloc, out, told, kernel, threads, endpoints, parts, numbers, slots, alone,
     )
 }
 
@@ -226,7 +232,7 @@ fn add_lines<P: Profile, S: DerivationStore<P> + Drop, W: Waiters<P> + Drop>(
 #[tactic(auto, unfolding(crate::specs::Text::ever_text))]
 fn text_of_parts<P: Profile, S: DerivationStore<P> + Drop, W: Waiters<P> + Drop>(
     alloc: Global,
-    names: &[Name],
+    naming: &Naming<'_>,
     heading: &Heading<'_>,
     kernel: &Kernel<P, S, W>,
     rows: &StateRows,
@@ -235,17 +241,18 @@ fn text_of_parts<P: Profile, S: DerivationStore<P> + Drop, W: Waiters<P> + Drop>
     requires threads { rows.now.threads.keys ≡ state.threads P.profile kernel.now }
     requires endpoints { rows.now.endpoints.keys ≡ state.endpoints P.profile kernel.now }
     ensures { IfOk result (λ text. text.items
-        ≡ spec.ever_text P.profile (names_view names.now) heading.now.setup.now heading.now.made heading.now.refused heading.now.without.now heading.now.messages.now
+        ≡ spec.ever_text P.profile (part_texts (naming_view naming.now) parts.now.memory.items (state.threads P.profile kernel.now)) heading.now.setup.now heading.now.made heading.now.refused heading.now.without.now heading.now.messages.now
         parts.now.memory.items parts.now.uses.items kernel.now) }
 {
     let threads = listed(alloc, &rows.threads)?;
     let endpoints = listed(alloc, &rows.endpoints)?;
+    let told = PartNaming::new(alloc, naming, parts.memory.as_slice(), threads.as_slice())?;
     let mut out = String::new(alloc);
-    add_heading::<P, S, W>(&mut out, "ever", names, heading, kernel)?;
+    add_heading::<P, S, W>(&mut out, "ever", &told, heading, kernel)?;
     add_lines::<P, S, W>(
         alloc,
         &mut out,
-        names,
+        &told,
         kernel,
         threads.as_slice(),
         endpoints.as_slice(),
@@ -296,16 +303,16 @@ pub fn all_trusted(alloc: Global, heading: &Heading<'_>) -> Result<Vec<u64>, All
 /// whose objects lie in its memory has such a thread (`fault`).
 pub fn ever<P: Profile, S: DerivationStore<P> + Drop, W: Waiters<P> + Drop>(
     alloc: Global,
-    names: &[Name],
+    naming: &Naming<'_>,
     heading: &Heading<'_>,
     kernel: &Kernel<P, S, W>,
 ) -> Result<Vec<u8>, PartsFault>
-    ensures text { IfOk result (λ text. IsPartsText P.profile (names_view names.now) heading.now.setup.now heading.now.made heading.now.refused heading.now.without.now heading.now.messages.now kernel.now text.items) }
+    ensures text { IfOk result (λ text. IsPartsText P.profile (naming_view naming.now) heading.now.setup.now heading.now.made heading.now.refused heading.now.without.now heading.now.messages.now kernel.now text.items) }
     ensures fault { IfErr result (λ fault. fault ≡ PartsFault.Block → (memory : ℕ) → IsInMemory P.profile memory kernel.now → ⊥) }
 {
     let rows = state_rows::<P, S, W>(alloc, kernel)?;
     let trusted = all_trusted(alloc, heading)?;
     let parts = parts_of_callers::<P, S, W>(alloc, trusted.as_slice(), kernel, &rows)?;
-    let text = text_of_parts::<P, S, W>(alloc, names, heading, kernel, &rows, &parts)?;
+    let text = text_of_parts::<P, S, W>(alloc, naming, heading, kernel, &rows, &parts)?;
     Ok(text)
 }

@@ -4,12 +4,14 @@ ghost use Rattle.std.specs.List.{flat_map, list_any};
 ghost use Rattle.cap_core.specs.Rights.{write_bit, read_bit};
 ghost use Rattle.query_parts.specs.Keyed.{AreByKey};
 ghost use Rattle.query_parts.specs.declared.keyed.UseKey.TheVariants.{Endpoint};
+ghost use Rattle.command_parts.specs.Telling.{part_naming_view};
 ghost use Rattle.command_parts.specs.Text as spec;
 
 use crate::messages::uses_held;
 use crate::parts::BadgeText;
 use crate::sets::{is_in, rising};
 use crate::takes::PartSlot;
+use crate::telling::PartNaming;
 use bitflags::Flags;
 use cap_core::{Profile, Rights};
 use query_parts::{PartMemory, PartUse, UseKey, owns_endpoint, uses_at, uses_by_key};
@@ -494,9 +496,11 @@ fn add_held_ways<P: Profile>(
     requires receivers { map (λ v. v.items) receivers.now ≡ map (spec.receivers_on P.profile _memory.now _uses.now) endpoints.now }
     ensures { OnOk result (ways.new.items ≡ ways.old.items ++ spec.held_ways_from P.profile _memory.now _uses.now held.now from) }
 {
+    let by_endpoint = uses_by_key(alloc, held, UseKey::Endpoint)?;
     for (place, endpoint) in endpoints.iter().enumerate() {
+        let here = uses_on(by_endpoint.as_slice(), *endpoint);
         let heard = receivers[place].as_slice();
-        add_held_ways_on(alloc, ways, held, heard, from, *endpoint)?;
+        add_held_ways_on(alloc, ways, here, heard, from, *endpoint)?;
     }
     Ok(())
 }
@@ -580,23 +584,28 @@ pub fn message_ways<P: Profile>(
     Ok(ways)
 }
 
-fn add_held_way(out: &mut String, way: &Way) -> Result<(), AllocError>
-    ensures { OnOk result (string_bytes out.new ≡ string_bytes out.old ++ spec.held_way_line way.now) }
+fn add_held_way(out: &mut String, told: &PartNaming<'_>, way: &Way) -> Result<(), AllocError>
+    ensures { OnOk result (string_bytes out.new ≡ string_bytes out.old ++ spec.held_way_line (part_naming_view told.now) way.now) }
 {
-    let from = way.from;
-    let endpoint = way.endpoint;
+    let from = told.part(way.from)?;
+    let endpoint = told.endpoint(way.endpoint);
     let badge = way.badge;
-    let to = way.to;
+    let to = told.part(way.to)?;
     writeln!(out, "way {from} -> {endpoint} badge {badge} -> {to}")
 }
 
-fn add_message_told(out: &mut String, alone: &[u64], way: &Way) -> Result<(), AllocError>
-    ensures { OnOk result (string_bytes out.new ≡ string_bytes out.old ++ spec.message_line alone.now way.now) }
+fn add_message_told(
+    out: &mut String,
+    told: &PartNaming<'_>,
+    alone: &[u64],
+    way: &Way,
+) -> Result<(), AllocError>
+    ensures { OnOk result (string_bytes out.new ≡ string_bytes out.old ++ spec.message_line (part_naming_view told.now) alone.now way.now) }
 {
     if is_in(alone, way.from) {
-        add_held_way(out, way)
+        add_held_way(out, told, way)
     } else {
-        add_message(out, way)
+        add_message(out, told, way)
     }
 }
 
@@ -605,33 +614,43 @@ fn add_message_told(out: &mut String, alone: &[u64], way: &Way) -> Result<(), Al
 /// # Errors
 ///
 /// Memory was refused.
-pub fn add_messages(out: &mut String, alone: &[u64], ways: &[Way]) -> Result<(), AllocError>
-    ensures { OnOk result (string_bytes out.new ≡ string_bytes out.old ++ flat_map (spec.message_line alone.now) ways.now) }
+pub fn add_messages(
+    out: &mut String,
+    told: &PartNaming<'_>,
+    alone: &[u64],
+    ways: &[Way],
+) -> Result<(), AllocError>
+    ensures { OnOk result (string_bytes out.new ≡ string_bytes out.old ++ flat_map (spec.message_line (part_naming_view told.now) alone.now) ways.now) }
 {
     for way in ways {
-        add_message_told(out, alone, way)?;
+        add_message_told(out, told, alone, way)?;
     }
     Ok(())
 }
 
-fn add_message(out: &mut String, way: &Way) -> Result<(), AllocError>
-    ensures { OnOk result (string_bytes out.new ≡ string_bytes out.old ++ spec.way_line way.now) }
+fn add_message(out: &mut String, told: &PartNaming<'_>, way: &Way) -> Result<(), AllocError>
+    ensures { OnOk result (string_bytes out.new ≡ string_bytes out.old ++ spec.way_line (part_naming_view told.now) way.now) }
 {
-    let from = way.from;
-    let endpoint = way.endpoint;
+    let from = told.part(way.from)?;
+    let endpoint = told.endpoint(way.endpoint);
     let badge = BadgeText(way.badge);
-    let to = way.to;
+    let to = told.part(way.to)?;
     writeln!(out, "way {from} -> {endpoint} badge {badge} -> {to}")
 }
 
-fn add_way(out: &mut String, passing: Passing, way: &Way) -> Result<(), AllocError>
-    ensures { OnOk result (string_bytes out.new ≡ string_bytes out.old ++ spec.passing_line passing way.now) }
+fn add_way(
+    out: &mut String,
+    told: &PartNaming<'_>,
+    passing: Passing,
+    way: &Way,
+) -> Result<(), AllocError>
+    ensures { OnOk result (string_bytes out.new ≡ string_bytes out.old ++ spec.passing_line (part_naming_view told.now) passing way.now) }
 {
-    let from = way.from;
-    let endpoint = way.endpoint;
-    let to = way.to;
+    let from = told.part(way.from)?;
+    let endpoint = told.endpoint(way.endpoint);
+    let to = told.part(way.to)?;
     match passing {
-        Passing::Message => add_message(out, way),
+        Passing::Message => add_message(out, told, way),
         Passing::Grant => writeln!(out, "grant {from} -> {endpoint} -> {to}"),
         Passing::Answer => writeln!(out, "reply {to} -> {endpoint} -> {from}"),
     }
@@ -642,17 +661,23 @@ fn add_way(out: &mut String, passing: Passing, way: &Way) -> Result<(), AllocErr
 /// # Errors
 ///
 /// Memory was refused.
-pub fn add_ways(out: &mut String, passing: Passing, ways: &[Way]) -> Result<(), AllocError>
-    ensures { OnOk result (string_bytes out.new ≡ string_bytes out.old ++ flat_map (spec.passing_line passing) ways.now) }
+pub fn add_ways(
+    out: &mut String,
+    told: &PartNaming<'_>,
+    passing: Passing,
+    ways: &[Way],
+) -> Result<(), AllocError>
+    ensures { OnOk result (string_bytes out.new ≡ string_bytes out.old ++ flat_map (spec.passing_line (part_naming_view told.now) passing) ways.now) }
 {
     for way in ways {
-        add_way(out, passing, way)?;
+        add_way(out, told, passing, way)?;
     }
     Ok(())
 }
 
 fn add_between<P: Profile>(
     out: &mut String,
+    told: &PartNaming<'_>,
     memory: &[PartMemory],
     uses: &[PartUse],
     passing: Passing,
@@ -661,7 +686,7 @@ fn add_between<P: Profile>(
     endpoint: u64,
 ) -> Result<(), AllocError>
     ensures { OnOk result (string_bytes out.new ≡ string_bytes out.old
-        ++ spec.between_line passing P.profile memory.now uses.now from to endpoint) }
+        ++ spec.between_line (part_naming_view told.now) passing P.profile memory.now uses.now from to endpoint) }
 {
     let way = Way {
         from,
@@ -672,27 +697,30 @@ fn add_between<P: Profile>(
     if may_pass::<P>(memory, uses, passing, from, endpoint)
         && may_receive::<P>(memory, uses, endpoint, to)
     {
-        add_way(out, passing, &way)
+        add_way(out, told, passing, &way)
     } else {
         Ok(())
     }
 }
 
 fn add_of_two<P: Profile>(
+    alloc: Global,
     out: &mut String,
+    told: &PartNaming<'_>,
     memory: &[PartMemory],
     uses: &[PartUse],
-    endpoints: &[u64],
     passing: Passing,
     from: u64,
     to: u64,
 ) -> Result<(), AllocError>
-    requires { endpoints.now ≡ spec.endpoints_used uses.now }
     ensures { OnOk result (string_bytes out.new ≡ string_bytes out.old
-        ++ spec.lines_of_two passing P.profile memory.now uses.now from to) }
+        ++ spec.lines_of_two (part_naming_view told.now) passing P.profile memory.now uses.now from to) }
 {
-    for endpoint in endpoints {
-        add_between::<P>(out, memory, uses, passing, from, to, *endpoint)?;
+    let endpoints = endpoints_used(alloc, uses)?;
+    let by_endpoint = uses_by_key(alloc, uses, UseKey::Endpoint)?;
+    for endpoint in &endpoints {
+        let here = uses_on(by_endpoint.as_slice(), *endpoint);
+        add_between::<P>(out, told, memory, here, passing, from, to, *endpoint)?;
     }
     Ok(())
 }
@@ -705,18 +733,17 @@ fn add_of_two<P: Profile>(
 pub fn add_sel4_lines<P: Profile>(
     alloc: Global,
     out: &mut String,
+    told: &PartNaming<'_>,
     memory: &[PartMemory],
     uses: &[PartUse],
     one: u64,
     other: u64,
 ) -> Result<(), AllocError>
     ensures { OnOk result (string_bytes out.new ≡ string_bytes out.old
-        ++ spec.sel4_lines P.profile memory.now uses.now one other) }
+        ++ spec.sel4_lines (part_naming_view told.now) P.profile memory.now uses.now one other) }
 {
-    let endpoints = endpoints_used(alloc, uses)?;
-    let used = endpoints.as_slice();
-    add_of_two::<P>(out, memory, uses, used, Passing::Grant, one, other)?;
-    add_of_two::<P>(out, memory, uses, used, Passing::Grant, other, one)?;
-    add_of_two::<P>(out, memory, uses, used, Passing::Answer, one, other)?;
-    add_of_two::<P>(out, memory, uses, used, Passing::Answer, other, one)
+    add_of_two::<P>(alloc, out, told, memory, uses, Passing::Grant, one, other)?;
+    add_of_two::<P>(alloc, out, told, memory, uses, Passing::Grant, other, one)?;
+    add_of_two::<P>(alloc, out, told, memory, uses, Passing::Answer, one, other)?;
+    add_of_two::<P>(alloc, out, told, memory, uses, Passing::Answer, other, one)
 }

@@ -33,6 +33,7 @@ use Rattle.command_tree.specs.declared.form.Form.TheVariants.{Lines}
 use Rattle.command_check.specs.Commands.{IsSetUpAnswer, IsAnswerAfter, IsAnswerTo, IsStateAnswer}
 use Rattle.setup_format.proofs.Grammar.Parts.{parts}
 use Rattle.setup_report.proofs.Runs.{derivations_shown}
+use Rattle.setup_naming.specs.Naming.{by_addresses}
 use Rattle.command_tree.specs.Tree.{forest_text}
 use Rattle.command_tree.specs.Trees.{IsTree}
 use Rattle.command_tree.specs.Laws.{AreSetUpNames, held_in, held_when_read}
@@ -248,13 +249,13 @@ record IsWritten (after : Option ℕ) (bytes text : List ℕ) : Type 0 where
   made : ℕ
   is_read : read_of_bytes bytes ≡ Ok read
   makes : calls_made read.setup after ≡ Some made
-  is : text ≡ forest_text read.names read.setup made (state_behind read.setup.profile read.setup made).derivations
+  is : text ≡ forest_text (by_addresses read.names) read.setup made (state_behind read.setup.profile read.setup made).derivations
 
-written : (after : Option ℕ) (bytes text : List ℕ) → IsAnswerTo (IsStateAnswer (IsTree Lines) after) bytes text AllMet → IsWritten after bytes text
+written : (after : Option ℕ) (bytes text : List ℕ) → IsAnswerTo (IsStateAnswer (IsTree Lines false) after) bytes text AllMet → IsWritten after bytes text
 written after bytes text h = by_result (read_of_bytes bytes) refl h
   where
     by_made : (read : ReadView) → read_of_bytes bytes ≡ Ok read → (o : Option ℕ) → calls_made read.setup after ≡ o →
-        IsAnswerAfter (IsTree Lines read.setup.profile read.names read.setup) read.setup.profile read.setup o text AllMet → IsWritten after bytes text
+        IsAnswerAfter (IsTree Lines false read.setup.profile read.names read.setup) read.setup.profile read.setup o text AllMet → IsWritten after bytes text
     by_made read is_read None e k = absurd (let w : AllMet ≡ Absent = k.1 in cc)
     by_made read is_read (Some made) e k =
         record {
@@ -262,10 +263,10 @@ written after bytes text h = by_result (read_of_bytes bytes) refl h
           made = made;
           is_read = is_read;
           makes = e;
-          is = k.0 ∙ ap (forest_text read.names read.setup made) (derivations_shown (state_behind read.setup.profile read.setup made));
+          is = k.0 ∙ ap (forest_text (by_addresses read.names) read.setup made) (derivations_shown (state_behind read.setup.profile read.setup made));
         }
 
-    by_result : (r : Result ReadView Fault) → read_of_bytes bytes ≡ r → IsSetUpAnswer (IsStateAnswer (IsTree Lines) after) r text AllMet → IsWritten after bytes text
+    by_result : (r : Result ReadView Fault) → read_of_bytes bytes ≡ r → IsSetUpAnswer (IsStateAnswer (IsTree Lines false) after) r text AllMet → IsWritten after bytes text
     by_result (Err fault) e k = absurd (let w : AllMet ≡ Refused = k.1 in cc)
     by_result (Ok read) e k = by_made read e (calls_made read.setup after) refl k
 
@@ -277,7 +278,7 @@ held_is : (after : Option ℕ) (bytes text : List ℕ) (h : IsWritten after byte
 held_is after bytes text h =
     ap (held_when_read after) h.is_read ∙ ap (option_map (λ made. held_in (state_behind h.read.setup.profile h.read.setup made).derivations)) h.makes
 
-pub same_inputs : (after until : Option ℕ) (bytes others text : List ℕ) → IsAnswerTo (IsStateAnswer (IsTree Lines) after) bytes text AllMet → IsAnswerTo (IsStateAnswer (IsTree Lines) until) others text AllMet →
+pub same_inputs : (after until : Option ℕ) (bytes others text : List ℕ) → IsAnswerTo (IsStateAnswer (IsTree Lines false) after) bytes text AllMet → IsAnswerTo (IsStateAnswer (IsTree Lines false) until) others text AllMet →
     held_when_read after (read_of_bytes bytes) ≡ held_when_read until (read_of_bytes others)
 same_inputs after until bytes others text h k =
     let a = written after bytes text h in

@@ -1,5 +1,5 @@
 -- The lines of a forest tell where each full slot stands, and so the whole forest.
-use Rattle.std.proofs.Common.{◌≡◌, ℕ, suc, ◌*◌, ◌<◌, ◌≤◌, ◌^◌, ◌==◌, ◌&&◌, Bool, true, false, cond, not, List, [], ◌∷◌, ◌++◌, map, length, Option, None, Some, option_map, find, refl, sym, ap, ◌∙◌, append_assoc, length-append, arith}
+use Rattle.std.proofs.Common.{◌≡◌, ℕ, suc, ◌*◌, ◌<◌, ◌≤◌, ◌^◌, ◌==◌, ◌&&◌, Bool, true, false, cond, not, List, [], ◌∷◌, ◌++◌, map, length, Option, None, Some, option_map, find, refl, sym, ap, ◌∙◌, append_assoc, length-append, arith, append-nil}
 use Rattle.std.specs.Prelude.{codes, count_by}
 use Rattle.std.specs.Fmt.{decimal}
 use Rattle.std.specs.List.{AllByRecursion as Each, flat_map, list_all}
@@ -24,9 +24,10 @@ use Rattle.kernel_abstract.proofs.Reached.Simulation.{reached_is}
 use Rattle.setup_values.specs.Kinds.{is_name, is_name_byte, between}
 use Rattle.setup_values.specs.Limits.{max_name_bytes}
 use Rattle.setup_values.specs.Names.{Names}
-use Rattle.setup_values.specs.Told.{profile_text, name_of, has_value}
+use Rattle.setup_values.specs.Told.{profile_text, named_text, name_of, has_value}
 use Rattle.setup_format.specs.Views.{SetupView}
 use Rattle.setup_report.specs.Text.{cap_text}
+use Rattle.setup_naming.specs.Naming.{by_addresses}
 use Rattle.setup_report_laws.specs.Laws.{Stops, is_digit, IsOneLine, IsWithinWords}
 use Rattle.setup_report_laws.proofs.Parts.{Pass, told_apart, number_digits, numbers_apart}
 use Rattle.setup_report_laws.proofs.Capabilities.{capabilities_apart}
@@ -34,9 +35,36 @@ use Rattle.setup_report_laws.proofs.Measured.{reached_words}
 use Rattle.setup_report_laws.proofs.Renamed.{same_renamed}
 use Rattle.setup_report_laws.proofs.Told.{capability_told}
 use Rattle.setup_report_laws.proofs.OneLine.{all_pass, both_lines, number_line, number_and, capability_line}
-use Rattle.command_tree.specs.Tree.{placed, indent, thread_named, tree_name_text, tree_slot_text, placed_line, forest_lines, head_text, forest_text}
+use Rattle.command_tree.specs.Tree.{placed, indent, tree_cap_text, placed_line, forest_lines, head_text, forest_text}
 use Rattle.command_tree.specs.Laws.{held_capability, held_in, AreSetUpNames}
 use Rattle.command_tree.proofs.Levels.{leveled, same_forest}
+
+-- ---- by addresses, the name of a thread stands behind the capability
+
+abbrev thread_named : Names → Cap → Option (List ℕ)
+thread_named names (Tcb base) = name_of names base
+thread_named names Null = None
+thread_named names (Untyped base bits free) = None
+thread_named names (Endpoint base badge rights) = None
+thread_named names (CNode base radix guard) = None
+
+abbrev tree_name_text : Option (List ℕ) → List ℕ
+tree_name_text None = []
+tree_name_text (Some name) = codes " @" ++ name
+
+named_behind : (base : ℕ) (name : Option (List ℕ)) → codes "tcb " ++ named_text base name ≡ (codes "tcb " ++ decimal base) ++ tree_name_text name
+named_behind base None = sym (append-nil (codes "tcb " ++ decimal base))
+named_behind base (Some name) = refl
+
+cap_is : (names : Names) (cap : Cap) → tree_cap_text (by_addresses names) cap ≡ cap_text cap ++ tree_name_text (thread_named names cap)
+cap_is names (Tcb base) = named_behind base (name_of names base)
+cap_is names Null = sym (append-nil (cap_text Null))
+cap_is names (Untyped base bits free) = sym (append-nil (cap_text (Untyped base bits free)))
+cap_is names (Endpoint base badge rights) = sym (append-nil (cap_text (Endpoint base badge rights)))
+cap_is names (CNode base radix guard) = sym (append-nil (cap_text (CNode base radix guard)))
+
+abbrev tree_slot_text : Names → Entry → List ℕ
+tree_slot_text names e = decimal e.slot ++ (codes " " ++ (cap_text e.cap ++ tree_name_text (thread_named names e.cap)))
 
 -- what a line tells of a full slot: its address and its capability
 abbrev ToldSlot : Type 0
@@ -188,21 +216,24 @@ same_view names others x y h k same =
 abbrev AreShort : List (Entry × List ℕ) → Type 0
 AreShort xs = Each (λ (x : Entry × List ℕ). x.0.slot < 2 ^ 64) xs
 
-line_is : (names : Names) (x : Entry × List ℕ) (rest : List ℕ) → placed_line names x ++ rest ≡ (body names x ++ codes "\n") ++ rest
-line_is names x rest = ap (λ l. l ++ rest) (sym (append_assoc (indent x.1) (tree_slot_text names x.0) (codes "\n")))
+line_is : (names : Names) (x : Entry × List ℕ) (rest : List ℕ) → placed_line (by_addresses names) x ++ rest ≡ (body names x ++ codes "\n") ++ rest
+line_is names x rest =
+    ap (λ l. l ++ rest)
+    (ap (λ (t : List ℕ). indent x.1 ++ ((decimal x.0.slot ++ (codes " " ++ t)) ++ codes "\n")) (cap_is names x.0.cap)
+    ∙ sym (append_assoc (indent x.1) (tree_slot_text names x.0) (codes "\n")))
 
 never_empty : (text rest : List ℕ) → (text ++ codes "\n") ++ rest ≡ [] → ⊥
 never_empty [] rest h = cc
 never_empty (byte ∷ text) rest h = cc
 
 same_views : (names others : Names) → AreLines names → AreLines others → (xs ys : List (Entry × List ℕ)) → AreShort xs → AreShort ys →
-    flat_map (placed_line names) xs ≡ flat_map (placed_line others) ys → map view xs ≡ map view ys
+    flat_map (placed_line (by_addresses names)) xs ≡ flat_map (placed_line (by_addresses others)) ys → map view xs ≡ map view ys
 same_views names others n o [] [] h k same = refl
-same_views names others n o [] (y ∷ ys) h k same = absurd (never_empty (body others y) (flat_map (placed_line others) ys) (sym (line_is others y (flat_map (placed_line others) ys)) ∙ sym same))
-same_views names others n o (x ∷ xs) [] h k same = absurd (never_empty (body names x) (flat_map (placed_line names) xs) (sym (line_is names x (flat_map (placed_line names) xs)) ∙ same))
+same_views names others n o [] (y ∷ ys) h k same = absurd (never_empty (body others y) (flat_map (placed_line (by_addresses others)) ys) (sym (line_is others y (flat_map (placed_line (by_addresses others)) ys)) ∙ sym same))
+same_views names others n o (x ∷ xs) [] h k same = absurd (never_empty (body names x) (flat_map (placed_line (by_addresses names)) xs) (sym (line_is names x (flat_map (placed_line (by_addresses names)) xs)) ∙ same))
 same_views names others n o (x ∷ xs) (y ∷ ys) h k same =
-    let rest = flat_map (placed_line names) xs in
-    let more = flat_map (placed_line others) ys in
+    let rest = flat_map (placed_line (by_addresses names)) xs in
+    let more = flat_map (placed_line (by_addresses others)) ys in
     let both : (body names x ≡ body others y) × (rest ≡ more) =
     lines_apart (body names x) (body others y) rest more (body_line names x n) (body_line others y o) (sym (line_is names x rest) ∙ (same ∙ line_is others y more)) in
     λ i. same_view names others x y h.0 k.0 both.0 i ∷ same_views names others n o xs ys h.1 k.1 both.1 i
@@ -250,12 +281,12 @@ same_held : (a b : Entry) → IsWithinWords a.cap → IsWithinWords b.cap → to
 same_held a b h k same = λ i. ((same i).0, capability_told a.cap b.cap h k (ap (λ (x : ToldSlot). x.1) same) i)
 
 pub same_states : (p q : ProfileName) (A B : State) (names others : Names) (setup other : SetupView) (made after : ℕ) → IsReached p A → IsReached q B → AreSetUpNames names → AreSetUpNames others →
-    forest_text names setup made A.derivations ≡ forest_text others other after B.derivations → held_in A.derivations ≡ held_in B.derivations
+    forest_text (by_addresses names) setup made A.derivations ≡ forest_text (by_addresses others) other after B.derivations → held_in A.derivations ≡ held_in B.derivations
 same_states p q A B names others setup other made after a b n o same =
     let f = A.derivations in
     let g = B.derivations in
-    let behind : forest_lines names f ≡ forest_lines others g =
-    (lines_apart (head_text setup made) (head_text other after) (forest_lines names f) (forest_lines others g) (head_line setup made) (head_line other after) same).1 in
+    let behind : forest_lines (by_addresses names) f ≡ forest_lines (by_addresses others) g =
+    (lines_apart (head_text setup made) (head_text other after) (forest_lines (by_addresses names) f) (forest_lines (by_addresses others) g) (head_line setup made) (head_line other after) same).1 in
     let views : map view (placed [] f) ≡ map view (placed [] g) =
     same_views names others (recursion_from_All (λ (name : List ℕ × ℕ). is_name name.0 ≡ true) names n) (recursion_from_All (λ (name : List ℕ × ℕ). is_name name.0 ≡ true) others o)
     (placed [] f) (placed [] g) (short p A a) (short q B b) behind in

@@ -8,12 +8,12 @@ use Rattle.cap_core.specs.declared.capability.Cap.TheVariants.{Null, Untyped, En
 use Rattle.kernel_forest.specs.Forest.{Forest}
 use Rattle.kernel_forest.specs.Forest.Forest.{none, tree}
 use Rattle.kernel_forest.specs.Entries.{Entry, derivations_of}
-use Rattle.setup_values.specs.Names.{Names}
-use Rattle.setup_values.specs.Told.{profile_text, name_of}
+use Rattle.setup_values.specs.Told.{profile_text}
 use Rattle.setup_format.specs.Views.{SetupView}
-use Rattle.setup_report.specs.Text.{cap_text}
 use Rattle.setup_report.specs.Report.{terminated}
 use Rattle.setup_report.specs.State.{Derived}
+use Rattle.setup_naming.specs.Naming.{Texts}
+use Rattle.setup_naming.specs.Held.{cap_told}
 use Rattle.command_tree.specs.declared.form.Form.{Form}
 use Rattle.command_tree.specs.declared.form.Form.TheVariants.{Lines, Dot}
 
@@ -27,34 +27,29 @@ placed above (tree e under others) = (e, above) ∷ (placed (above ++ e.slot ∷
 abbrev pub indent : List ℕ → List ℕ
 indent above = flat_map (λ (slot : ℕ). codes "  ") above
 
--- the name of the thread that a capability is of
-abbrev pub thread_named : Names → Cap → Option (List ℕ)
-thread_named names (Tcb base) = name_of names base
-thread_named names Null = None
-thread_named names (Untyped base bits free) = None
-thread_named names (Endpoint base badge rights) = None
-thread_named names (CNode base radix guard) = None
+-- a capability; a thread is told as the one that a line is about
+abbrev pub tree_cap_text : Texts → Cap → List ℕ
+tree_cap_text texts (Tcb base) = codes "tcb " ++ texts.about base
+tree_cap_text texts Null = cap_told texts Null
+tree_cap_text texts (Untyped base bits free) = cap_told texts (Untyped base bits free)
+tree_cap_text texts (Endpoint base badge rights) = cap_told texts (Endpoint base badge rights)
+tree_cap_text texts (CNode base radix guard) = cap_told texts (CNode base radix guard)
 
-abbrev pub tree_name_text : Option (List ℕ) → List ℕ
-tree_name_text None = []
-tree_name_text (Some name) = codes " @" ++ name
+-- a slot, and what it holds
+abbrev pub tree_slot_words : Texts → ℕ → Cap → List ℕ
+tree_slot_words texts slot cap = texts.slot slot ++ (codes " " ++ tree_cap_text texts cap)
 
--- a slot's address, and what it holds, with a name where it has one
-abbrev pub tree_slot_words : ℕ → Cap → Option (List ℕ) → List ℕ
-tree_slot_words slot cap name = decimal slot ++ (codes " " ++ (cap_text cap ++ tree_name_text name))
+abbrev pub tree_slot_text : Texts → Entry → List ℕ
+tree_slot_text texts e = tree_slot_words texts e.slot e.cap
 
--- the same with the name of its thread
-abbrev pub tree_slot_text : Names → Entry → List ℕ
-tree_slot_text names e = tree_slot_words e.slot e.cap (thread_named names e.cap)
+abbrev pub tree_slot_line : Texts → Entry → List ℕ → List ℕ
+tree_slot_line texts e above = indent above ++ terminated (tree_slot_text texts e)
 
-abbrev pub tree_slot_line : Names → Entry → List ℕ → List ℕ
-tree_slot_line names e above = indent above ++ terminated (tree_slot_text names e)
+abbrev pub placed_line : Texts → Entry × List ℕ → List ℕ
+placed_line texts x = tree_slot_line texts x.0 x.1
 
-abbrev pub placed_line : Names → Entry × List ℕ → List ℕ
-placed_line names x = tree_slot_line names x.0 x.1
-
-abbrev pub forest_lines : Names → Forest Entry → List ℕ
-forest_lines names f = flat_map (placed_line names) (placed [] f)
+abbrev pub forest_lines : Texts → Forest Entry → List ℕ
+forest_lines texts f = flat_map (placed_line texts) (placed [] f)
 
 -- the first line: the version of the text's form, how large the set-up is, and how many of its calls are made
 abbrev pub head_words : List ℕ → ℕ → ℕ → ℕ → List ℕ
@@ -66,32 +61,32 @@ abbrev pub head_text : SetupView → ℕ → List ℕ
 head_text setup made = head_words (profile_text setup.profile) setup.plan.memory_bits (length setup.calls) made
 
 -- the text of a derivation forest: a first line, then a line for each full slot
-abbrev pub forest_text : Names → SetupView → ℕ → Forest Entry → List ℕ
-forest_text names setup made f = terminated (head_text setup made) ++ forest_lines names f
+abbrev pub forest_text : Texts → SetupView → ℕ → Forest Entry → List ℕ
+forest_text texts setup made f = terminated (head_text setup made) ++ forest_lines texts f
 
--- ---- the same as a graph, in Graphviz' language DOT: a node for each full slot, and an edge to it from the one that it is
--- derived from, in the kernel's order
+-- ---- the same as a graph, in Graphviz' language DOT: a node for each full slot, by its address, and an edge to it from the one that
+-- it is derived from, in the kernel's order
 
-abbrev pub node_line : Names → Entry → List ℕ
-node_line names e = terminated (codes "  " ++ (decimal e.slot ++ (codes " [label=\"" ++ (tree_slot_text names e ++ codes "\"];"))))
+abbrev pub node_line : Texts → Entry → List ℕ
+node_line texts e = terminated (codes "  " ++ (decimal e.slot ++ (codes " [label=\"" ++ (tree_slot_text texts e ++ codes "\"];"))))
 
 abbrev pub edge_line : Option ℕ → ℕ → List ℕ
 edge_line None slot = []
 edge_line (Some parent) slot = terminated (codes "  " ++ (decimal parent ++ (codes " -> " ++ (decimal slot ++ codes ";"))))
 
-abbrev pub node_lines : Names → Derived → List ℕ
-node_lines names d = node_line names d.0 ++ edge_line d.1 d.0.slot
+abbrev pub node_lines : Texts → Derived → List ℕ
+node_lines texts d = node_line texts d.0 ++ edge_line d.1 d.0.slot
 
 abbrev pub graph_head : List ℕ → List ℕ
 graph_head label =
     codes "digraph derivation {\n  graph [label=\"" ++ (label ++ codes "\" rankdir=LR ordering=out];\n  node [shape=box];\n")
 
-abbrev pub graph_text : Names → SetupView → ℕ → Forest Entry → List ℕ
-graph_text names setup made f =
-    (graph_head (head_text setup made) ++ flat_map (node_lines names) (derivations_of f)) ++ terminated (codes "}")
+abbrev pub graph_text : Texts → SetupView → ℕ → Forest Entry → List ℕ
+graph_text texts setup made f =
+    (graph_head (head_text setup made) ++ flat_map (node_lines texts) (derivations_of f)) ++ terminated (codes "}")
 
 -- ---- in a form
 
-abbrev pub text_in : Form → Names → SetupView → ℕ → Forest Entry → List ℕ
-text_in Lines names setup made f = forest_text names setup made f
-text_in Dot names setup made f = graph_text names setup made f
+abbrev pub text_in : Form → Texts → SetupView → ℕ → Forest Entry → List ℕ
+text_in Lines texts setup made f = forest_text texts setup made f
+text_in Dot texts setup made f = graph_text texts setup made f

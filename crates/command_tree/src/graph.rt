@@ -2,12 +2,12 @@
 ghost use Rattle.std.specs.Prelude.{◌≡◌, ◌++◌, OnOk, string_bytes};
 ghost use Rattle.std.specs.List.{flat_map};
 ghost use Rattle.slot_core.specs.Calls.{derivation_view};
-ghost use Rattle.setup_values.specs.Names.{names_view};
+ghost use Rattle.setup_naming.specs.Naming.{naming_view};
 ghost use Rattle.command_tree.specs.Tree as spec;
 
 use crate::slot::{parent_address, slot_text};
 use cap_core::Profile;
-use setup_values::Name;
+use setup_naming::Naming;
 use slot_core::Derivation;
 use std::alloc::AllocError;
 use std::fmt::Write;
@@ -29,13 +29,13 @@ pub fn add_graph_head(out: &mut String, label: &str) -> Result<(), AllocError>
 /// Adds the node of a full slot.
 fn add_node<P: Profile>(
     out: &mut String,
-    names: &[Name],
+    naming: &Naming<'_>,
     row: &Derivation,
 ) -> Result<(), AllocError>
     ensures { OnOk result (string_bytes out.new ≡ string_bytes out.old
-        ++ spec.node_line (names_view names.now) (derivation_view P.profile row.now).0) }
+        ++ spec.node_line (naming_view naming.now) (derivation_view P.profile row.now).0) }
 {
-    let text = slot_text::<P>(names, row);
+    let text = slot_text::<P>(naming, row);
     let slot = text.slot;
     writeln!(out, "  {slot} [label=\"{text}\"];")
 }
@@ -51,11 +51,15 @@ fn add_edge(out: &mut String, parent: Option<u64>, slot: u64) -> Result<(), Allo
 }
 
 /// Adds the node of a full slot, and the edge to it.
-fn add_row<P: Profile>(out: &mut String, names: &[Name], row: &Derivation) -> Result<(), AllocError>
+fn add_row<P: Profile>(
+    out: &mut String,
+    naming: &Naming<'_>,
+    row: &Derivation,
+) -> Result<(), AllocError>
     ensures { OnOk result (string_bytes out.new ≡ string_bytes out.old
-        ++ spec.node_lines (names_view names.now) (derivation_view P.profile row.now)) }
+        ++ spec.node_lines (naming_view naming.now) (derivation_view P.profile row.now)) }
 {
-    add_node::<P>(out, names, row)?;
+    add_node::<P>(out, naming, row)?;
     add_edge(out, parent_address::<P>(row), row.slot.address::<P>())
 }
 
@@ -66,14 +70,14 @@ fn add_row<P: Profile>(out: &mut String, names: &[Name], row: &Derivation) -> Re
 /// Memory was refused.
 pub fn add_nodes<P: Profile>(
     out: &mut String,
-    names: &[Name],
+    naming: &Naming<'_>,
     rows: &[Derivation],
 ) -> Result<(), AllocError>
     ensures { OnOk result (string_bytes out.new ≡ string_bytes out.old
-        ++ flat_map (λ row. spec.node_lines (names_view names.now) (derivation_view P.profile row)) rows.now) }
+        ++ flat_map (λ row. spec.node_lines (naming_view naming.now) (derivation_view P.profile row)) rows.now) }
 {
     for row in rows {
-        add_row::<P>(out, names, row)?;
+        add_row::<P>(out, naming, row)?;
     }
     Ok(())
 }

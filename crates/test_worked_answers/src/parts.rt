@@ -84,7 +84,14 @@ impl<'a> Asked<'a> {
             messages: self.messages.as_slice(),
         };
         match self.between {
-            None => answer_of(alloc, Ever { trust, after }, setup),
+            None => {
+                let command = Ever {
+                    trust,
+                    names: false,
+                    after,
+                };
+                answer_of(alloc, command, setup)
+            }
             Some((from, to)) => {
                 let by = self.by.as_slice();
                 let command = Question {
@@ -92,6 +99,7 @@ impl<'a> Asked<'a> {
                     from,
                     to,
                     by,
+                    names: false,
                     after,
                 };
                 answer_of(alloc, command, setup)

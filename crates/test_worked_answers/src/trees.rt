@@ -1,7 +1,6 @@
 //! The derivation forest of a set-up, as lines or as a graph.
 use crate::answer::{Answer, answer_of};
 use crate::files::number_in;
-use command_check::OnState;
 use command_tree::{Form, Tree};
 use std::alloc::Global;
 
@@ -17,8 +16,10 @@ fn form_of(file: &str) -> Form {
 /// The forest that a file's name asks for: in which form, and behind how many calls.
 pub fn answer(alloc: Global, file: &str, setup: &[u8]) -> anyhow::Result<Answer> {
     let after = number_in(file, "after-")?;
-    let command = Tree {
+    let tree = Tree {
         form: form_of(file),
+        names: false,
+        after,
     };
-    Ok(answer_of(alloc, OnState { command, after }, setup))
+    Ok(answer_of(alloc, tree, setup))
 }

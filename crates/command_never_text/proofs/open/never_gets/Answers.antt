@@ -1,13 +1,16 @@
 -- The proof of `never_gets`: the goals that a search leaves open.
-use Rattle.std.proofs.Common.{◌≡◌, ◌∙◌, ◌++◌, ℕ, sym, subst, List, Ok}
+use Rattle.std.proofs.Common.{◌≡◌, ◌∙◌, ◌++◌, ℕ, sym, ap, subst, List, Ok}
 use Rattle.kernel_abstract.specs.Memory.{IsInMemory}
 use Rattle.query_parts.specs.declared.parts.PartsFault.TheVariants.{Block}
 use Rattle.query_parts.specs.declared.listed.PartMemory.{PartMemory}
 use Rattle.query_parts.specs.declared.listed.PartUse.{PartUse}
 use Rattle.query_parts.specs.declared.parts.PartsFault.{PartsFault}
-use Rattle.setup_values.specs.Names.{names_view}
+use Rattle.setup_report.specs.State.{threads}
+use Rattle.setup_naming.specs.Naming.{naming_view}
+use Rattle.command_parts.specs.Telling.{PartTexts, part_naming_view, part_texts}
 use Rattle.command_parts.specs.Ever.{AreRightParts}
 use Rattle.command_parts.proofs.Faults.{err_of}
+use Rattle.command_never_text.specs.Open.{IsNeverText}
 use Rattle.command_never_text.proofs.Answered.{answered}
 use Rattle.command_never_text.proofs.open.never_gets.Goals as goal
 
@@ -22,9 +25,16 @@ returns-clause-told g c =
     (subst (λ (uses : List PartUse). AreRightParts p v trusted c.in_ok-parts.parts.memory.items uses) (sym c.as_slice-4.ensures.value)
     (subst (λ (all : List ℕ). AreRightParts p v all c.in_ok-parts.parts.memory.items c.in_ok-parts.parts.uses.items) (c.as_slice.ensures.value ∙ c.in_ok-trusted.ensures)
     c.in_ok-parts.ensures.right)) in
-    answered p (names_view c.args.names.now) head.setup.now head.made head.refused head.without.now head.messages.now v c.args.by.now c.args.from c.args.to
-    c.as_slice-3.result.now c.as_slice-4.result.now right
-    {E = PartsFault} (Ok c.in_ok-made.made) (λ made. made.0.items) (λ made. made.1) c.in_ok-made.ensures.text c.in_ok-made.ensures.answer
+    let texts = naming_view c.args.naming.now in
+    let memory = c.as_slice-3.result.now in
+    let uses = c.as_slice-4.result.now in
+    let told : part_naming_view c.in_ok-told.told ≡ part_texts texts memory (threads p v) =
+    c.in_ok-told.ensures ∙ ap (part_texts texts memory) (c.as_slice-6.ensures.value ∙ (c.in_ok-threads.ensures ∙ c.in_ok-rows.ensures.threads)) in
+    answered p texts head.setup.now head.made head.refused head.without.now head.messages.now v c.args.by.now c.args.from c.args.to
+    memory uses right
+    {E = PartsFault} (Ok c.in_ok-made.made) (λ made. made.0.items) (λ made. made.1)
+    (subst (λ (t : PartTexts). IsNeverText p t head.setup.now head.made head.refused head.without.now head.messages.now memory uses v c.args.by.now c.args.from c.args.to c.in_ok-made.made.0.items) told c.in_ok-made.ensures.text)
+    c.in_ok-made.ensures.answer
 
 -- the fault is that of the parts
 pub returns-in_err-parts-clause-fault : goal.returns-in_err-parts-clause-fault

@@ -1,20 +1,19 @@
 -- The proof of `add_part`: the goals that a search leaves open.
 use Rattle.std.proofs.Common.{◌≡◌, ◌∙◌, ◌++◌, ℕ, List, ap, codes, string_bytes}
 use Rattle.std.specs.List.{flat_map}
-use Rattle.std.specs.Fmt.{decimal}
 use Rattle.query_parts.specs.declared.listed.PartMemory.{PartMemory}
 use Rattle.query_parts.specs.declared.listed.PartUse.{PartUse}
-use Rattle.setup_values.specs.Names.{names_view}
 use Rattle.setup_report.specs.Report.{terminated}
 use Rattle.setup_report.specs.State.{threads}
 use Rattle.setup_report.proofs.Addresses.Rising.{four_parts}
+use Rattle.command_parts.specs.Telling.{part_naming_view}
 use Rattle.command_parts.specs.Text as spec
 use Rattle.command_parts.proofs.Given.{on_ok}
 use Rattle.command_parts.proofs.parts.add_part.Goals as goal
 
 pub returns : goal.returns
 returns g c =
-    let names = names_view c.args.names.now in
+    let told = part_naming_view c.args.told.now in
     let v = c.args.kernel.now in
     let memory = c.args.parts.now.memory.items in
     let uses = c.args.parts.now.uses.items in
@@ -26,16 +25,16 @@ returns g c =
     let two = string_bytes c.add_threads.new.out in
     let three = string_bytes c.add_memory.new.out in
     let all = string_bytes c.add_uses_told.new.out in
-    let number = terminated (codes "part " ++ decimal part) in
-    let of_threads = flat_map (spec.part_thread_line names memory part v) (threads g.P.Profile.profile v) in
+    let number = terminated (codes "part " ++ told.part part) in
+    let of_threads = flat_map (spec.part_thread_line told memory part v) (threads g.P.Profile.profile v) in
     let of_memory = flat_map (spec.memory_line part) memory in
-    let of_uses = spec.use_lines slots alone uses part in
-    on_ok (all ≡ three ++ spec.use_lines slots alone c.as_slice-3.result.now part) (all ≡ start ++ (number ++ (of_threads ++ (of_memory ++ of_uses))))
+    let of_uses = spec.use_lines told slots alone uses part in
+    on_ok (all ≡ three ++ spec.use_lines told slots alone c.as_slice-3.result.now part) (all ≡ start ++ (number ++ (of_threads ++ (of_memory ++ of_uses))))
     (λ is. four_parts start one two three all number of_threads of_memory of_uses
     c.in_ok-add_number.ensures
     (c.in_ok-add_threads.ensures
-    ∙ ap (λ (m : List PartMemory). one ++ flat_map (spec.part_thread_line names m part v) c.args.threads.now) c.as_slice.ensures.value
-    ∙ ap (λ (ts : List ℕ). one ++ flat_map (spec.part_thread_line names memory part v) ts) c.requires)
+    ∙ ap (λ (m : List PartMemory). one ++ flat_map (spec.part_thread_line told m part v) c.args.threads.now) c.as_slice.ensures.value
+    ∙ ap (λ (ts : List ℕ). one ++ flat_map (spec.part_thread_line told memory part v) ts) c.requires)
     (c.in_ok-add_memory.ensures ∙ ap (λ (m : List PartMemory). two ++ flat_map (spec.memory_line part) m) c.as_slice-2.ensures.value)
-    (is ∙ ap (λ (us : List PartUse). three ++ spec.use_lines slots alone us part) c.as_slice-3.ensures.value))
+    (is ∙ ap (λ (us : List PartUse). three ++ spec.use_lines told slots alone us part) c.as_slice-3.ensures.value))
     c.add_uses_told.result c.add_uses_told.ensures

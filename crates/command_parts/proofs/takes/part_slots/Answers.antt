@@ -1,5 +1,5 @@
 -- The proof of `part_slots`: the goals that a search leaves open.
-use Rattle.std.proofs.Common.{◌≡◌, ◌∙◌, List, map, ap, Vec, Global}
+use Rattle.std.proofs.Common.{◌≡◌, ◌∙◌, map, ap, Vec, Global}
 use Rattle.setup_report.proofs.Addresses.Named.{where_ok}
 use Rattle.slot_core.specs.declared.derivations.Derivation.{Derivation}
 use Rattle.slot_core.specs.Calls.{derivation_view}

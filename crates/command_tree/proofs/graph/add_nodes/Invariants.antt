@@ -1,10 +1,10 @@
 use Rattle.std.proofs.Common.{◌≡◌, ◌++◌, take, string_bytes}
 use Rattle.std.specs.List.{flat_map}
 use Rattle.slot_core.specs.Calls.{derivation_view}
-use Rattle.setup_values.specs.Names.{names_view}
+use Rattle.setup_naming.specs.Naming.{naming_view}
 use Rattle.command_tree.specs.Tree.{node_lines}
 use Rattle.command_tree.proofs.graph.add_nodes.Given as goal
 
 abbrev pub invariant-loop-row : goal.invariant-loop-row
 invariant-loop-row g l = string_bytes l.out ≡ string_bytes l.initial.out
-    ++ flat_map (λ row. node_lines (names_view l.names) (derivation_view g.P.Profile.profile row)) (take l.row-index l.rows)
+    ++ flat_map (λ row. node_lines (naming_view l.naming) (derivation_view g.P.Profile.profile row)) (take l.row-index l.rows)
