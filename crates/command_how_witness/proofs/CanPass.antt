@@ -1,5 +1,5 @@
 -- A message passes between two threads that are ready and have words for an endpoint.
-use Rattle.std.proofs.Common.{◌≡◌, ◌≢◌, inl, inr, ℕ, suc, ◌+◌, refl, sym, ap, subst, ◌∙◌, arith, Bool, true, false, cond, ◌==◌, List, [], ◌∷◌, ◌++◌, length, Option, Some, None, option_map, unwrap_or, Result, Ok, eq-eqb}
+use Rattle.std.proofs.Common.{◌≡◌, ◌≢◌, inl, inr, ℕ, zero, suc, ◌+◌, ◌≤◌, refl, sym, ap, subst, ◌∙◌, arith, Bool, true, false, cond, ◌==◌, List, [], ◌∷◌, ◌++◌, length, take, Option, Some, None, option_map, unwrap_or, is_some, Result, Ok, eq-eqb}
 use Rattle.std.specs.List.{AllByRecursion as Each}
 use Rattle.std.specs.FinMap.{get, insert}
 use Rattle.std.proofs.lemmas.Bool.{ne_eqb}
@@ -31,15 +31,15 @@ use Rattle.kernel_abstract.specs.Lookups.{slot_by_word}
 use Rattle.kernel_abstract.specs.Decode.{has_right, checked_send, checked_receive, checked_invocation, checked_op, decoded_call, ensure_ready, ensure_live}
 use Rattle.kernel_abstract.specs.Shown.{Shown, ThreadView, state_at, waiting_at, inbox_at}
 use Rattle.kernel_abstract.specs.State.{State, shown}
-use Rattle.kernel_abstract.specs.Step.{step, replies_of}
+use Rattle.kernel_abstract.specs.Step.{step, replies_of, state_after}
 use Rattle.kernel_abstract.specs.Reached.{IsReached}
 use Rattle.kernel_abstract.specs.Private.Effects.{Effect, with_message, effect_of, decoded_effect, send_effect, receive_effect}
 use Rattle.kernel_abstract.proofs.Checks.Walked.{word_found}
 use Rattle.kernel_abstract.proofs.Lists.Tables.{get_after}
 use Rattle.kernel_abstract.proofs.Reached.Equations.{shown-derivations}
-use Rattle.kernel_abstract.proofs.Reached.Runs.{replies_of-nil, replies_of-cons}
+use Rattle.kernel_abstract.proofs.Reached.Runs.{replies_of-nil, replies_of-cons, state_after-nil, state_after-cons}
 use Rattle.kernel_abstract.proofs.Reached.Simulation.{Reached, reached_is, reached_step, simulates}
-use Rattle.command_how_witness.specs.Still.{IsReadyToPass, HoldsEndpoint, SendsOrReceives, CanPass}
+use Rattle.command_how_witness.specs.Still.{IsReadyToPass, HoldsEndpoint, SendsOrReceives, PassesMessage, CanPass}
 use Rattle.command_how_witness.proofs.SlotWords.{has_word}
 
 -- ---- a ready thread's call by a word for an endpoint's capability
@@ -106,6 +106,24 @@ stays_ready v other t row made ready = ap (option_map (λ (thread : ThreadView).
 list_put : (v : Shown) (e : ℕ) (list : List Waiter) → unwrap_or (get (insert v.endpoints e list) e) [] ≡ list
 list_put v e list = ap (λ (o : Option (List Waiter)). unwrap_or o []) (get_after v.endpoints e list e ∙ ap (λ (b : Bool). cond b (Some list) (get v.endpoints e)) (eq-eqb e e refl))
 
+-- both threads are live
+abbrev pub AreBothLive : ℕ → ℕ → Shown → Type 0
+AreBothLive from to v = (is_some (state_at v from) ≡ true) × (is_some (state_at v to) ≡ true)
+
+-- both are live after each of the calls
+abbrev pub StayBothLive : ProfileName → ℕ → ℕ → State → List Call → Type 0
+StayBothLive p from to A calls = (n : ℕ) → n ≤ length calls → AreBothLive from to (shown (state_after p A (take n calls)))
+
+live_none : (p : ProfileName) (from to : ℕ) (A : State) → AreBothLive from to (shown A) → StayBothLive p from to A []
+live_none p from to A live zero low = subst (λ (B : State). AreBothLive from to (shown B)) (sym (state_after-nil p A)) live
+live_none p from to A live (suc n) low = absurd (omega (arith, low))
+
+live_more : (p : ProfileName) (from to : ℕ) (A : State) (call : Call) (calls : List Call) → AreBothLive from to (shown A) → StayBothLive p from to (step p A call).state calls →
+    StayBothLive p from to A (call ∷ calls)
+live_more p from to A call calls live later zero low = subst (λ (B : State). AreBothLive from to (shown B)) (sym (state_after-nil p A)) live
+live_more p from to A call calls live later (suc n) low =
+    subst (λ (B : State). AreBothLive from to (shown B)) (sym (state_after-cons p A call (take n calls))) (later n (omega (arith, low)))
+
 -- both threads are ready, and these wait on the endpoint
 record Stand (f : Forest Entry) (endpoint from to : ℕ) (list : List Waiter) (v : Shown) : Type 0 where
   forest : v.derivations ≡ f
@@ -171,6 +189,22 @@ module _ (p : ProfileName) (memory : ℕ) (f : Forest Entry) (endpoint from to :
         waits = list_put v endpoint (Receiver to ∷ []);
       })
 
+  received_live : (v : Shown) → Stand f endpoint from to [] v → is_some (state_at (effect_of p v receive).after to) ≡ true
+  received_live v s =
+      let row : ThreadView = record { state = Receiving endpoint; inbox = inbox_at v to } in
+      subst (λ (x : Effect). is_some (state_at x.after to) ≡ true) (sym (received v [] s.forest s.to_ready s.waits))
+      (ap (λ (o : Option ThreadView). is_some (option_map (λ (thread : ThreadView). thread.state) o)) (get_after v.threads to row to)
+      ∙ ap (λ (b : Bool). is_some (option_map (λ (thread : ThreadView). thread.state) (cond b (Some row) (get v.threads to)))) (eq-eqb to to refl))
+
+  sent_live : (v : Shown) → Awaits v → AreBothLive from to (effect_of p v send).after
+  sent_live v s =
+      let row : ThreadView = with_message badge message in
+      subst (λ (x : Effect). AreBothLive from to x.after) (sym (sent v (Receiver to ∷ []) s.forest s.from_ready s.waits)) (
+        ap is_some (stays_ready v to from row refl s.from_ready),
+        ap (λ (o : Option ThreadView). is_some (option_map (λ (thread : ThreadView). thread.state) o)) (get_after v.threads to row to)
+            ∙ ap (λ (b : Bool). is_some (option_map (λ (thread : ThreadView). thread.state) (cond b (Some row) (get v.threads to)))) (eq-eqb to to refl),
+      )
+
   sent_last : (v : Shown) → Awaits v → (effect_of p v send).reply ≡ Delivered endpoint from to badge message
   sent_last v s = ap (λ (x : Effect). x.reply) (sent v (Receiver to ∷ []) s.forest s.from_ready s.waits)
 
@@ -180,6 +214,7 @@ module _ (p : ProfileName) (memory : ℕ) (f : Forest Entry) (endpoint from to :
     calls : List Call
     kinds : Each (SendsOrReceives from to) calls
     many : length calls ≡ waiting + 2
+    live : StayBothLive p from to A calls
     earlier : List Reply
     answered : replies_of p A calls ≡ earlier ++ Delivered endpoint from to badge message ∷ []
 
@@ -187,11 +222,15 @@ module _ (p : ProfileName) (memory : ℕ) (f : Forest Entry) (endpoint from to :
       Stand f endpoint from to list (shown (step p A call).state)
   stands_after A call list reached s = subst (Stand f endpoint from to list) (simulates p memory A reached call).1 s
 
-  one_more : (A : State) (call : Call) (waiting : ℕ) → SendsOrReceives from to call → Passed (step p A call).state waiting → Passed A (suc waiting)
-  one_more A call waiting kind later = record {
+  both_live : (list : List Waiter) (v : Shown) → Stand f endpoint from to list v → AreBothLive from to v
+  both_live list v s = (ap is_some s.from_ready, ap is_some s.to_ready)
+
+  one_more : (A : State) (call : Call) (waiting : ℕ) → SendsOrReceives from to call → AreBothLive from to (shown A) → Passed (step p A call).state waiting → Passed A (suc waiting)
+  one_more A call waiting kind live later = record {
     calls = call ∷ later.calls;
     kinds = (kind, later.kinds);
     many = (let many = later.many in omega arith);
+    live = live_more p from to A call later.calls live later.live;
     earlier = (step p A call).reply ∷ later.earlier;
     answered = replies_of-cons p A call later.calls ∙ ap (λ (rs : List Reply). (step p A call).reply ∷ rs) later.answered;
   }
@@ -206,16 +245,22 @@ module _ (p : ProfileName) (memory : ℕ) (f : Forest Entry) (endpoint from to :
         calls = receive ∷ send ∷ [];
         kinds = (inr (refl, tt), (inl (refl, tt), tt));
         many = refl;
+        live =
+            live_more p from to A receive (send ∷ []) (both_live [] (shown A) s)
+            (live_more p from to B send []
+            (ap is_some waits.from_ready, subst (λ (v : Shown). is_some (state_at v to) ≡ true) (simulates p memory A reached receive).1 (received_live (shown A) s))
+            (live_none p from to (step p B send).state
+            (subst (AreBothLive from to) (simulates p memory B (reached_step p memory A receive reached) send).1 (sent_live (shown B) waits))));
         earlier = (step p A receive).reply ∷ [];
         answered = replies_of-cons p A receive (send ∷ [])
             ∙ ap (λ (rs : List Reply). (step p A receive).reply ∷ rs)
             (replies_of-cons p B send [] ∙ (ap (λ (rs : List Reply). (step p B send).reply ∷ rs) (replies_of-nil p (step p B send).state) ∙ ap (λ (r : Reply). r ∷ []) told));
       }
   passed (Receiver first ∷ list) A reached s =
-      one_more A send (length list) (inl (refl, tt))
+      one_more A send (length list) (inl (refl, tt)) (both_live (Receiver first ∷ list) (shown A) s)
       (passed list (step p A send).state (reached_step p memory A send reached) (stands_after A send list reached (sent_first (shown A) first list s)))
   passed (Sender first sent_badge body ∷ list) A reached s =
-      one_more A receive (length list) (inr (refl, tt))
+      one_more A receive (length list) (inr (refl, tt)) (both_live (Sender first sent_badge body ∷ list) (shown A) s)
       (passed list (step p A receive).state (reached_step p memory A receive reached) (stands_after A receive list reached (received_first (shown A) first sent_badge body list s)))
 
 -- ---- the law
@@ -228,11 +273,22 @@ serves p A right thread endpoint badge is ready holds =
     let named = has_word p is.plan.memory_bits (shown A) (reached_is p A is).store.lawful thread ready holds.slot holds.inside in
     (named.0, record { slot = holds.slot; rights = holds.rights; found = word_found p A.derivations Invoked thread named.0 holds.slot named.1; cap = holds.cap; allows = holds.allows })
 
-pub can_pass : (p : ProfileName) (A : State) (endpoint from to : ℕ) (badge other : Badge) (message : Message) → CanPass p A endpoint from to badge other message
-can_pass p A endpoint from to badge other message is from_ready to_ready two from_holds to_holds =
+-- the message passes, and both threads stay live
+pub record PassesLive (p : ProfileName) (A : State) (endpoint from to : ℕ) (badge : Badge) (message : Message) : Type 0 where
+  pub passes : PassesMessage p A endpoint from to badge message
+  pub live : StayBothLive p from to A passes.calls
+
+pub passes_live : (p : ProfileName) (A : State) (endpoint from to : ℕ) (badge other : Badge) (message : Message) → IsReached p A →
+    IsReadyToPass p (shown A) from → IsReadyToPass p (shown A) to → from ≢ to →
+    HoldsEndpoint p A.derivations write_bit from endpoint badge → HoldsEndpoint p A.derivations read_bit to endpoint other → PassesLive p A endpoint from to badge message
+passes_live p A endpoint from to badge other message is from_ready to_ready two from_holds to_holds =
     let sends = serves p A write_bit from endpoint badge is from_ready from_holds in
     let receives = serves p A read_bit to endpoint other is to_ready to_holds in
     let run = passed p is.plan.memory_bits A.derivations endpoint from to badge other message sends.0 receives.0 two sends.1 receives.1
     (waiting_at (shown A) endpoint) A (reached_is p A is)
     (record { forest = shown-derivations A; from_ready = from_ready.ready; to_ready = to_ready.ready; waits = refl }) in
-    record { calls = run.calls; kinds = run.kinds; many = run.many; earlier = run.earlier; answered = run.answered }
+    record { passes = record { calls = run.calls; kinds = run.kinds; many = run.many; earlier = run.earlier; answered = run.answered }; live = run.live }
+
+pub can_pass : (p : ProfileName) (A : State) (endpoint from to : ℕ) (badge other : Badge) (message : Message) → CanPass p A endpoint from to badge other message
+can_pass p A endpoint from to badge other message is from_ready to_ready two from_holds to_holds =
+    (passes_live p A endpoint from to badge other message is from_ready to_ready two from_holds to_holds).passes

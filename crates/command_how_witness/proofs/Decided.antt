@@ -96,14 +96,14 @@ at_stretch (n ∷ ms) stretches chain m (inr more) address lies =
         out_of (nat_le n.first address) (nat_le address n.last) past
 
 -- a byte of so many from an address on is memory of a part
-abbrev HasByte : List PartMemory → ℕ → ℕ → ℕ → Type 0
+abbrev pub HasByte : List PartMemory → ℕ → ℕ → ℕ → Type 0
 HasByte memory part first size = (address : ℕ) × ((first ≤ address) × ((address < first + size) × (part_at memory address ≡ Some part)))
 
 module _ (p : ProfileName) (memory : List PartMemory) (uses : List PartUse) (order : AreInOrder p memory uses) (part first size : ℕ) (some : 0 < size) where
   stretches : (n : PartMemory) → In n memory → n.first ≤ n.last
   stretches n here = let long = all_in is_stretch memory n order.stretches here in grind (arith, nat_tests, long)
 
-  has_byte : list_any (has_some part first size) memory ≡ true → HasByte memory part first size
+  pub has_byte : list_any (has_some part first size) memory ≡ true → HasByte memory part first size
   has_byte has = by (any_of (has_some part first size) memory has)
     where
       at : (m : PartMemory) → In m memory → m.part ≡ part → (address : ℕ) → m.first ≤ address → address ≤ m.last → part_at memory address ≡ Some part
@@ -305,15 +305,15 @@ module _ (p : ProfileName) (memory : List PartMemory) (uses : List PartUse) (mem
 -- ---- the answer
 
 -- the parts of two threads between which an answer excludes
-record ShutBetween (p : ProfileName) (memory : List PartMemory) (uses : List PartUse) (ws : List Wait) (by : List ℕ) (from to : ℕ) : Type 0 where
-  i : ℕ
-  j : ℕ
-  from_in : part_at memory from ≡ Some i
-  to_in : part_at memory to ≡ Some j
-  shut : are_open p memory uses ws by i j ≡ false
+pub record ShutBetween (p : ProfileName) (memory : List PartMemory) (uses : List PartUse) (ws : List Wait) (by : List ℕ) (from to : ℕ) : Type 0 where
+  pub i : ℕ
+  pub j : ℕ
+  pub from_in : part_at memory from ≡ Some i
+  pub to_in : part_at memory to ≡ Some j
+  pub shut : are_open p memory uses ws by i j ≡ false
 
 module _ (p : ProfileName) (memory : List PartMemory) (uses : List PartUse) (ws : List Wait) (by : List ℕ) where
-  shut_between : (from to : ℕ) → never p memory uses ws by from to ≡ Excluded → ShutBetween p memory uses ws by from to
+  pub shut_between : (from to : ℕ) → never p memory uses ws by from to ≡ Excluded → ShutBetween p memory uses ws by from to
   shut_between from to answer = go (part_at memory from) (part_at memory to) refl refl answer
     where
       closed : (b : Bool) → cond b Possible Excluded ≡ Excluded → b ≡ false
@@ -326,7 +326,7 @@ module _ (p : ProfileName) (memory : List PartMemory) (uses : List PartUse) (ws 
       go (Some i) None here there h = cc
       go (Some i) (Some j) here there h = record { i = i; j = j; from_in = here; to_in = there; shut = closed (are_open p memory uses ws by i j) h }
 
-  open_between : (from to i j : ℕ) → part_at memory from ≡ Some i → part_at memory to ≡ Some j → never p memory uses ws by from to ≡ Possible →
+  pub open_between : (from to i j : ℕ) → part_at memory from ≡ Some i → part_at memory to ≡ Some j → never p memory uses ws by from to ≡ Possible →
       are_open p memory uses ws by i j ≡ true
   open_between from to i j here there answer =
       opened (are_open p memory uses ws by i j) (sym (ap (λ o. never_between p memory uses ws by o (Some j)) here) ∙ sym (ap (never_between p memory uses ws by (part_at memory from)) there) ∙ answer)

@@ -1,5 +1,6 @@
 pub mod Runs
 pub mod Never
+pub mod ByFlow
 pub mod Below
 pub mod Decided
 pub mod Listed
@@ -8,3 +9,8 @@ pub mod Shows
 pub mod Still
 pub mod SlotWords
 pub mod CanPass
+pub mod Groups
+pub mod StillParts
+pub mod StillShown
+pub mod StillDecided
+pub mod StillMessages

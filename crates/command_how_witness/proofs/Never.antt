@@ -41,7 +41,7 @@ in_some : (o : Option ℕ) → is_some o ≡ true → (i : ℕ) × (o ≡ Some i
 in_some None h = absurd (false≢true h)
 in_some (Some i) h = (i, refl)
 
-caller_in : (q : Asking) (call : Call) → is_caller q call ≡ true → (i : ℕ) × (part_at q.memory call.thread ≡ Some i)
+pub caller_in : (q : Asking) (call : Call) → is_caller q call ≡ true → (i : ℕ) × (part_at q.memory call.thread ≡ Some i)
 caller_in q call h = in_some (part_at q.memory call.thread) (both_true (is_some (part_at q.memory call.thread)) _ h).0
 
 of_parts : (q : Asking) (uses : List PartUse) (calls : List Call) → list_all (is_caller q) calls ≡ true → Each (IsAllowed (parts_listed q.memory uses)) calls

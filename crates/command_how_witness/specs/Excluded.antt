@@ -1,5 +1,5 @@
 -- What the laws exclude: of no calls of threads of the parts it is shown; and what they do not exclude.
-use Rattle.std.specs.Prelude.{◌≡◌, ◌⊎◌, ⊤, ℕ, List, Option, Some, None}
+use Rattle.std.specs.Prelude.{◌≡◌, ◌⊎◌, ⊤, ℕ, false, List, Option, Some, None}
 use Rattle.std.specs.List.{Contains}
 use Rattle.cap_core.specs.declared.profile.ProfileName.{ProfileName}
 use Rattle.kernel_forest.specs.Forest.{Forest, descendants}
@@ -13,6 +13,7 @@ use Rattle.query_parts.specs.declared.listed.PartUse.{PartUse}
 use Rattle.query_parts.specs.Listed.{part_at, parts_listed}
 use Rattle.command_parts.specs.Ever.{AreRightParts}
 use Rattle.query_parts.specs.Below.{StandsNoneBelow}
+use Rattle.query_flow.specs.Excluded.{is_listed, PassesNoneEver, NamesNoneEver, ChangesNoneEver}
 use Rattle.command_never_text.specs.declared.never.Never.{Never}
 use Rattle.command_never_text.specs.declared.never.Never.TheVariants.{Excluded, Possible}
 use Rattle.command_never_text.specs.Waits.{waits}
@@ -106,6 +107,17 @@ IsInside p q v Loss = TakesFrom q.memory v q.from q.to
 -- never both: what is excluded of a state no calls from it show
 abbrev pub HasNoWitness : ProfileName → Asking → List PartUse → State → List Call → Type 0
 HasNoWitness p q uses A calls = IsReached p A → IsExcluded p q uses (shown A) → IsShown p q A calls → ⊥
+
+-- it is excluded by a flow, whatever parts there are, and whatever calls threads make that are not trusted: of a message, none of the one is delivered
+-- to the other; of a hold, no word of the one leads to the other's control block; of a loss, no call of the one changes a slot, and the other is not trusted
+abbrev pub IsOutsideFlow : ProfileName → Asking → Shown → Happening → Type 0
+IsOutsideFlow p q v Message = PassesNoneEver p q.without v q.by q.from q.to
+IsOutsideFlow p q v Hold = NamesNoneEver p q.without v q.from q.to
+IsOutsideFlow p q v Loss = ChangesNoneEver p q.without v q.from × (is_listed q.without q.to ≡ false)
+
+-- what a flow excludes of a state no calls from it show
+abbrev pub HasNoWitnessByFlow : ProfileName → Asking → State → List Call → Type 0
+HasNoWitnessByFlow p q A calls = IsReached p A → IsOutsideFlow p q (shown A) q.what → IsShown p q A calls → ⊥
 
 -- nor is it both ruled out and not: parts that may be written give one answer, however they are written
 abbrev pub IsOnlyOne : ProfileName → Asking → List PartUse → State → Type 0

@@ -4,4 +4,5 @@ pub mod Witness
 pub mod Text
 pub mod Excluded
 pub mod Still
+pub mod StillDecided
 pub mod Private

@@ -21,6 +21,7 @@ use ipc_core::MakeWaiters;
 use kernel_core::Kernel;
 use query_parts::{PartMemory, PartsFault, part_at};
 use setup_format::Setup;
+use setup_naming::Naming;
 use slot_core::{Derivation, DerivationStore, MakeStore};
 use std::alloc::{AllocError, Global};
 
@@ -53,7 +54,10 @@ fn is_kept<P: Profile, S: MakeStore<P> + DerivationStore<P>, W: MakeWaiters<P>>(
         without: asked.without,
         messages: &[],
     };
-    match never_gets::<P, S, W>(alloc, &[], &heading, asked.from, asked.to, asked.by, kernel) {
+    let naming = Naming::Addresses(&[]);
+    match never_gets::<P, S, W>(
+        alloc, &naming, &heading, asked.from, asked.to, asked.by, kernel,
+    ) {
         Ok((_, answer)) => Ok(is_excluded_by(answer)),
         Err(fault) => Err(fault),
     }

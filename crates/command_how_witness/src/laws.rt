@@ -8,12 +8,18 @@ ghost use Rattle.kernel_abstract.specs.State.{State};
 ghost use Rattle.query_parts.specs.declared.listed.PartUse.{PartUse};
 ghost use Rattle.query_parts.specs.Parts.{Parts};
 ghost use Rattle.command_how_witness.specs.Witness.{Asking};
-ghost use Rattle.command_how_witness.specs.Excluded.{HasNoWitness, IsOnlyOne};
+ghost use Rattle.command_how_witness.specs.Excluded.{HasNoWitness, HasNoWitnessByFlow, IsOnlyOne};
 ghost use Rattle.command_how_witness.specs.Still.{ChangesNoSlot, CanPass};
+ghost use Rattle.command_how_witness.specs.StillDecided.{IsDecided, IsDecidedWithBadge};
 
 /// Where it is excluded, no calls show it: there is never a witness and *excluded* of one question.
 pub fn what_is_excluded_has_no_witness()
     ensures { (p : ProfileName) (q : Asking) (uses : List PartUse) (A : State) (calls : List Call) → HasNoWitness p q uses A calls }
+{}
+
+/// Where a flow excludes it, no calls show it: there is never a witness and *excluded by flow* of one question.
+pub fn what_a_flow_excludes_has_no_witness()
+    ensures { (p : ProfileName) (q : Asking) (A : State) (calls : List Call) → HasNoWitnessByFlow p q A calls }
 {}
 
 /// What is excluded is never not excluded as well, of whatever parts that may be told: so a line says *excluded* exactly where it is.
@@ -31,4 +37,16 @@ pub fn still_parts_change_no_slot()
 /// one with Read. It passes by sends of the one and receives of the other alone, whoever waits there before, and with that badge.
 pub fn still_parts_can_pass()
     ensures { (p : ProfileName) (A : State) (endpoint from to : ℕ) (badge other : Badge) (message : Message) → CanPass p A endpoint from to badge other message }
+{}
+
+/// Between two still parts the answer of a message is exact: of two live threads that are not trusted, of two still ones of parts
+/// that may be told, a message is excluded, so that no calls show it; or sends of the one and receives of the other alone show it.
+pub fn still_parts_are_decided()
+    ensures { (p : ProfileName) (q : Asking) (uses : List PartUse) (A : State) → IsDecided p q uses A }
+{}
+
+/// The same of a message with a badge that is asked for: no calls of threads that are not trusted show it, or sends of the one and
+/// receives of the other alone do.
+pub fn still_parts_are_decided_with_badge()
+    ensures { (p : ProfileName) (q : Asking) (uses : List PartUse) (A : State) → IsDecidedWithBadge p q uses A }
 {}

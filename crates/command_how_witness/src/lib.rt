@@ -3,6 +3,7 @@
 #![tactic(auto)]
 
 mod asked;
+mod by_flow;
 mod callers;
 mod excluded;
 mod laws;
@@ -10,11 +11,13 @@ mod shown;
 mod text;
 
 pub use asked::{Asked, Happening};
+pub use by_flow::is_excluded_by_flow;
 pub use callers::may_call;
 pub use excluded::is_excluded;
 pub use laws::{
-    still_parts_can_pass, still_parts_change_no_slot, what_is_excluded_has_no_witness,
-    what_is_excluded_is_decided,
+    still_parts_are_decided, still_parts_are_decided_with_badge, still_parts_can_pass,
+    still_parts_change_no_slot, what_a_flow_excludes_has_no_witness,
+    what_is_excluded_has_no_witness, what_is_excluded_is_decided,
 };
 pub use shown::{is_message, is_shown};
 pub use text::is_witness_text;
