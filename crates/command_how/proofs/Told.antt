@@ -1,5 +1,5 @@
--- What is told of two threads is told by parts that may be told.
-use Rattle.std.proofs.Common.{◌≡◌, ℕ, List, subst}
+-- What comes of a question, and what is told of two threads by parts that may be told.
+use Rattle.std.proofs.Common.{◌≡◌, ℕ, List, inl, inr, sym, subst, true, false}
 use Rattle.cap_core.specs.declared.profile.ProfileName.{ProfileName}
 use Rattle.kernel_abstract.specs.Shown.{Shown}
 use Rattle.query_parts.specs.declared.listed.PartMemory.{PartMemory}
@@ -11,7 +11,25 @@ use Rattle.command_parts.specs.Threads.{objects_named}
 use Rattle.command_parts.specs.Ever.{AreRightParts}
 use Rattle.command_core.specs.declared.fault.Verdict.{Verdict}
 use Rattle.command_how_witness.specs.Witness.{Asking}
-use Rattle.command_how.specs.How.{Words, IsHowTold, IsToldByParts}
+use Rattle.command_how.specs.declared.line.NoWitness.TheVariants.{Excluded, ExcludedByFlow, NotFound, NotFoundOf}
+use Rattle.command_how.specs.declared.telling.Outcome.{Outcome}
+use Rattle.command_how.specs.declared.telling.Outcome.TheVariants.{Witness, Without}
+use Rattle.command_how.specs.How.{Words, IsFound, IsFoundUnlessFlow, IsHowTold, IsOutcome, IsToldByParts}
+use Rattle.command_how_witness.specs.Excluded.{IsInside}
+
+-- what was found where it is not excluded comes of the question
+of_found : (p : ProfileName) (q : Asking) (uses : List PartUse) (v : Shown) (setup : SetupView) (made : ℕ) (outcome : Outcome) →
+    IsInside p q v q.what → IsFound p q setup made outcome → IsOutcome p q uses v setup made outcome
+of_found p q uses v setup made (Witness text) inside found = (inside, found)
+of_found p q uses v setup made (Without Excluded) inside found = absurd (let z : true ≡ false = found in cc)
+of_found p q uses v setup made (Without ExcludedByFlow) inside found = absurd (let z : true ≡ false = found in cc)
+of_found p q uses v setup made (Without NotFound) inside found = inside
+of_found p q uses v setup made (Without (NotFoundOf most)) inside found = inside
+
+pub outcome_of_found : (p : ProfileName) (q : Asking) (uses : List PartUse) (v : Shown) (setup : SetupView) (made : ℕ) (outcome : Outcome) →
+    IsInside p q v q.what → IsFoundUnlessFlow p q v setup made outcome → IsOutcome p q uses v setup made outcome
+outcome_of_found p q uses v setup made outcome inside (inl (same, outside)) = subst (IsOutcome p q uses v setup made) (sym same) (inside, outside)
+outcome_of_found p q uses v setup made outcome inside (inr found) = of_found p q uses v setup made outcome inside found
 
 abbrev asking_with : Words → ℕ → ℕ → List PartMemory → List ℕ → List ℕ → Asking
 asking_with w from to memory by without = record {

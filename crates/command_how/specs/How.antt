@@ -17,11 +17,13 @@ use Rattle.command_core.specs.declared.fault.Verdict.{Verdict}
 use Rattle.command_core.specs.declared.fault.Verdict.TheVariants.{AllMet, NotMet, Absent}
 use Rattle.command_how_witness.specs.declared.asked.Happening.{Happening}
 use Rattle.command_how_witness.specs.Witness.{Asking}
-use Rattle.command_how_witness.specs.Excluded.{IsExcluded, IsRuledOut, IsInside}
+use Rattle.command_how_witness.specs.Excluded.{IsExcluded, IsOutsideFlow, IsRuledOut, IsInside}
 use Rattle.command_how_witness.specs.Text.{IsWitnessText}
 use Rattle.command_how.specs.declared.asking.How.{How}
 use Rattle.command_how.specs.declared.line.NoWitness.{NoWitness}
-use Rattle.command_how.specs.declared.line.NoWitness.TheVariants.{Excluded}
+use Rattle.command_how.specs.declared.line.NoWitness.TheVariants.{Excluded, ExcludedByFlow, NotFound, NotFoundOf}
+use Rattle.command_how.specs.declared.telling.Outcome.{Outcome}
+use Rattle.command_how.specs.declared.telling.Outcome.TheVariants.{Witness, Without}
 use Rattle.command_how.specs.Line.{how_line, says_excluded}
 
 -- what is asked, by the words of a command line
@@ -70,11 +72,38 @@ IsSought p names q setup made text verdict =
     ((verdict ≡ AllMet) × IsWitnessText p q setup made text)
     ⊎ ((answer : NoWitness) × ((says_excluded answer ≡ false) × IsLine names q answer text verdict))
 
--- the line that it is excluded, where it is and is ruled out; where it is not, what was looked for
+-- the same before it is told: a witness, or that none is found
+abbrev pub IsFound : ProfileName → Asking → SetupView → ℕ → Outcome → Type 0
+IsFound p q setup made (Witness text) = IsWitnessText p q setup made text.items
+IsFound p q setup made (Without answer) = says_excluded answer ≡ false
+
+-- or it is said that a flow excludes it, where one does
+abbrev pub IsFoundUnlessFlow : ProfileName → Asking → Shown → SetupView → ℕ → Outcome → Type 0
+IsFoundUnlessFlow p q v setup made outcome =
+    ((outcome ≡ Without ExcludedByFlow) × IsOutsideFlow p q v q.what) ⊎ IsFound p q setup made outcome
+
+-- it is excluded and ruled out; it is not, but excluded by a flow; or it is neither
+abbrev pub IsWithout : ProfileName → Asking → List PartUse → Shown → NoWitness → Type 0
+IsWithout p q uses v Excluded = IsExcluded p q uses v × IsRuledOut p q uses v q.what
+IsWithout p q uses v ExcludedByFlow = IsInside p q v q.what × IsOutsideFlow p q v q.what
+IsWithout p q uses v NotFound = IsInside p q v q.what
+IsWithout p q uses v (NotFoundOf most) = IsInside p q v q.what
+
+-- what comes of a question: a witness, where it is not excluded; or why there is none
+abbrev pub IsOutcome : ProfileName → Asking → List PartUse → Shown → SetupView → ℕ → Outcome → Type 0
+IsOutcome p q uses v setup made (Witness text) = IsInside p q v q.what × IsWitnessText p q setup made text.items
+IsOutcome p q uses v setup made (Without answer) = IsWithout p q uses v answer
+
+-- the line that it is excluded by a flow, where it is; or what was looked for
+abbrev pub IsInsideTold : ProfileName → Names → Asking → Shown → SetupView → ℕ → List ℕ → Verdict → Type 0
+IsInsideTold p names q v setup made text verdict =
+    (IsOutsideFlow p q v q.what × IsLine names q ExcludedByFlow text verdict) ⊎ IsSought p names q setup made text verdict
+
+-- the line that it is excluded, where it is and is ruled out; where it is not, that it is excluded by a flow, or what was looked for
 abbrev pub IsHowTold : ProfileName → Names → Asking → List PartUse → Shown → SetupView → ℕ → List ℕ → Verdict → Type 0
 IsHowTold p names q uses v setup made text verdict =
     (IsExcluded p q uses v × (IsRuledOut p q uses v q.what × IsLine names q Excluded text verdict))
-    ⊎ (IsInside p q v q.what × IsSought p names q setup made text verdict)
+    ⊎ (IsInside p q v q.what × IsInsideTold p names q v setup made text verdict)
 
 -- the same by parts that may be told
 pub record IsToldByParts (p : ProfileName) (w : Words) (names : Names) (setup : SetupView) (made : ℕ) (v : Shown) (from to : ℕ) (text : List ℕ) (verdict : Verdict) : Type 0 where

@@ -9,7 +9,7 @@ use Rattle.command_never_text.specs.Open.{part_text}
 use Rattle.command_how_witness.specs.declared.asked.Happening.{Happening}
 use Rattle.command_how_witness.specs.declared.asked.Happening.TheVariants.{Message, Hold, Loss}
 use Rattle.command_how.specs.declared.line.NoWitness.{NoWitness}
-use Rattle.command_how.specs.declared.line.NoWitness.TheVariants.{Excluded, NotFound, NotFoundOf}
+use Rattle.command_how.specs.declared.line.NoWitness.TheVariants.{Excluded, ExcludedByFlow, NotFound, NotFoundOf}
 use Rattle.command_how_witness.specs.Witness.{Asking}
 
 abbrev pub happening_text : Happening → List ℕ
@@ -17,18 +17,21 @@ happening_text Message = codes "message"
 happening_text Hold = codes "hold"
 happening_text Loss = codes "loss"
 
+-- why no calls are told
 abbrev pub answer_text : NoWitness → List ℕ
 answer_text Excluded = codes "excluded"
+answer_text ExcludedByFlow = codes "excluded by flow"
 answer_text NotFound = codes "not found"
 answer_text (NotFoundOf most) = codes "not found of " ++ decimal most
 
 -- a line that none are found says nothing
 abbrev pub says_excluded : NoWitness → Bool
 says_excluded Excluded = true
+says_excluded ExcludedByFlow = true
 says_excluded NotFound = false
 says_excluded (NotFoundOf most) = false
 
 abbrev pub how_line : Names → Asking → NoWitness → List ℕ
 how_line names q answer =
-    terminated (codes "how " ++ (happening_text q.what ++ (codes " " ++ (thread_name names q.from ++ (codes " part " ++ (part_text (part_at q.memory q.from)
-    ++ (codes " -> " ++ (thread_name names q.to ++ (codes " part " ++ (part_text (part_at q.memory q.to) ++ (codes " " ++ answer_text answer)))))))))))
+    terminated (codes "how " ++ (happening_text q.what ++ (codes " " ++ (thread_name names q.from ++ (codes " part " ++ (part_text decimal (part_at q.memory q.from)
+    ++ (codes " -> " ++ (thread_name names q.to ++ (codes " part " ++ (part_text decimal (part_at q.memory q.to) ++ (codes " " ++ answer_text answer)))))))))))

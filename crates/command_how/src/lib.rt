@@ -9,3 +9,5 @@ mod telling;
 
 pub use asking::{How, STATES};
 pub use command_how_witness::Happening;
+pub use line::NoWitness;
+pub use telling::{Behind, Outcome, outcome_of};

@@ -1,5 +1,6 @@
 //! The line of an answer that is no witness.
 ghost use Rattle.std.specs.Prelude.{◌≡◌, Some};
+ghost use Rattle.std.specs.Fmt.{decimal};
 ghost use Rattle.command_never_text.specs.Open.{part_text};
 ghost use Rattle.command_how.specs.Line as spec;
 
@@ -11,6 +12,8 @@ use std::fmt;
 pub enum NoWitness {
     /// The laws say that it can't happen.
     Excluded,
+    /// It is not excluded by the parts, but by flows.
+    ExcludedByFlow,
     /// It is not excluded, and none were found.
     NotFound,
     /// The same, where the search ended at so many copies of the kernel.
@@ -23,6 +26,7 @@ impl fmt::Display for NoWitness {
     fn fmt<W: fmt::Write>(&self, f: &mut fmt::Formatter<W>) -> fmt::Result {
         match self {
             NoWitness::Excluded => write!(f, "excluded"),
+            NoWitness::ExcludedByFlow => write!(f, "excluded by flow"),
             NoWitness::NotFound => write!(f, "not found"),
             NoWitness::NotFoundOf(most) => write!(f, "not found of {most}"),
         }
@@ -45,7 +49,7 @@ pub fn happening_word(what: Happening) -> &'static str
 pub struct PartText(pub Option<u64>);
 
 impl fmt::Display for PartText {
-    ghost output = { λ p. Some (part_text p.0) };
+    ghost output = { λ p. Some (part_text decimal p.0) };
 
     fn fmt<W: fmt::Write>(&self, f: &mut fmt::Formatter<W>) -> fmt::Result {
         match self.0 {

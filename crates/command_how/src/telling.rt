@@ -1,4 +1,4 @@
-//! What is told of two threads: calls that were found, as a set-up, or a line.
+//! What comes of a question of two threads, and what is told of it: calls that were found, as a set-up, or a line.
 ghost use Rattle.std.specs.Prelude.{◌≡◌, ◌≤◌, ◌++◌, ℕ, true, false, IfOk, List, OnOk, length, string_bytes};
 ghost use Rattle.kernel_abstract.specs.Memory.{IsInMemory};
 ghost use Rattle.kernel_abstract.specs.Plan.{IsPlan};
@@ -8,7 +8,7 @@ ghost use Rattle.command_parts.specs.Ever.{AreRightParts};
 ghost use Rattle.command_how_witness.specs.Witness.{asking_of};
 ghost use Rattle.command_how_witness.specs.Excluded.{IsOutside, IsRuledOut, IsInside};
 ghost use Rattle.command_how.specs.How as spec;
-ghost use Rattle.command_how.specs.Line.{how_line, says_excluded};
+ghost use Rattle.command_how.specs.Line.{how_line};
 
 use crate::line::{NoWitness, PartText, happening_word};
 use crate::table::with_calls;
@@ -16,7 +16,7 @@ use cap_core::Profile;
 use command_check::table_text;
 use command_core::Verdict;
 use command_how_search::{Found, find, shortened};
-use command_how_witness::{Asked, is_excluded, is_witness_text};
+use command_how_witness::{Asked, is_excluded, is_excluded_by_flow, is_witness_text};
 use ipc_core::MakeWaiters;
 use kernel_core::{Call, Kernel};
 use query_parts::{PartsFault, part_at};
@@ -34,6 +34,13 @@ pub struct Behind<'a> {
     pub setup: &'a Setup,
     pub table: &'a Table,
     pub made: usize,
+}
+
+/// What comes of a question: the text of a witness, or why there is none.
+#[derive(Drop)]
+pub enum Outcome {
+    Witness(Vec<u8>),
+    Without(NoWitness),
 }
 
 /// Adds the line of an answer that is no witness.
@@ -95,60 +102,66 @@ fn text_of<P: Profile, S: MakeStore<P> + DerivationStore<P>, W: MakeWaiters<P>>(
     table_text(alloc, &table)
 }
 
-/// The line that no calls are found.
-fn not_found<P: Profile>(
-    alloc: Global,
-    behind: &Behind<'_>,
-    asked: &Asked<'_>,
-    answer: NoWitness,
-) -> Result<(Vec<u8>, Verdict), AllocError>
-    requires { says_excluded answer ≡ false }
-    ensures { IfOk result (λ made. spec.IsSought P.profile (names_view behind.now.names.now) (asking_of asked.now) behind.now.setup.now behind.now.made made.0.items made.1) }
-{
-    let made = line(alloc, behind.names, asked, answer)?;
-    Ok(made)
-}
-
-/// The text of a witness, where it passes the test when it is read again; the line that none is found, where it does not.
+/// The text of a witness, where it passes the test when it is read again; that none is found, where it does not.
 fn tested<P: Profile, S: MakeStore<P> + DerivationStore<P>, W: MakeWaiters<P>>(
     alloc: Global,
     behind: &Behind<'_>,
     asked: &Asked<'_>,
     text: Vec<u8>,
-) -> Result<(Vec<u8>, Verdict), AllocError>
+) -> Result<Outcome, AllocError>
     requires plan { IsPlan P.profile behind.now.setup.now.plan }
     requires made { behind.now.made ≤ length behind.now.setup.now.calls }
-    ensures { IfOk result (λ answer. spec.IsSought P.profile (names_view behind.now.names.now) (asking_of asked.now) behind.now.setup.now behind.now.made answer.0.items answer.1) }
+    ensures { IfOk result (spec.IsFound P.profile (asking_of asked.now) behind.now.setup.now behind.now.made) }
 {
     let (setup, made) = (behind.setup, behind.made);
     if is_witness_text::<P, S, W>(alloc, text.as_slice(), setup, made, asked)? {
-        Ok((text, Verdict::AllMet))
+        Ok(Outcome::Witness(text))
     } else {
-        not_found::<P>(alloc, behind, asked, NoWitness::NotFound)
+        Ok(Outcome::Without(NoWitness::NotFound))
     }
 }
 
-/// What is told where it is not excluded, by so many copies of the kernel at most.
+/// What is found where it is not excluded, by so many copies of the kernel at most.
 fn sought<P: Profile, S: MakeStore<P> + DerivationStore<P>, W: MakeWaiters<P>>(
     alloc: Global,
     behind: &Behind<'_>,
     kernel: &Kernel<P, S, W>,
     asked: &Asked<'_>,
     most: u64,
-) -> Result<(Vec<u8>, Verdict), AllocError>
+) -> Result<Outcome, AllocError>
     requires plan { IsPlan P.profile behind.now.setup.now.plan }
     requires made { behind.now.made ≤ length behind.now.setup.now.calls }
     requires memory { (memory : ℕ) × IsInMemory P.profile memory kernel.now }
-    ensures { IfOk result (λ answer. spec.IsSought P.profile (names_view behind.now.names.now) (asking_of asked.now) behind.now.setup.now behind.now.made answer.0.items answer.1) }
+    ensures { IfOk result (spec.IsFound P.profile (asking_of asked.now) behind.now.setup.now behind.now.made) }
 {
     match find::<P, S, W>(alloc, kernel, asked, most)? {
         Found::Calls(found) => {
             let text = text_of::<P, S, W>(alloc, behind, kernel, asked, found)?;
             tested::<P, S, W>(alloc, behind, asked, text)
         }
-        Found::None => not_found::<P>(alloc, behind, asked, NoWitness::NotFound),
-        Found::Limit => not_found::<P>(alloc, behind, asked, NoWitness::NotFoundOf(most)),
+        Found::None => Ok(Outcome::Without(NoWitness::NotFound)),
+        Found::Limit => Ok(Outcome::Without(NoWitness::NotFoundOf(most))),
     }
+}
+
+/// That a flow excludes it, where one does; or what is found.
+fn sought_unless_flow<P: Profile, S: MakeStore<P> + DerivationStore<P>, W: MakeWaiters<P>>(
+    alloc: Global,
+    behind: &Behind<'_>,
+    kernel: &Kernel<P, S, W>,
+    asked: &Asked<'_>,
+    most: u64,
+) -> Result<Outcome, AllocError>
+    requires plan { IsPlan P.profile behind.now.setup.now.plan }
+    requires made { behind.now.made ≤ length behind.now.setup.now.calls }
+    requires memory { (memory : ℕ) × IsInMemory P.profile memory kernel.now }
+    ensures { IfOk result (spec.IsFoundUnlessFlow P.profile (asking_of asked.now) kernel.now behind.now.setup.now behind.now.made) }
+{
+    if is_excluded_by_flow::<P, S, W>(alloc, kernel, asked)? {
+        return Ok(Outcome::Without(NoWitness::ExcludedByFlow));
+    }
+    let outcome = sought::<P, S, W>(alloc, behind, kernel, asked, most)?;
+    Ok(outcome)
 }
 
 /// Whether it is excluded, in a kernel whose objects lie in its memory.
@@ -170,6 +183,31 @@ fn excludes<P: Profile, S: MakeStore<P> + DerivationStore<P>, W: MakeWaiters<P>>
     }
 }
 
+/// What comes of a question of two threads, by so many copies of the kernel at most.
+///
+/// # Errors
+///
+/// Memory was refused.
+pub fn outcome_of<P: Profile, S: MakeStore<P> + DerivationStore<P>, W: MakeWaiters<P>>(
+    alloc: Global,
+    behind: &Behind<'_>,
+    kernel: &Kernel<P, S, W>,
+    asked: &Asked<'_>,
+    most: u64,
+) -> Result<Outcome, AllocError>
+    requires plan { IsPlan P.profile behind.now.setup.now.plan }
+    requires made { behind.now.made ≤ length behind.now.setup.now.calls }
+    requires memory { (memory : ℕ) × IsInMemory P.profile memory kernel.now }
+    ensures { IfOk result (λ outcome. (uses : List PartUseOf) → AreRightParts P.profile kernel.now asked.now.without.now asked.now.memory.now uses
+        → spec.IsOutcome P.profile (asking_of asked.now) uses kernel.now behind.now.setup.now behind.now.made outcome) }
+{
+    if excludes::<P, S, W>(alloc, behind.setup, kernel, asked)? {
+        return Ok(Outcome::Without(NoWitness::Excluded));
+    }
+    let outcome = sought_unless_flow::<P, S, W>(alloc, behind, kernel, asked, most)?;
+    Ok(outcome)
+}
+
 /// What is told of two threads, by so many copies of the kernel at most.
 pub fn told<P: Profile, S: MakeStore<P> + DerivationStore<P>, W: MakeWaiters<P>>(
     alloc: Global,
@@ -184,10 +222,8 @@ pub fn told<P: Profile, S: MakeStore<P> + DerivationStore<P>, W: MakeWaiters<P>>
     ensures { IfOk result (λ answer. (uses : List PartUseOf) → AreRightParts P.profile kernel.now asked.now.without.now asked.now.memory.now uses
         → spec.IsHowTold P.profile (names_view behind.now.names.now) (asking_of asked.now) uses kernel.now behind.now.setup.now behind.now.made answer.0.items answer.1) }
 {
-    if excludes::<P, S, W>(alloc, behind.setup, kernel, asked)? {
-        let made = line(alloc, behind.names, asked, NoWitness::Excluded)?;
-        return Ok(made);
+    match outcome_of::<P, S, W>(alloc, behind, kernel, asked, most)? {
+        Outcome::Witness(text) => Ok((text, Verdict::AllMet)),
+        Outcome::Without(answer) => line(alloc, behind.names, asked, answer),
     }
-    let made = sought::<P, S, W>(alloc, behind, kernel, asked, most)?;
-    Ok(made)
 }
