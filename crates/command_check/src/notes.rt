@@ -138,6 +138,6 @@ pub fn notes_on(
         refused,
         unmet,
         asking,
-        absent: None,
+        ..Notes::none(alloc)
     })
 }

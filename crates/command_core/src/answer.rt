@@ -13,6 +13,21 @@ pub struct CallNote {
     pub text: String,
 }
 
+/// What standard error tells of a policy.
+#[derive(Drop)]
+pub enum PolicyNote {
+    /// What is told of a place of the policy's text: its line and column, counted from 1.
+    Place {
+        line: usize,
+        column: usize,
+        text: String,
+    },
+    /// What is told of a call of the set-up.
+    Call(CallNote),
+    /// How many more there are to be told.
+    More(usize),
+}
+
 /// What standard error tells of an answer. No clause of a command says what it is, unless the command's own says so.
 #[derive(Drop)]
 pub struct Notes {
@@ -24,6 +39,8 @@ pub struct Notes {
     pub asking: Vec<usize>,
     /// What the command line names and the input does not have.
     pub absent: Option<String>,
+    /// What is told of a policy, in this order.
+    pub policy: Vec<PolicyNote>,
 }
 
 impl Notes {
@@ -33,12 +50,14 @@ impl Notes {
         ensures unmet { result.unmet.items ≡ [] }
         ensures asking { result.asking.items ≡ [] }
         ensures absent { result.absent ≡ None }
+        ensures policy { result.policy.items ≡ [] }
     {
         Notes {
             refused: Vec::new(alloc),
             unmet: Vec::new(alloc),
             asking: Vec::new(alloc),
             absent: None,
+            policy: Vec::new(alloc),
         }
     }
 }
@@ -90,6 +109,28 @@ impl Answer {
     {
         let notes = Notes {
             unmet,
+            ..Notes::none(alloc)
+        };
+        Answer {
+            text,
+            verdict,
+            notes,
+        }
+    }
+
+    /// An answer of which standard error tells this of a policy.
+    pub fn with_policy(
+        alloc: Global,
+        text: Vec<u8>,
+        verdict: Verdict,
+        policy: Vec<PolicyNote>,
+    ) -> Answer
+        ensures text { result.text ≡ text }
+        ensures verdict { result.verdict ≡ verdict }
+        ensures policy { result.notes.policy ≡ policy }
+    {
+        let notes = Notes {
+            policy,
             ..Notes::none(alloc)
         };
         Answer {

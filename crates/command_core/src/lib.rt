@@ -12,7 +12,7 @@ mod sink;
 mod source;
 mod streams;
 
-pub use answer::{Answer, CallNote, Found, Notes};
+pub use answer::{Answer, CallNote, Found, Notes, PolicyNote};
 pub use device::DeviceFault;
 pub use engines::{Engine, run_engine};
 pub use fault::{RunFault, Verdict, status_of};

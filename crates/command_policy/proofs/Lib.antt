@@ -1,3 +1,3 @@
-mod Lengths
+pub mod Lengths
 mod Lines
-mod Answered
+pub mod Answered

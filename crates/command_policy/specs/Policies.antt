@@ -15,9 +15,11 @@ use Rattle.command_core.specs.declared.fault.Verdict.TheVariants.{Refused, Absen
 use Rattle.command_policy_text.specs.declared.told.Held.{Held}
 use Rattle.command_policy_breaches.specs.Joins.{blocks, homes_joined, joins}
 use Rattle.command_policy_breaches.specs.Layouts.{IsLayoutOf}
-use Rattle.command_policy_text.specs.Texts.{text_and_verdict}
+use Rattle.command_policy_text.specs.Texts.{breach_lines as lines_of_breaches, text_and_verdict}
 use Rattle.command_policy_breaches.specs.Ways.{passages}
 use Rattle.command_policy.specs.declared.judging.Judged.{Judged}
+use Rattle.command_policy.specs.declared.command.Judging.{Judging}
+use Rattle.command_policy.specs.declared.command.Judging.TheVariants.{Done, Answered}
 
 -- what the first calls of a set-up are answered
 abbrev pub replies_behind : ProfileName → SetupView → ℕ → List Reply
@@ -46,6 +48,10 @@ IsJudged p setup made j = IsJudgedOf p (shown (state_behind p setup made)) (repl
 abbrev pub told_of : Judged → SetupView → List ℕ × Verdict
 told_of j setup = text_and_verdict j.policy j.layout j.labels j.homes.items j.joins.items j.passages.items setup j.replies.items
 
+-- the lines of what breaks the policy, in their order
+abbrev pub breach_lines : Judged → SetupView → List (List ℕ)
+breach_lines j setup = lines_of_breaches j.policy j.layout j.labels j.homes.items j.joins.items j.passages.items setup j.replies.items
+
 -- a policy is refused: the line has the number of the fault, and its place
 abbrev pub refused_line : ℕ → List ℕ → List ℕ
 refused_line code place = codes "policy refused " ++ (decimal code ++ (codes " at " ++ (place ++ codes "\n")))
@@ -71,6 +77,17 @@ pub record IsHeldText (p : ProfileName) (setup : SetupView) (after : Option ℕ)
   pub judged : Judged
   pub is_judged : IsJudged p setup made judged
   pub told : (text, verdict) ≡ told_of judged setup
+
+-- the same, and nothing is told yet
+pub record IsJudgedFirst (p : ProfileName) (setup : SetupView) (after : Option ℕ) (made : ℕ) (j : Judged) : Type 0 where
+  pub asked : Option ℕ
+  pub is_made : calls_made setup (option_or after asked) ≡ Some made
+  pub is_judged : IsJudged p setup made j
+
+-- what comes of a policy before it is told: what is judged; or that the policy is refused, or the set-up has fewer calls
+abbrev pub IsJudging : Option ℕ → ProfileName → SetupView → Judging → Type 0
+IsJudging after p setup (Done judged file made) = IsJudgedFirst p setup after made judged
+IsJudging after p setup (Answered answer) = IsPolicyRefused answer.text.items answer.verdict ⊎ IsPast setup after answer.text.items answer.verdict
 
 -- the policy is refused; or the set-up has fewer calls than are asked for; or it is held to the policy
 abbrev pub IsPolicyOf : Option ℕ → ProfileName → ReadView → List ℕ → Verdict → Type 0

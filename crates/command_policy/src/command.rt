@@ -2,14 +2,14 @@
 ghost use Rattle.std.specs.Prelude.{◌≡◌, IfOk, Some};
 ghost use Rattle.std.specs.Option.{option_or};
 ghost use Rattle.kernel_abstract.specs.Plan.{IsPlan};
-ghost use Rattle.setup_format.specs.Read.{read_view};
 ghost use Rattle.setup_report.specs.Behind.{calls_made as calls_made_of};
-ghost use Rattle.command_policy.specs.Policies.{IsPolicyOf, IsPolicyRefused, refused_line};
+ghost use Rattle.command_policy.specs.Policies.{IsJudging, IsPolicyRefused, refused_line};
 
-use crate::judging::judge;
+use crate::judging::{Judged, judge};
+use crate::notes::{note_on_refusal, notes_on};
 use cap_core::Profile;
 use command_check::Command;
-use command_core::{Answer, Verdict};
+use command_core::{Answer, PolicyNote, Verdict};
 use ipc_core::MakeWaiters;
 use setup_format::ReadSetup;
 use setup_policy::{Fault, Place, PolicyFile, Refusal, Spot, read_policy};
@@ -25,31 +25,37 @@ pub struct HeldTo<'a> {
 }
 
 /// The text of a policy's bytes, so far as they are one.
-pub fn text_of(bytes: &[u8]) -> &str {
+fn text_of(bytes: &[u8]) -> &str {
     bytes.utf8_chunks().next().map_or("", |chunk| chunk.valid())
 }
 
-/// The line by which a policy is refused for a fault at a place.
-fn refused_at(alloc: Global, code: u32, place: &str) -> Result<Answer, AllocError>
+/// The answer by which a policy is refused for a fault at a place.
+fn refused_at(
+    alloc: Global,
+    code: u32,
+    place: &str,
+    notes: Vec<PolicyNote>,
+) -> Result<Answer, AllocError>
     ensures text { IfOk result (λ made. made.text.items ≡ refused_line code place.now) }
     ensures verdict { IfOk result (λ made. made.verdict ≡ Verdict.Refused) }
 {
     let line = format!(in alloc; "policy refused {code} at {place}\n")?;
-    Ok(Answer::new(alloc, line.into_bytes(), Verdict::Refused))
+    Ok(Answer::with_policy(alloc, line.into_bytes(), Verdict::Refused, notes))
 }
 
 /// The answer for a policy that is refused.
 fn refused(alloc: Global, refusal: &Refusal) -> Result<Answer, AllocError>
     ensures { IfOk result (λ made. IsPolicyRefused made.text.items made.verdict) }
 {
+    let notes = note_on_refusal(alloc, refusal)?;
     match refusal {
         Refusal::Memory => Err(AllocError),
-        Refusal::At { fault, place, .. } => refused_at(alloc, fault.code(), place.as_str()),
+        Refusal::At { fault, place, .. } => refused_at(alloc, fault.code(), place.as_str(), notes),
     }
 }
 
 /// That a policy asks for more calls than there are.
-pub fn too_many(alloc: Global, text: &str, file: &PolicyFile, calls: usize) -> Refusal {
+fn too_many(alloc: Global, text: &str, file: &PolicyFile, calls: usize) -> Refusal {
     let after = file.after.unwrap_or(0);
     match format!(in alloc; "the set-up has {calls} calls, and after is {after}") {
         Ok(words) => {
@@ -60,24 +66,69 @@ pub fn too_many(alloc: Global, text: &str, file: &PolicyFile, calls: usize) -> R
     }
 }
 
+/// What comes of a policy for a set-up: what is judged behind so many of its calls; or the answer, where the policy is refused or the
+/// set-up has fewer calls.
+#[derive(Drop)]
+pub enum Judging {
+    Done {
+        judged: Judged,
+        file: PolicyFile,
+        made: usize,
+    },
+    Answered(Answer),
+}
+
 impl HeldTo<'_> {
-    /// The text and the verdict of a set-up, by a policy file.
-    fn answer_by<P: Profile, S: MakeStore<P> + DerivationStore<P>, W: MakeWaiters<P>>(
+    /// What is judged of a set-up behind so many calls, by a policy file.
+    fn judged_behind<P: Profile, S: MakeStore<P> + DerivationStore<P>, W: MakeWaiters<P>>(
         &self,
         alloc: Global,
-        file: &PolicyFile,
+        file: PolicyFile,
         read: &ReadSetup,
         made: usize,
-    ) -> Result<Answer, AllocError>
+    ) -> Result<Judging, AllocError>
         requires plan { IsPlan P.profile read.now.setup.plan }
-        requires made { calls_made_of read.now.setup (option_or self.now.after file.now.after) ≡ Some made }
-        ensures { IfOk result (λ made. IsPolicyOf self.now.after P.profile (read_view read.now) made.text.items made.verdict) }
+        requires made { calls_made_of read.now.setup (option_or self.now.after file.after) ≡ Some made }
+        ensures { IfOk result (IsJudging self.now.after P.profile read.now.setup) }
     {
         let text = text_of(self.policy);
         let (names, setup) = (read.names.as_slice(), &read.setup);
-        match judge::<P, S, W>(alloc, file, text, names, setup, made) {
-            Ok(judged) => judged.told(alloc, setup),
-            Err(refusal) => refused(alloc, &refusal),
+        match judge::<P, S, W>(alloc, &file, text, names, setup, made) {
+            Ok(judged) => Ok(Judging::Done { judged, file, made }),
+            Err(refusal) => Ok(Judging::Answered(refused(alloc, &refusal)?)),
+        }
+    }
+
+    /// What comes of the policy for a set-up.
+    ///
+    /// # Errors
+    ///
+    /// Memory was refused.
+    pub fn judged<P: Profile, S: MakeStore<P> + DerivationStore<P>, W: MakeWaiters<P>>(
+        &self,
+        alloc: Global,
+        read: &ReadSetup,
+    ) -> Result<Judging, AllocError>
+        requires { IsPlan P.profile read.now.setup.plan }
+        ensures { IfOk result (IsJudging self.now.after P.profile read.now.setup) }
+    {
+        let file = match read_policy(alloc, self.policy) {
+            Ok(file) => file,
+            Err(refusal) => return Ok(Judging::Answered(refused(alloc, &refusal)?)),
+        };
+        if let Some(made) = calls_made(&read.setup, self.after.or(file.after)) {
+            return self.judged_behind::<P, S, W>(alloc, file, read, made);
+        }
+        let calls = read.setup.calls().len();
+        match self.after {
+            Some(after) => {
+                let absent = format!(in alloc; "--after {after}: the set-up has {calls} calls")?;
+                Ok(Judging::Answered(Answer::absent(alloc, absent)))
+            }
+            None => {
+                let refusal = too_many(alloc, text_of(self.policy), &file, calls);
+                Ok(Judging::Answered(refused(alloc, &refusal)?))
+            }
         }
     }
 }
@@ -92,20 +143,14 @@ impl Command for HeldTo<'_> {
         alloc: Global,
         read: ReadSetup,
     ) -> Result<Answer, AllocError> {
-        let file = match read_policy(alloc, self.policy) {
-            Ok(file) => file,
-            Err(refusal) => return refused(alloc, &refusal),
-        };
-        if let Some(made) = calls_made(&read.setup, self.after.or(file.after)) {
-            return self.answer_by::<P, S, W>(alloc, &file, &read, made);
-        }
-        let calls = read.setup.calls().len();
-        match self.after {
-            Some(after) => {
-                let absent = format!(in alloc; "--after {after}: the set-up has {calls} calls")?;
-                Ok(Answer::absent(alloc, absent))
+        match self.judged::<P, S, W>(alloc, &read)? {
+            Judging::Done { judged, file, .. } => {
+                let (text, setup) = (text_of(self.policy), &read.setup);
+                let told = judged.told(alloc, setup)?;
+                let notes = notes_on(alloc, &file, text, &judged, setup, told.verdict)?;
+                Ok(Answer::with_policy(alloc, told.text, told.verdict, notes))
             }
-            None => refused(alloc, &too_many(alloc, text_of(self.policy), &file, calls)),
+            Judging::Answered(answer) => Ok(answer),
         }
     }
 }

@@ -1,5 +1,5 @@
 //! A set-up is held to a policy.
-ghost use Rattle.std.specs.Prelude.{◌≡◌, ◌≤◌, ℕ, IfErr, IfOk, length, map, take};
+ghost use Rattle.std.specs.Prelude.{◌≡◌, ◌≤◌, ℕ, IfErr, IfOk, length, map, string_bytes, take};
 ghost use Rattle.kernel_abstract.specs.Boot.{boot as boot_state};
 ghost use Rattle.kernel_abstract.specs.Memory.{IsInMemory};
 ghost use Rattle.kernel_abstract.specs.Plan.{IsPlan};
@@ -19,7 +19,7 @@ use command_policy_breaches::{
     Home, Join, Labels, Layout, Passage, Policy, blocks, homes_joined, joins, layout_of, passages,
     trusted_threads,
 };
-use command_policy_text::{Held, policy_text};
+use command_policy_text::{Held, breach_lines, policy_text};
 use ipc_core::{MakeWaiters, Waiters};
 use kernel_core::{Call, Kernel, Reply};
 use query_parts::PartsFault;
@@ -74,6 +74,25 @@ impl Judged {
             self.passages.as_slice(),
         )?;
         Ok(Answer::new(alloc, text, verdict))
+    }
+
+    /// The lines of what breaks the policy, in their order.
+    ///
+    /// # Errors
+    ///
+    /// Memory was refused.
+    pub fn breach_lines(&self, alloc: Global, setup: &Setup) -> Result<Vec<String>, AllocError>
+        requires { length self.now.replies.items ≤ length setup.now.calls }
+        ensures { IfOk result (λ v. map string_bytes v.items ≡ spec.breach_lines self.now setup.now) }
+    {
+        breach_lines(
+            alloc,
+            self.held(),
+            setup,
+            self.replies.as_slice(),
+            self.joins.as_slice(),
+            self.passages.as_slice(),
+        )
     }
 }
 

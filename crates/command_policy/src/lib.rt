@@ -1,11 +1,11 @@
-//! The command that holds a set-up's layout to a policy, and what standard error tells of it.
+//! The command that holds a set-up's layout to a policy, with what standard error tells of it.
 #![tactic(auto)]
 
 mod command;
 mod judging;
-mod messages;
+mod notes;
 mod objects;
 mod resolve;
 
-pub use command::HeldTo;
-pub use messages::{Files, policy_messages};
+pub use command::{HeldTo, Judging};
+pub use judging::{Judged, judge};

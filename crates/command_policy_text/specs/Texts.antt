@@ -48,6 +48,10 @@ breaches c l n hs js ws = part_breaches c l n hs js ++ (use_breaches c l n hs ++
 abbrev pub calls_breached : Policy → SetupView → List Reply → List (List ℕ)
 calls_breached c setup replies = cond c.calls (call_breaches 1 setup.calls replies) []
 
+-- all lines that tell of breaches: of calls first
+abbrev pub breach_lines : Policy → Layout → Labels → List Home → List Join → List Passage → SetupView → List Reply → List (List ℕ)
+breach_lines c l n hs js ws setup replies = calls_breached c setup replies ++ breaches c l n hs js ws
+
 -- ---- what is allowed and not there
 
 abbrev pub unused_entries : Policy → Layout → Labels → List Home → List (List ℕ)

@@ -9,7 +9,7 @@ mod told;
 
 pub use calls::call_breaches;
 pub use names::{Letters, label, numbers_text, object, part_label};
-pub use text::policy_text;
+pub use text::{breach_lines, policy_text};
 pub use told::{
     Held, Told, allowed_badges, allowed_rights, capability_text, end_label, is_other_badge,
     told_text,

@@ -119,8 +119,23 @@ fn add_way_breaches(
     add_kind(alloc, lines, held, waits.as_slice())
 }
 
-/// What breaks the policy, but calls.
+/// Adds what breaks the policy, but calls.
 #[tactic(auto, unfolding(crate::specs::Texts::breaches))]
+fn add_breaches(
+    alloc: Global,
+    lines: &mut Vec<String>,
+    held: Held<'_>,
+    joins: &[Join],
+    passages: &[Passage],
+) -> Result<(), AllocError>
+    ensures { OnOk result (map string_bytes lines.new.items ≡ map string_bytes lines.old.items
+        ++ spec.breaches held.entry.policy.now held.entry.layout.now held.entry.labels.now held.entry.homes.now joins.now passages.now) }
+{
+    add_part_breaches(alloc, lines, held, joins)?;
+    add_use_breaches(alloc, lines, held)?;
+    add_way_breaches(alloc, lines, held, passages)
+}
+
 fn breaches(
     alloc: Global,
     held: Held<'_>,
@@ -130,9 +145,7 @@ fn breaches(
     ensures { IfOk result (λ v. map string_bytes v.items ≡ spec.breaches held.entry.policy.now held.entry.layout.now held.entry.labels.now held.entry.homes.now joins.now passages.now) }
 {
     let mut lines = Vec::new(alloc);
-    add_part_breaches(alloc, &mut lines, held, joins)?;
-    add_use_breaches(alloc, &mut lines, held)?;
-    add_way_breaches(alloc, &mut lines, held, passages)?;
+    add_breaches(alloc, &mut lines, held, joins, passages)?;
     Ok(lines)
 }
 
@@ -192,6 +205,28 @@ fn calls(
     } else {
         Ok(Vec::new(alloc))
     }
+}
+
+/// The lines of what breaks the policy: calls first, and then the other kinds.
+///
+/// # Errors
+///
+/// Memory was refused.
+pub fn breach_lines(
+    alloc: Global,
+    held: Held<'_>,
+    setup: &Setup,
+    replies: &[Reply],
+    joins: &[Join],
+    passages: &[Passage],
+) -> Result<Vec<String>, AllocError>
+    requires { length replies.now ≤ length setup.now.calls }
+    ensures { IfOk result (λ v. map string_bytes v.items
+        ≡ spec.breach_lines held.entry.policy.now held.entry.layout.now held.entry.labels.now held.entry.homes.now joins.now passages.now setup.now replies.now) }
+{
+    let mut lines = calls(alloc, held, setup, replies)?;
+    add_breaches(alloc, &mut lines, held, joins, passages)?;
+    Ok(lines)
 }
 
 fn add_lines(out: &mut String, lines: &[String]) -> Result<(), AllocError>

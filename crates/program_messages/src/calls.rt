@@ -56,6 +56,20 @@ fn note_on_call<R: Eprint + AllocGlobal>(
     }
 }
 
+/// Says something of a call by which a policy is broken, where its table begins.
+pub fn note_on_broken<R: Eprint + AllocGlobal>(rt: &R, source: NamedText<'_>, note: &CallNote) {
+    let sought = SoughtKey {
+        place: Place::Call(note.call),
+        key: "",
+        part: Part::Key,
+    };
+    if let Ok(span) = span_at(rt.alloc(), source.text, sought) {
+        let start = span.map_or(0, |span| span.start);
+        let ((line, column), name) = (line_and_column(source.text, start), source.name);
+        let _ = eprintln!(rt; "{name}:{line}:{column}: {}", note.text);
+    }
+}
+
 /// Says how many calls of a kind are not told, where there are such.
 fn note_on_others(rt: &impl Eprint, count: usize) {
     if let Some(more) = count.checked_sub(MOST_TOLD)

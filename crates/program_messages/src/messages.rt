@@ -1,13 +1,14 @@
 //! What is said on standard error. Where that fails too, nothing more is said.
 use crate::absent::absence;
-use crate::calls::{note_on_questions, note_on_refusals, note_on_unmet};
+use crate::calls::{note_on_broken, note_on_questions, note_on_refusals, note_on_unmet};
 use crate::ended::{CheckedFiles, Done, Ended, Unread};
 use crate::words::{is_command, may_be_command, near_command};
 use command_check::CountedText;
-use command_core::{Found, INPUT_LIMIT, KeptReader, Notes, ReaderSource, RunFault, Verdict};
+use command_core::{
+    Found, INPUT_LIMIT, KeptReader, Notes, PolicyNote, ReaderSource, RunFault, Verdict,
+};
 use command_files::Used;
 use command_line::{Job, Line, Options, refused_line_words};
-use command_policy::{Files, policy_messages};
 use setup_layout::Reading;
 use setup_messages::{Formats, refusal_words};
 use setup_positions::NamedText;
@@ -235,23 +236,23 @@ fn note_on_verdict<R: Eprint + AllocGlobal>(rt: &R, line: &Line<'_>, found: &Fou
     }
 }
 
-/// Says what breaks a policy, or why it is refused, in lines that name the place.
-fn note_on_policy<R: Eprint + AllocGlobal>(
+/// Says what a command noted of the policy of that name, and of calls of the set-up that it is for.
+fn note_on_policy<'a, R: Eprint + AllocGlobal>(
     rt: &R,
-    line: &Line<'_>,
-    policy: &[u8],
-    name: &str,
-    setup: &[u8],
+    policy: &str,
+    file: Option<&'a str>,
+    notes: &[PolicyNote],
+    bytes: &'a [u8],
 ) {
-    let files = Files {
-        policy,
-        policy_name: name,
-        setup,
-        setup_name: name_of(line.file),
-        after: line.options.after,
-    };
-    if let Ok(text) = policy_messages(rt.alloc(), files) {
-        let _ = eprint!(rt; "{text}");
+    let (name, text) = (name_of(file), str::from_utf8(bytes).unwrap_or(""));
+    for note in notes {
+        match note {
+            PolicyNote::Place { line, column, text } => {
+                let _ = eprintln!(rt; "{policy}:{line}:{column}: {text}");
+            }
+            PolicyNote::Call(note) => note_on_broken(rt, NamedText { name, text }, note),
+            PolicyNote::More(more) => complain(rt, format_args!("{more} more")),
+        }
     }
 }
 
@@ -350,8 +351,9 @@ fn tell_of_line<R: Eprint + AllocGlobal, S, F>(
                 note_on_verdict(rt, &done.line, found, bytes);
                 let is_one_order = !matches!(done.line.job, Job::Explore);
                 note_on_input(rt, done.line.file, &found.notes, is_one_order, bytes);
-                if let Some(name) = done.line.options.policy {
-                    note_on_policy(rt, &done.line, done.policy.as_slice(), name, bytes);
+                let (file, notes) = (done.line.file, found.notes.policy.as_slice());
+                if let Some(policy) = done.line.options.policy {
+                    note_on_policy(rt, policy, file, notes, bytes);
                 }
             }
         }

@@ -1,12 +1,10 @@
 //! What standard error tells of a set-up that is held to a policy: each breach and each allowance of which nothing is there, with the
 //! place of the entry, as compilers do.
 ghost use Rattle.std.specs.Prelude.{◌≤◌, length};
-ghost use Rattle.kernel_abstract.specs.Plan.{IsPlan};
 
-use crate::command::{text_of, too_many};
-use crate::judging::{Judged, judge};
+use crate::judging::Judged;
 use crate::resolve::table_spot;
-use cap_core::{Narrow, Profile, ProfileName, Wide};
+use command_core::{CallNote, PolicyNote, Verdict};
 use command_parts::BadgeText;
 use command_policy_breaches::{
     Allowance, End, HeldRegion, Hold, Join, Passage, PolicyWay, Waiting, groups_at, is_entry,
@@ -16,13 +14,9 @@ use command_policy_text::{
     Held, Told, allowed_badges, allowed_rights, call_breaches, capability_text, end_label,
     is_other_badge, kinds, object, part_label, told_text,
 };
-use ipc_core::{LinkedWaiters, MakeWaiters};
 use query_parts::{PartUse, part_at};
-use setup_format::{ReadSetup, read};
-use setup_policy::{Place, PolicyFile, Refusal, Spot, line_and_column, read_policy};
-use setup_positions::{Part, span_in};
-use setup_report::calls_made;
-use slot_core::{DerivationStore, LinkedStore, MakeStore};
+use setup_format::Setup;
+use setup_policy::{Place, PolicyFile, Refusal, Spot, line_and_column};
 use std::alloc::{AllocError, Global};
 use std::collections::BTreeMap;
 use std::fmt::Write;
@@ -30,22 +24,10 @@ use std::fmt::Write;
 /// The most lines of a kind.
 const MOST: usize = 20;
 
-/// A policy and a set-up, with the names of their files.
-#[derive(Clone, Copy)]
-pub struct Files<'a> {
-    pub policy: &'a [u8],
-    pub policy_name: &'a str,
-    pub setup: &'a [u8],
-    pub setup_name: &'a str,
-    /// How many calls are made, where the command line says so.
-    pub after: Option<u64>,
-}
-
-/// What lines are made of.
+/// What is told of: a policy's file with its text, and what is judged by it.
 #[derive(Clone, Copy)]
 struct Teller<'a> {
     alloc: Global,
-    files: Files<'a>,
     file: &'a PolicyFile,
     text: &'a str,
     judged: &'a Judged,
@@ -55,10 +37,10 @@ struct Teller<'a> {
 /// What is told, by its line.
 type ByLine = BTreeMap<String, Told>;
 
-/// The first lines of a kind, and how many more there are, of which no place is looked up.
+/// What is told of breaches, or of allowances: the first of them, and how many more there are, of which no place is looked up.
 #[derive(Drop)]
 struct Lines {
-    first: Vec<String>,
+    first: Vec<PolicyNote>,
     more: usize,
 }
 
@@ -77,6 +59,15 @@ impl Lines {
             self.more = self.more.saturating_add(1);
         }
         has_room
+    }
+
+    /// The first of them, and then how many more there are, where there are more.
+    fn notes(self) -> Result<Vec<PolicyNote>, AllocError> {
+        let Lines { mut first, more } = self;
+        if more > 0 {
+            first.push(PolicyNote::More(more))?;
+        }
+        Ok(first)
     }
 }
 
@@ -307,9 +298,14 @@ impl<'a> Teller<'a> {
         for (line, one) in &by_line {
             if lines.has_room() {
                 let (row, column) = line_and_column(self.alloc, self.text, self.spot(one)?)?;
-                let (name, words) = (self.files.policy_name, self.words(line.as_str(), one)?);
-                let line = format!(in self.alloc; "{name}:{row}:{column}: {word}: {words}")?;
-                lines.first.push(line)?;
+                let words = self.words(line.as_str(), one)?;
+                let text = format!(in self.alloc; "{word}: {words}")?;
+                let place = PolicyNote::Place {
+                    line: row,
+                    column,
+                    text,
+                };
+                lines.first.push(place)?;
             }
         }
         Ok(())
@@ -322,34 +318,30 @@ impl<'a> Teller<'a> {
         number.parse::<usize>().unwrap_or(1)
     }
 
-    fn add_calls(self, lines: &mut Lines, read: &ReadSetup) -> Result<(), AllocError> {
+    fn add_calls(self, lines: &mut Lines, setup: &Setup) -> Result<(), AllocError>
+        requires { length self.judged.now.replies.items ≤ length setup.now.calls }
+    {
         if !self.held.policy.calls {
             return Ok(());
         }
-        let text = text_of(self.files.setup);
-        let replies = self.judged.replies.as_slice();
-        if replies.len() > read.setup.calls().len() {
-            return Ok(());
-        }
-        for line in call_breaches(self.alloc, &read.setup, replies)? {
+        for line in call_breaches(self.alloc, setup, self.judged.replies.as_slice())? {
             if lines.has_room() {
-                let array = Some(("call", self.call_of(line.as_str())));
-                let span = span_in(self.alloc, text, array, "", Part::Key)?;
-                let (row, column) = place_in(text, span.map_or(0, |span| span.start));
-                let name = self.files.setup_name;
                 let words = line.as_str().strip_prefix("breach ").unwrap_or("");
-                let line = format!(in self.alloc; "{name}:{row}:{column}: error: {words}")?;
-                lines.first.push(line)?;
+                let call = self.call_of(line.as_str());
+                let text = format!(in self.alloc; "error: {words}")?;
+                lines.first.push(PolicyNote::Call(CallNote { call, text }))?;
             }
         }
         Ok(())
     }
 
     /// A line for each breach.
-    fn errors(self, read: &ReadSetup) -> Result<Lines, AllocError> {
+    fn errors(self, setup: &Setup) -> Result<Vec<PolicyNote>, AllocError>
+        requires { length self.judged.now.replies.items ≤ length setup.now.calls }
+    {
         let (alloc, held) = (self.alloc, self.held);
         let mut lines = Lines::new(alloc);
-        self.add_calls(&mut lines, read)?;
+        self.add_calls(&mut lines, setup)?;
         let told = [
             kinds::joined(alloc, held)?,
             kinds::grants(alloc, held, self.judged.joins.as_slice())?,
@@ -364,11 +356,11 @@ impl<'a> Teller<'a> {
         for kind in &told {
             self.add_kind(&mut lines, kind.as_slice(), "error")?;
         }
-        Ok(lines)
+        lines.notes()
     }
 
     /// A line for each allowance of which nothing is there.
-    fn warnings(self) -> Result<Lines, AllocError> {
+    fn warnings(self) -> Result<Vec<PolicyNote>, AllocError> {
         let (alloc, held) = (self.alloc, self.held);
         let mut lines = Lines::new(alloc);
         let told = [
@@ -381,111 +373,65 @@ impl<'a> Teller<'a> {
         for kind in &told {
             self.add_kind(&mut lines, kind.as_slice(), "warning")?;
         }
-        Ok(lines)
-    }
-
-    fn told(self, read: &ReadSetup) -> Result<String, AllocError> {
-        let mut out = String::new(self.alloc);
-        add_lines(&mut out, &self.errors(read)?)?;
-        add_lines(&mut out, &self.warnings()?)?;
-        Ok(out)
+        lines.notes()
     }
 }
 
-/// The line and the column of a byte of a text, both from 1.
-fn place_in(text: &str, at: usize) -> (usize, usize) {
-    let above = text.split_at_checked(at).map_or(text, |(above, _)| above);
-    let before = above.rsplit('\n').next().unwrap_or(above);
-    (
-        above.split('\n').count(),
-        before.chars().count().saturating_add(1),
-    )
+/// What standard error tells of a set-up that was held to a policy: of each breach, and of each allowance of which nothing is there.
+///
+/// # Errors
+///
+/// Memory was refused.
+pub fn notes_on(
+    alloc: Global,
+    file: &PolicyFile,
+    text: &str,
+    judged: &Judged,
+    setup: &Setup,
+    verdict: Verdict,
+) -> Result<Vec<PolicyNote>, AllocError>
+    requires { length judged.now.replies.items ≤ length setup.now.calls }
+{
+    let teller = Teller {
+        alloc,
+        file,
+        text,
+        judged,
+        held: judged.held(),
+    };
+    // Where all expectations of a policy are met, nothing breaks it.
+    let mut notes = match verdict {
+        Verdict::AllMet => Vec::new(alloc),
+        _ => teller.errors(setup)?,
+    };
+    for note in teller.warnings()? {
+        notes.push(note)?;
+    }
+    Ok(notes)
 }
 
-/// Adds the first lines of some, and how many more there are.
-fn add_lines(out: &mut String, lines: &Lines) -> Result<(), AllocError> {
-    for line in lines.first.as_slice() {
-        writeln!(out, "{line}")?;
-    }
-    let more = lines.more;
-    if more > 0 {
-        writeln!(out, "sel4sim: {more} more")?;
-    }
-    Ok(())
-}
-
-/// Why a policy is refused, with its place.
-fn refusal_words(alloc: Global, files: Files<'_>, refusal: &Refusal) -> Result<String, AllocError> {
+/// What standard error tells of a policy that is refused.
+///
+/// # Errors
+///
+/// Memory was refused, now or before.
+pub fn note_on_refusal(alloc: Global, refusal: &Refusal) -> Result<Vec<PolicyNote>, AllocError> {
+    let mut notes = Vec::new(alloc);
     match refusal {
-        Refusal::Memory => Err(AllocError),
+        Refusal::Memory => return Err(AllocError),
         Refusal::At {
             line,
             column,
             words,
             ..
         } => {
-            let name = files.policy_name;
-            format!(in alloc; "{name}:{line}:{column}: error: {words}\n")
-        }
-    }
-}
-
-fn messages_in<P: Profile, S: MakeStore<P> + DerivationStore<P>, W: MakeWaiters<P>>(
-    alloc: Global,
-    files: Files<'_>,
-    file: &PolicyFile,
-    read: &ReadSetup,
-    made: usize,
-) -> Result<String, AllocError>
-    requires plan { IsPlan P.profile read.now.setup.plan }
-    requires made { made ≤ length read.now.setup.calls }
-{
-    let text = text_of(files.policy);
-    let names = read.names.as_slice();
-    match judge::<P, S, W>(alloc, file, text, names, &read.setup, made) {
-        Ok(judged) => {
-            let teller = Teller {
-                alloc,
-                files,
-                file,
+            let text = format!(in alloc; "error: {words}")?;
+            notes.push(PolicyNote::Place {
+                line: *line,
+                column: *column,
                 text,
-                judged: &judged,
-                held: judged.held(),
-            };
-            teller.told(read)
-        }
-        Err(refusal) => refusal_words(alloc, files, &refusal),
-    }
-}
-
-/// What standard error tells of a set-up that was held to a policy; nothing where the set-up is refused.
-///
-/// # Errors
-/// Where memory was refused.
-pub fn policy_messages(alloc: Global, files: Files<'_>) -> Result<String, AllocError> {
-    let Ok(read) = read(alloc, files.setup) else {
-        return Ok(String::new(alloc));
-    };
-    let file = match read_policy(alloc, files.policy) {
-        Ok(file) => file,
-        Err(refusal) => return refusal_words(alloc, files, &refusal),
-    };
-    let after = files.after.or(file.after);
-    match (calls_made(&read.setup, after), read.setup.profile()) {
-        (Some(made), ProfileName::Wide) => {
-            messages_in::<Wide, LinkedStore<Wide>, LinkedWaiters<Wide>>(
-                alloc, files, &file, &read, made,
-            )
-        }
-        (Some(made), ProfileName::Narrow) => {
-            messages_in::<Narrow, LinkedStore<Narrow>, LinkedWaiters<Narrow>>(
-                alloc, files, &file, &read, made,
-            )
-        }
-        (None, _) if files.after.is_some() => Ok(String::new(alloc)),
-        (None, _) => {
-            let (text, calls) = (text_of(files.policy), read.setup.calls().len());
-            refusal_words(alloc, files, &too_many(alloc, text, &file, calls))
+            })?;
         }
     }
+    Ok(notes)
 }

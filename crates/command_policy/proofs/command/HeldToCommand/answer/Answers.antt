@@ -1,0 +1,44 @@
+-- What is told of what is judged is an answer; so many calls are made, and no more replies are told than there are calls.
+use Rattle.std.proofs.Common.{◌∙◌, ◌≤◌, ℕ, List, Option, Vec, Global, length, ap, inl, inr, subst, sym}
+use Rattle.cap_core.specs.declared.profile.ProfileName.{ProfileName}
+use Rattle.kernel_abstract.specs.declared.call.Reply.{Reply}
+use Rattle.setup_format.specs.Views.{SetupView}
+use Rattle.command_core.specs.declared.fault.Verdict.{Verdict}
+use Rattle.command_policy.specs.declared.command.Judging.{Judging}
+use Rattle.command_policy.specs.declared.judging.Judged.{Judged}
+use Rattle.command_policy.specs.Policies.{IsJudgedFirst, IsJudging}
+use Rattle.command_policy.proofs.Lengths.{replies_fit}
+use Rattle.command_policy.proofs.command.HeldToCommand.answer.Goals as goal
+
+fit : (p : ProfileName) (setup : SetupView) (after : Option ℕ) (made : ℕ) (j : Judged) → IsJudgedFirst p setup after made j →
+    length j.replies.items ≤ length setup.calls
+fit p setup after made j first =
+    subst (λ (rs : List Reply). length rs ≤ length setup.calls) (sym first.is_judged.answered) (replies_fit p setup made)
+
+pub told-requires : goal.told-requires
+told-requires g c =
+    let p = g.P.Profile.profile in
+    fit p c.args.read.setup c.args.self.now.after c.in-Done.made c.in-Done.judged
+    (subst (λ (o : Judging). IsJudging c.args.self.now.after p c.args.read.setup o) c.in-Done.is c.in_ok-judged.ensures)
+
+pub notes_on-requires : goal.notes_on-requires
+notes_on-requires g c =
+    let p = g.P.Profile.profile in
+    fit p c.args.read.setup c.args.self.now.after c.in-Done.made c.in-Done.judged
+    (subst (λ (o : Judging). IsJudging c.args.self.now.after p c.args.read.setup o) c.in-Done.is c.in_ok-judged.ensures)
+
+pub returns-in-Done : goal.returns-in-Done
+returns-in-Done g c =
+    let p = g.P.Profile.profile in
+    let first : IsJudgedFirst p c.args.read.setup c.args.self.now.after c.in-Done.made c.in-Done.judged =
+    subst (λ (o : Judging). IsJudging c.args.self.now.after p c.args.read.setup o) c.in-Done.is c.in_ok-judged.ensures in
+    inr (inr record {
+      asked = first.asked;
+      made = c.in-Done.made;
+      is_made = first.is_made;
+      judged = c.in-Done.judged;
+      is_judged = first.is_judged;
+      told = ap (λ (t : Vec ℕ Global). (t.items, c.with_policy.result.verdict)) c.with_policy.ensures.text
+          ∙ ap (λ (v : Verdict). (c.in_ok-told-in-Done.told.text.items, v)) c.with_policy.ensures.verdict
+          ∙ c.in_ok-told-in-Done.ensures;
+    })
