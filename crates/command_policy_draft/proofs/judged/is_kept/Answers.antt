@@ -1,0 +1,15 @@
+-- The policy trusts whom it is to trust.
+use Rattle.std.proofs.Common.{map, ap, sym, ◌∙◌}
+use Rattle.query_parts.proofs.Results.{where_ok}
+use Rattle.command_policy_breaches.specs.declared.policy.Member.{Member}
+use Rattle.command_policy_draft.proofs.judged.is_kept.Goals as goal
+
+pub returns : goal.returns
+returns c =
+    where_ok _ _
+    (λ is held so. record {
+      silent_are = ap (map (λ (m : Member). m.thread)) (sym c.as_slice.ensures.value) ∙ c.in_ok-silent.ensures.0 c.if-not-silent.false;
+      messages_are = ap (map (λ (m : Member). m.thread)) (sym c.as_slice-2.ensures.value) ∙ c.in_ok-messages.ensures.0 c.if-not-messages.false;
+      held = held so;
+    })
+    c.is_held.result c.is_held.ensures

@@ -1,0 +1,60 @@
+-- What is written as the policy that a layout keeps now, and the verdict.
+use Rattle.std.specs.Prelude.{◌≡◌, ◌≢◌, ◌⊎◌, ◌&&◌, not, ℕ, List, [], map, filter}
+use Rattle.cap_core.specs.declared.profile.ProfileName.{ProfileName}
+use Rattle.kernel_abstract.specs.Shown.{Shown}
+use Rattle.kernel_abstract.specs.State.{State, shown}
+use Rattle.setup_values.specs.Names.{Names}
+use Rattle.setup_objects.specs.declared.meant.ObjectKind.TheVariants.{Thread}
+use Rattle.setup_format.specs.Views.{SetupView}
+use Rattle.setup_report.specs.State.{is_in, threads}
+use Rattle.command_core.specs.declared.fault.Verdict.{Verdict}
+use Rattle.command_core.specs.declared.fault.Verdict.TheVariants.{AllMet, Absent}
+use Rattle.command_parts.specs.Threads.{Trusted, objects_named}
+use Rattle.command_policy_breaches.specs.declared.policy.Member.{Member}
+use Rattle.command_policy_text.specs.Kinds.{thread_breaches}
+use Rattle.command_policy.specs.declared.judging.Judged.{Judged}
+use Rattle.command_policy.specs.Policies.{IsJudged, told_of}
+
+-- no line tells of a breach of a policy that is held to a set-up; or a part has the control block of a trusted thread, which no policy
+-- allows
+abbrev pub IsHeldAsWritten : Judged → SetupView → Type 0
+IsHeldAsWritten judged setup =
+    ((told : List ℕ) × ((told, AllMet) ≡ told_of judged setup)) ⊎ (thread_breaches judged.policy judged.layout ≢ [])
+
+-- such a policy trusts these threads, and no others
+pub record IsKeptBy (setup : SetupView) (silent messages : List ℕ) (judged : Judged) : Type 0 where
+  pub silent_are : map (λ (m : Member). m.thread) judged.policy.silent.items ≡ silent
+  pub messages_are : map (λ (m : Member). m.thread) judged.policy.messages.items ≡ messages
+  pub held : IsHeldAsWritten judged setup
+
+-- it is held to the state behind the first calls, as by `audit --policy`
+pub record IsKept (p : ProfileName) (setup : SetupView) (made : ℕ) (silent messages : List ℕ) : Type 0 where
+  pub judged : Judged
+  pub is_judged : IsJudged p setup made judged
+  pub is_kept : IsKeptBy setup silent messages judged
+
+-- such a policy was judged, and some text is written; or nothing, where none was found
+abbrev pub IsDraftText : ProfileName → SetupView → ℕ → List ℕ → List ℕ → List ℕ → Verdict → Type 0
+IsDraftText p setup made silent messages text verdict =
+    ((text ≡ []) × (verdict ≡ Absent)) ⊎ (IsKept p setup made silent messages × (verdict ≡ AllMet))
+
+-- those of some threads that are live, and none of others
+abbrev pub live_of : List ℕ → List ℕ → List ℕ → List ℕ
+live_of some live others = filter (λ thread. is_in thread live && not (is_in thread others)) some
+
+-- the live threads that `--without` and `--messages` trust
+abbrev pub silent_of : Trusted → ProfileName → Names → SetupView → Shown → List ℕ
+silent_of trust p names setup v = live_of (objects_named Thread p names setup.plan v trust.without) (threads p v) []
+
+abbrev pub messages_of : Trusted → ProfileName → Names → SetupView → Shown → List ℕ
+messages_of trust p names setup v =
+    live_of (objects_named Thread p names setup.plan v trust.messages) (threads p v) (silent_of trust p names setup v)
+
+-- the policy that a layout keeps, whatever its threads call, but those that are trusted
+abbrev pub IsDraftOf : Trusted → ProfileName → Names → SetupView → ℕ → Shown → List ℕ → Verdict → Type 0
+IsDraftOf trust p names setup made v text verdict =
+    IsDraftText p setup made (silent_of trust p names setup v) (messages_of trust p names setup v) text verdict
+
+-- the same of the state after the first calls
+abbrev pub IsDraft : Trusted → ProfileName → Names → SetupView → ℕ → State → List ℕ → Verdict → Type 0
+IsDraft trust p names setup made A text verdict = IsDraftOf trust p names setup made (shown A) text verdict

@@ -1,0 +1,2 @@
+-- The policy that a layout keeps now.
+pub mod Drafts

@@ -1,0 +1,132 @@
+//! The policy that a layout keeps now, as the answer of a command.
+ghost use Rattle.std.specs.Prelude.{◌≡◌, ◌≤◌, ℕ, IfOk, filter, length, not, ◌&&◌};
+ghost use Rattle.kernel_abstract.specs.Plan.{IsPlan};
+ghost use Rattle.setup_values.specs.Names.{names_view};
+ghost use Rattle.setup_report.specs.State.{is_in as is_in_list};
+ghost use Rattle.command_parts.specs.Threads.{trusted_by};
+ghost use Rattle.command_policy_draft.specs.Drafts as spec;
+
+use crate::judged::{Asked, kept_text};
+use cap_core::Profile;
+use command_check::Command;
+use command_core::{Answer, Verdict};
+use command_parts::{Trust, is_in, kernel_behind, listed, named};
+use ipc_core::{MakeWaiters, Waiters};
+use kernel_core::Kernel;
+use setup_format::{ReadSetup, Setup};
+use setup_objects::ObjectKind;
+use setup_policy::Refusal;
+use setup_report::{calls_made, state_rows};
+use setup_values::Name;
+use slot_core::{DerivationStore, MakeStore};
+use std::alloc::{AllocError, Global};
+
+/// What is said where what was made of a layout is no policy that it keeps.
+const NOT_KEPT: &str =
+    "--draft: the layout does not keep the policy that was made of it, so it is not written";
+
+/// The policy that a layout keeps now, whatever its threads call, behind its first `after` calls, or behind all: groups of what is
+/// one part, the ways between them, and what else they hold. Some threads are trusted. The verdict is `AllMet`, or `Absent` with
+/// nothing written where the set-up has fewer calls, where a word stands for no thread, and where no such policy was found.
+#[derive(Clone, Copy, Drop)]
+pub struct Draft<'a> {
+    pub trust: Trust<'a>,
+    pub after: Option<u64>,
+}
+
+/// Those of some threads that are live, and none of others.
+fn live_of(
+    alloc: Global,
+    threads: &[u64],
+    live: &[u64],
+    others: &[u64],
+) -> Result<Vec<u64>, AllocError>
+    ensures { IfOk result (λ v. v.items ≡ spec.live_of threads.now live.now others.now) }
+{
+    threads
+        .iter()
+        .filter(|thread| is_in(live, **thread) && !is_in(others, **thread))
+        .copied()
+        .collect(alloc)
+}
+
+/// The answer where threads are trusted.
+fn answer_by<P: Profile, S: MakeStore<P> + DerivationStore<P>, W: MakeWaiters<P>>(
+    asked: Asked<'_>,
+) -> Result<Answer, AllocError>
+    requires plan { IsPlan P.profile asked.setup.now.plan }
+    requires made { asked.made ≤ length asked.setup.now.calls }
+    ensures { IfOk result (λ made. spec.IsDraftText P.profile asked.entry.setup.now asked.entry.made asked.entry.silent.now asked.entry.messages.now made.text.items made.verdict) }
+{
+    let alloc = asked.alloc;
+    match kept_text::<P, S, W>(asked) {
+        Ok(Some(text)) => Ok(Answer::new(alloc, text.into_bytes(), Verdict::AllMet)),
+        Ok(None) => Ok(Answer::absent(alloc, String::from_str(alloc, NOT_KEPT)?)),
+        Err(Refusal::Memory) => Err(AllocError),
+        Err(Refusal::At { words, .. }) => Ok(Answer::absent(alloc, words)),
+    }
+}
+
+impl Draft<'_> {
+    /// The answer by the kernel behind the first calls.
+    fn answer_of<P: Profile, S: MakeStore<P> + DerivationStore<P>, W: MakeWaiters<P>>(
+        &self,
+        alloc: Global,
+        names: &[Name],
+        setup: &Setup,
+        made: usize,
+        kernel: &Kernel<P, S, W>,
+    ) -> Result<Answer, AllocError>
+        requires plan { IsPlan P.profile setup.now.plan }
+        requires made { made ≤ length setup.now.calls }
+        ensures { IfOk result (λ answer. spec.IsDraftOf (trusted_by self.now.trust) P.profile (names_view names.now) setup.now made kernel.now answer.text.items answer.verdict) }
+    {
+        if !self.trust.is_meant::<P, S, W>(names, setup, kernel) {
+            let absent = self.trust.absent::<P, S, W>(alloc, names, setup, kernel)?;
+            return Ok(Answer::absent(alloc, absent));
+        }
+        let Trust { without, messages } = self.trust;
+        let without = named::<P, S, W>(alloc, names, setup, kernel, ObjectKind::Thread, without)?;
+        let messages = named::<P, S, W>(alloc, names, setup, kernel, ObjectKind::Thread, messages)?;
+        let rows = state_rows::<P, S, W>(alloc, kernel)?;
+        let live = listed(alloc, &rows.threads)?;
+        let live = live.as_slice();
+        let silent = live_of(alloc, without.as_slice(), live, &[])?;
+        let messages = live_of(alloc, messages.as_slice(), live, silent.as_slice())?;
+        let callers = live_of(alloc, live, live, silent.as_slice())?;
+        let others = live_of(alloc, callers.as_slice(), live, messages.as_slice())?;
+        answer_by::<P, S, W>(Asked {
+            alloc,
+            names,
+            setup,
+            made,
+            after: self.after,
+            silent: silent.as_slice(),
+            messages: messages.as_slice(),
+            others: others.as_slice(),
+        })
+    }
+}
+
+impl Command for Draft<'_> {
+    ghost use Rattle.command_check.specs.Commands.{IsStateAnswer};
+    ghost use Rattle.command_parts.specs.Threads.{trusted_by};
+    ghost use Rattle.command_policy_draft.specs.Drafts.{IsDraft};
+
+    ghost answers = { λ draft. IsStateAnswer (IsDraft (trusted_by draft.trust)) draft.after };
+
+    fn answer<P: Profile, S: MakeStore<P> + DerivationStore<P>, W: MakeWaiters<P>>(
+        &self,
+        alloc: Global,
+        read: ReadSetup,
+    ) -> Result<Answer, AllocError> {
+        let (names, setup) = (read.names.as_slice(), &read.setup);
+        let Some(made) = calls_made(setup, self.after) else {
+            let (asked, calls) = (self.after.unwrap_or(0), setup.calls().len());
+            let absent = format!(in alloc; "--after {asked}: the set-up has {calls} calls")?;
+            return Ok(Answer::absent(alloc, absent));
+        };
+        let (kernel, _refused) = kernel_behind::<P, S, W>(alloc, setup, made)?;
+        self.answer_of::<P, S, W>(alloc, names, setup, made, &kernel)
+    }
+}

@@ -1,0 +1,146 @@
+//! A draft is read back and judged before it is written.
+ghost use Rattle.std.specs.Prelude.{◌≡◌, ◌≢◌, ◌≤◌, ◌↔◌, ◌⊎◌, [], IfOk, IfSome, IsTrue, length, map};
+ghost use Rattle.kernel_abstract.specs.Plan.{IsPlan};
+ghost use Rattle.command_policy.specs.Policies.{IsJudged};
+ghost use Rattle.command_policy_draft.specs.Drafts as spec;
+
+use crate::entries::SoFar;
+use crate::groups::{first_text, groups_text};
+use cap_core::Profile;
+use command_core::Verdict;
+use command_policy::{Judged, judge};
+use command_policy_breaches::Member;
+use command_policy_text::kinds;
+use ipc_core::MakeWaiters;
+use setup_format::Setup;
+use setup_policy::{Refusal, read_policy};
+use setup_values::Name;
+use slot_core::{DerivationStore, MakeStore};
+use std::alloc::{AllocError, Global};
+
+/// How many steps add ways. Of each two steps the first adds what has any badge.
+const WAY_STEPS: u32 = 2;
+/// How many steps there are: for ways, for uses, for threads that wait, and one that adds nothing.
+const STEPS: u32 = 7;
+
+/// What a draft is asked of: a set-up, how many of its calls are made, and the live threads: those that are trusted to make no more
+/// calls, those that are trusted to send and receive alone, and the others.
+#[derive(Clone, Copy)]
+pub struct Asked<'a> {
+    pub alloc: Global,
+    pub names: &'a [Name],
+    pub setup: &'a Setup,
+    pub made: usize,
+    pub after: Option<u64>,
+    pub silent: &'a [u64],
+    pub messages: &'a [u64],
+    pub others: &'a [u64],
+}
+
+/// What is judged of the policy that a text is.
+fn read_back<P: Profile, S: MakeStore<P> + DerivationStore<P>, W: MakeWaiters<P>>(
+    asked: Asked<'_>,
+    text: &str,
+) -> Result<Judged, Refusal>
+    requires plan { IsPlan P.profile asked.setup.now.plan }
+    requires made { asked.made ≤ length asked.setup.now.calls }
+    ensures judged { IfOk result (IsJudged P.profile asked.entry.setup.now asked.entry.made) }
+    ensures fit { IfOk result (λ j. length j.replies.items ≤ length asked.entry.setup.now.calls) }
+{
+    let file = read_policy(asked.alloc, text.as_bytes())?;
+    judge::<P, S, W>(
+        asked.alloc,
+        &file,
+        text,
+        asked.names,
+        asked.setup,
+        asked.made,
+    )
+}
+
+/// A draft that is not judged as a whole: entries are added for what breaks the policy so far.
+fn draft_text<P: Profile, S: MakeStore<P> + DerivationStore<P>, W: MakeWaiters<P>>(
+    asked: Asked<'_>,
+) -> Result<String, Refusal>
+    requires plan { IsPlan P.profile asked.setup.now.plan }
+    requires made { asked.made ≤ length asked.setup.now.calls }
+{
+    let alloc = asked.alloc;
+    let mut text = first_text(asked)?;
+    let first = read_back::<P, S, W>(asked, text.as_str())?;
+    let groups = groups_text(asked, &first)?;
+    let (mut ways, mut uses) = (String::new(alloc), String::new(alloc));
+    for step in 0..STEPS {
+        text = format!(in alloc; "{groups}]\nway = [\n{ways}]\nuse = [\n{uses}]\n")?;
+        let judged = &read_back::<P, S, W>(asked, text.as_str())?;
+        let so_far = SoFar {
+            alloc,
+            judged,
+            with_any: step % 2 == 0,
+        };
+        if step < WAY_STEPS {
+            so_far.add_ways(&mut ways)?;
+        } else {
+            so_far.add_uses(&mut uses)?;
+        }
+    }
+    Ok(text)
+}
+
+fn are_threads(alloc: Global, members: &[Member], threads: &[u64]) -> Result<bool, AllocError>
+    ensures { IfOk result (λ are. IsTrue are ↔ map (λ m. m.thread) members.now ≡ threads.now) }
+{
+    let own = members.iter().map(|member| member.thread);
+    let own: Vec<u64> = own.collect(alloc)?;
+    Ok(own.as_slice() == threads)
+}
+
+/// Whether nothing breaks a policy, or a part has the control block of a trusted thread, which no policy allows.
+fn is_held(alloc: Global, judged: &Judged, setup: &Setup) -> Result<bool, AllocError>
+    requires { length judged.now.replies.items ≤ length setup.now.calls }
+    ensures { IfOk result (λ is. IsTrue is → spec.IsHeldAsWritten judged.now setup.now) }
+{
+    let told = judged.told(alloc, setup)?;
+    if let Verdict::AllMet = told.verdict {
+        return Ok(true);
+    }
+    let threads = kinds::threads(alloc, judged.held())?;
+    Ok(!threads.is_empty())
+}
+
+/// Whether a policy trusts whom it is to trust, and is held to.
+fn is_kept(asked: Asked<'_>, judged: &Judged) -> Result<bool, AllocError>
+    requires { length judged.now.replies.items ≤ length asked.setup.now.calls }
+    ensures { IfOk result (λ is. IsTrue is → spec.IsKeptBy asked.entry.setup.now asked.entry.silent.now asked.entry.messages.now judged.now) }
+{
+    let (alloc, policy) = (asked.alloc, &judged.policy);
+    let silent = are_threads(alloc, policy.silent.as_slice(), asked.silent)?;
+    let messages = are_threads(alloc, policy.messages.as_slice(), asked.messages)?;
+    if !silent {
+        return Ok(false);
+    }
+    if !messages {
+        return Ok(false);
+    }
+    is_held(alloc, judged, asked.setup)
+}
+
+/// The text of a policy that the state behind the first calls of a set-up keeps; none where what was made is not kept.
+///
+/// # Errors
+/// `Memory`, or a fault of what was made.
+pub fn kept_text<P: Profile, S: MakeStore<P> + DerivationStore<P>, W: MakeWaiters<P>>(
+    asked: Asked<'_>,
+) -> Result<Option<String>, Refusal>
+    requires plan { IsPlan P.profile asked.setup.now.plan }
+    requires made { asked.made ≤ length asked.setup.now.calls }
+    ensures { IfOk result (λ found. IfSome found (λ text. spec.IsKept P.profile asked.entry.setup.now asked.entry.made asked.entry.silent.now asked.entry.messages.now)) }
+{
+    let text = draft_text::<P, S, W>(asked)?;
+    let judged = read_back::<P, S, W>(asked, text.as_str())?;
+    if is_kept(asked, &judged)? {
+        Ok(Some(text))
+    } else {
+        Ok(None)
+    }
+}

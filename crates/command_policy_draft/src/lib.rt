@@ -1,0 +1,10 @@
+//! The policy that a layout keeps now, as the text of a policy file. It is read and judged as `audit --policy` does it before it is
+//! written.
+#![tactic(auto)]
+
+mod command;
+mod entries;
+mod groups;
+mod judged;
+
+pub use command::Draft;

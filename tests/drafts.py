@@ -1,0 +1,114 @@
+#!/usr/bin/env python3
+"""drafts.py PROGRAM SEED COUNT FOLDER..: the policy that a layout keeps now, and the same with one entry cut.
+
+The layouts are those of the FOLDERs, as random_policies.py has them or with the trust of NAME.policy.toml, and COUNT random ones,
+drawn from SEED. Of each `audit --ever --draft` is asked for behind all calls and behind half of them. The layout has to keep the
+draft, and nothing of it may be unused; of a trusted thread whose control block a part has, the draft has a comment, and the line
+`breach thread` is the only one. The draft has the parts that `audit --ever` tells, or joins some of them. Then each way, each use
+and each region in turn is taken out, MOST of them at the most: a line of a breach has to be told."""
+import pathlib
+import random
+import re
+import subprocess
+import sys
+import tempfile
+import tomllib
+
+import random_policies
+
+MOST = 12
+ENTRY = re.compile(r"  \{ (?:from|group) = .*\},\n")
+REGION = re.compile(r', regions = \["[^"]*"\]|"[^"]*/\d+", |, "[^"]*/\d+"')
+NOTE = "# No policy allows "
+
+
+def told(program, words, text):
+    """Runs the program on a text, and returns what it writes and its status."""
+    done = subprocess.run([program, *words], input=text, capture_output=True, text=True, timeout=600)
+    return done.stdout, done.returncode, done.stderr
+
+
+def trust_of(policy):
+    """The options of `audit --ever` that trust whom a policy trusts."""
+    said = tomllib.loads(policy)
+    for option, key in (("--without", "silent"), ("--messages", "messages")):
+        if said.get(key):
+            yield from (option, ",".join(str(who) for who in said[key]))
+    if "after" in said:
+        yield from ("--after", str(said["after"]))
+
+
+def layouts(program, seed, count, folders):
+    """The name of each layout, its text, and the options that trust some of its threads."""
+    for folder in folders:
+        for file in sorted(pathlib.Path(folder).glob("*.policy.toml")):
+            name = file.name.removesuffix(".policy.toml")
+            yield name, (pathlib.Path(folder) / f"{name}.toml").read_text(), list(trust_of(file.read_text()))
+    for layout in random_policies.layouts(program, seed, count, folders):
+        if not layout.name.endswith(".policy.toml"):
+            yield layout.name, layout.text, layout.trust
+            yield f"{layout.name}, half of it", layout.text, [*layout.trust, "--after", str(layout.calls // 2)]
+
+
+def cuts(draft):
+    """The draft with one entry less, for each way, use and region."""
+    for form in (ENTRY, REGION):
+        for found in form.finditer(draft):
+            yield found[0], draft[:found.start()] + draft[found.end():]
+
+
+class Drafts:
+    """The drafts of layouts, what was asked of them, and what was wrong."""
+
+    def __init__(self, program, folder):
+        self.program, self.file = program, pathlib.Path(folder) / "policy.toml"
+        self.tally = {"drafts": 0, "groups": 0, "ways": 0, "uses": 0, "notes": 0, "cut": 0, "told": 0}
+
+    def held(self, policy, text):
+        self.file.write_text(policy)
+        return told(self.program, ["audit", "--policy", str(self.file), "-"], text)
+
+    def faults(self, name, text, trust):
+        """What is wrong with the draft of a layout."""
+        ever, status, _ = told(self.program, ["audit", "--ever", *trust, "-"], text)
+        draft, drafted, err = told(self.program, ["audit", "--ever", "--draft", *trust, "-"], text)
+        if drafted != status:
+            yield f"{name}: --ever ends with {status}, and --draft with {drafted}\n{err}"
+        if status or drafted:
+            return
+        policy = tomllib.loads(draft)
+        self.tally["drafts"] += 1
+        for key in ("group", "way", "use"):
+            self.tally[f"{key}s"] += len(policy[key])
+        self.tally["notes"] += draft.count(NOTE)
+        parts = int(re.search(r"^parts (\d+) ", ever, re.M)[1])
+        if not len(policy["group"]) <= parts:
+            yield f"{name}: {parts} parts, and in the draft\n{draft}"
+        kept, held, err = self.held(draft, text)
+        breaches = [line for line in kept.splitlines() if line.startswith("breach ") and not line.startswith("breach thread ")]
+        if breaches or held != (1 if NOTE in draft else 0) or not kept.endswith(" unused 0\n"):
+            yield f"{name} {trust}: its own draft is not kept, status {held}\n{draft}{kept}{err}"
+        chance = random.Random(name)
+        found = list(cuts(draft))
+        for entry, less in chance.sample(found, min(MOST, len(found))):
+            self.tally["cut"] += 1
+            kept, held, err = self.held(less, text)
+            breaches = [line for line in kept.splitlines() if line.startswith("breach ") and not line.startswith("breach thread ")]
+            if held == 1 and breaches:
+                self.tally["told"] += 1
+            else:
+                yield f"{name} {trust}: nothing is told without{entry}, status {held}\n{draft}{kept}{err}"
+
+
+def main():
+    program, seed, count, folders = str(pathlib.Path(sys.argv[1]).absolute()), int(sys.argv[2]), int(sys.argv[3]), sys.argv[4:]
+    with tempfile.TemporaryDirectory() as folder:
+        drafts = Drafts(program, folder)
+        faults = [fault for layout in layouts(program, seed, count, folders) for fault in drafts.faults(*layout)]
+    for fault in faults[:5]:
+        print(fault)
+    print(", ".join(f"{name} {number}" for name, number in drafts.tally.items()) + f", faults {len(faults)}")
+    return 1 if faults or not all(drafts.tally.values()) else 0
+
+
+sys.exit(main())
