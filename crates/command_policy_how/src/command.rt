@@ -1,0 +1,156 @@
+//! How a breach of a policy happens, as the answer of a command.
+ghost use Rattle.std.specs.Prelude.{◌≡◌, ◌≤◌, IfOk, length, map, option_map, string_bytes};
+ghost use Rattle.kernel_abstract.specs.Plan.{IsPlan};
+ghost use Rattle.command_policy.specs.Policies.{IsJudged};
+ghost use Rattle.command_policy_how.specs.Breach.{breach_at};
+ghost use Rattle.command_policy_how.specs.Told as spec;
+
+use crate::asking::ask;
+use crate::breach::{asked_breaches, told_by};
+use cap_core::Profile;
+use command_check::Command;
+use command_core::{Answer, Verdict};
+use command_how::{Behind, NoWitness, Outcome, STATES};
+use command_policy::{HeldTo, Judged, Judging};
+use command_policy_text::Told;
+use ipc_core::MakeWaiters;
+use setup_format::{ReadSetup, Setup};
+use setup_report::kernel_after;
+use slot_core::{DerivationStore, MakeStore};
+use std::alloc::{AllocError, Global};
+
+/// By which calls the breach with this number, from 1, of a policy's text happens. The policy is given by its bytes; so many calls are
+/// made, and so many copies of the kernel are tried at most, where the command line says so.
+///
+/// The verdict is `AllMet` where the text is a witness: a set-up that makes the first calls, then others by which the breach happens,
+/// and meets all that it expects; `NotMet` with a line where it is excluded, or no calls are found; or `Absent` with nothing written:
+/// where the text has fewer breaches, and where the breach is of what is there already.
+#[derive(Clone, Copy, Drop)]
+pub struct BreachHow<'a> {
+    pub policy: &'a [u8],
+    pub breach: u64,
+    pub after: Option<u64>,
+    pub states: Option<u64>,
+}
+
+/// The line with a number, from 1.
+fn line_at(lines: &[String], number: u64) -> Option<&str>
+    ensures { option_map (λ s. s.now) result ≡ breach_at (map string_bytes lines.now) number }
+{
+    let place = number.checked_sub(1)?;
+    let line = lines.get(place as usize)?;
+    Some(line.as_str())
+}
+
+/// The line that no calls are told of a breach.
+fn line_of(alloc: Global, breach: u64, answer: NoWitness) -> Result<Answer, AllocError>
+    ensures { IfOk result (λ made. (made.text.items ≡ spec.how_line breach answer) × (made.verdict ≡ Verdict.NotMet)) }
+{
+    let line = format!(in alloc; "how {breach} {answer}\n")?;
+    Ok(Answer::new(alloc, line.into_bytes(), Verdict::NotMet))
+}
+
+impl BreachHow<'_> {
+    /// What is said where the text has no such breach, or no calls are asked for.
+    fn absent(&self, alloc: Global, lines: &[String]) -> Result<String, AllocError> {
+        let number = self.breach;
+        match line_at(lines, number) {
+            None => {
+                let count = lines.len();
+                format!(in alloc; "--how {number}: count of breaches: {count}")
+            }
+            Some(line) => format!(in alloc;
+                "--how {number}: {line}: this is there already, and no calls to come are asked for; audit --never has the chain of slots"
+            ),
+        }
+    }
+
+    /// The breach that is asked of, where calls are asked for.
+    fn breach_in(
+        &self,
+        alloc: Global,
+        judged: &Judged,
+        lines: &[String],
+    ) -> Result<Option<Told>, AllocError>
+        ensures { IfOk result (spec.IsFoundIn self.now.breach (map string_bytes lines.now) judged.now) }
+    {
+        let Some(line) = line_at(lines, self.breach) else {
+            return Ok(None);
+        };
+        let held = judged.held();
+        let breaches = asked_breaches(alloc, held, judged.passages.as_slice())?;
+        told_by(alloc, held, breaches.as_slice(), line)
+    }
+
+    /// The answer for a breach.
+    fn answer_to<P: Profile, S: MakeStore<P> + DerivationStore<P>, W: MakeWaiters<P>>(
+        &self,
+        alloc: Global,
+        behind: &Behind<'_>,
+        judged: &Judged,
+        told: Told,
+    ) -> Result<Answer, AllocError>
+        requires plan { IsPlan P.profile behind.now.setup.now.plan }
+        requires made { behind.now.made ≤ length behind.now.setup.now.calls }
+        requires judged { IsJudged P.profile behind.now.setup.now behind.now.made judged.now }
+        ensures { IfOk result (λ answer. spec.IsToldOf self.now.breach P.profile behind.now.setup.now behind.now.made judged.now told answer.text.items answer.verdict) }
+    {
+        let kernel = kernel_after::<P, S, W>(alloc, behind.setup, behind.made)?;
+        let most = self.states.unwrap_or(STATES);
+        match ask::<P, S, W>(alloc, behind, &kernel, judged.held(), told, most)? {
+            Outcome::Witness(text) => Ok(Answer::new(alloc, text, Verdict::AllMet)),
+            Outcome::Without(answer) => line_of(alloc, self.breach, answer),
+        }
+    }
+
+    /// The answer for a set-up that is judged.
+    fn answer_of<P: Profile, S: MakeStore<P> + DerivationStore<P>, W: MakeWaiters<P>>(
+        &self,
+        alloc: Global,
+        behind: &Behind<'_>,
+        judged: &Judged,
+    ) -> Result<Answer, AllocError>
+        requires plan { IsPlan P.profile behind.now.setup.now.plan }
+        requires made { behind.now.made ≤ length behind.now.setup.now.calls }
+        requires judged { IsJudged P.profile behind.now.setup.now behind.now.made judged.now }
+        ensures { IfOk result (λ answer. spec.IsAnswerOf self.now.breach P.profile behind.now.setup.now behind.now.made judged.now answer.text.items answer.verdict) }
+    {
+        let lines = judged.breach_lines(alloc, behind.setup)?;
+        match self.breach_in(alloc, judged, lines.as_slice())? {
+            Some(told) => self.answer_to::<P, S, W>(alloc, behind, judged, told),
+            None => {
+                let absent = self.absent(alloc, lines.as_slice())?;
+                Ok(Answer::absent(alloc, absent))
+            }
+        }
+    }
+}
+
+impl Command for BreachHow<'_> {
+    ghost use Rattle.command_policy_how.specs.Told.{IsBreachHow};
+
+    ghost answers = { λ how. IsBreachHow how.breach how.after };
+
+    fn answer<P: Profile, S: MakeStore<P> + DerivationStore<P>, W: MakeWaiters<P>>(
+        &self,
+        alloc: Global,
+        read: ReadSetup,
+    ) -> Result<Answer, AllocError> {
+        let held = HeldTo {
+            policy: self.policy,
+            after: self.after,
+        };
+        match held.judged::<P, S, W>(alloc, &read)? {
+            Judging::Answered(answer) => Ok(answer),
+            Judging::Done { judged, made, .. } => {
+                let behind = Behind {
+                    names: read.names.as_slice(),
+                    setup: &read.setup,
+                    table: &read.table,
+                    made,
+                };
+                self.answer_of::<P, S, W>(alloc, &behind, &judged)
+            }
+        }
+    }
+}
