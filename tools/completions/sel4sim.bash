@@ -56,7 +56,7 @@ _sel4sim() {
             [[ $word == -* ]] || mapfile -t -O "${#COMPREPLY[@]}" COMPREPLY < <(compgen -f -- "$word")
             ;;
         audit)
-            COMPREPLY=($(compgen -W '--after --slot --ever --without --names --messages --never --by --policy --how --message --hold --loss --badge --states -h --help' -- "$word"))
+            COMPREPLY=($(compgen -W '--after --slot --ever --without --names --messages --never --by --policy --draft --how --message --hold --loss --badge --states -h --help' -- "$word"))
             [[ $word == -* ]] || mapfile -t -O "${#COMPREPLY[@]}" COMPREPLY < <(compgen -f -- "$word")
             ;;
         explore)
@@ -64,7 +64,7 @@ _sel4sim() {
             [[ $word == -* ]] || mapfile -t -O "${#COMPREPLY[@]}" COMPREPLY < <(compgen -f -- "$word")
             ;;
         tree)
-            COMPREPLY=($(compgen -W '--after --dot -h --help' -- "$word"))
+            COMPREPLY=($(compgen -W '--after --dot --names -h --help' -- "$word"))
             [[ $word == -* ]] || mapfile -t -O "${#COMPREPLY[@]}" COMPREPLY < <(compgen -f -- "$word")
             ;;
         new)

@@ -98,10 +98,10 @@ why_command = with_rule (with_file (codes "why")) (number_rule (codes "call"))
 
 abbrev pub audit_command : App
 audit_command =
-    with_rule (with_rule (with_rule (with_rule (with_rule (with_rule (with_rule (with_rule (with_rule (with_rule (with_rule (with_rule (with_rule (with_rule (with_rule (with_file (codes "audit"))
+    with_rule (with_rule (with_rule (with_rule (with_rule (with_rule (with_rule (with_rule (with_rule (with_rule (with_rule (with_rule (with_rule (with_rule (with_rule (with_rule (with_file (codes "audit"))
     (number_rule (codes "after"))) (text_rule (codes "slot"))) (flag_rule (codes "ever"))) (text_rule (codes "without")))
     (flag_rule (codes "names"))) (text_rule (codes "messages"))) (text_rule (codes "never"))) (text_rule (codes "by")))
-    (text_rule (codes "policy"))) (text_rule (codes "how"))) (flag_rule (codes "message"))) (flag_rule (codes "hold")))
+    (text_rule (codes "policy"))) (flag_rule (codes "draft"))) (text_rule (codes "how"))) (flag_rule (codes "message"))) (flag_rule (codes "hold")))
     (flag_rule (codes "loss"))) (number_rule (codes "badge"))) (number_rule (codes "states"))
 
 abbrev pub explore_command : App
@@ -110,7 +110,7 @@ explore_command =
     (number_rule (codes "first"))) (number_rule (codes "states"))) (text_rule (codes "witness"))
 
 abbrev pub tree_command : App
-tree_command = with_rule (with_rule (with_file (codes "tree")) (number_rule (codes "after"))) (flag_rule (codes "dot"))
+tree_command = with_rule (with_rule (with_rule (with_file (codes "tree")) (number_rule (codes "after"))) (flag_rule (codes "dot"))) (flag_rule (codes "names"))
 
 -- the subcommand `new`, which reads no file
 abbrev pub new_command : App
@@ -223,8 +223,10 @@ pub record HasOptions (rows : List Row) (options : Options) : Type 0 where
   pub after : Says (first_of (codes "after") rows) options.after
   pub slot : option_map (λ s. s.now) options.slot ≡ first_of (codes "slot") rows
   pub ever : options.ever ≡ is_set (first_of (codes "ever") rows)
+  pub draft : options.draft ≡ is_set (first_of (codes "draft") rows)
   pub never : option_map (λ s. s.now) options.never ≡ first_of (codes "never") rows
   pub how : option_map (λ s. s.now) options.how ≡ first_of (codes "how") rows
+  pub breach : Says (first_of (codes "how") rows) options.breach
   pub message : options.message ≡ is_set (first_of (codes "message") rows)
   pub hold : options.hold ≡ is_set (first_of (codes "hold") rows)
   pub loss : options.loss ≡ is_set (first_of (codes "loss") rows)
@@ -251,31 +253,38 @@ pub record HasOptions (rows : List Row) (options : Options) : Type 0 where
 abbrev pub is_of_parts : Options → Bool
 is_of_parts options = options.ever || is_some options.never
 
+-- calls are asked for after which it has happened between two threads; with `--policy` they are asked for by the number of a breach
+abbrev pub asks_threads : Options → Bool
+asks_threads options = is_some options.how && not (is_some options.policy)
+
 -- calls are asked for after which a message was delivered
 abbrev pub asks_message : Options → Bool
-asks_message options = is_some options.how && (not options.hold && not options.loss)
+asks_message options = asks_threads options && (not options.hold && not options.loss)
 
--- `--how` goes with none of the others; at most one thing is to happen, and with `--how` alone; and so does a badge of a message
+-- `--how` goes with none of the others, and with `--policy` only where it has a number; at most one thing is to happen, and with `--how`
+-- of two threads alone; and so does a badge of a message
 abbrev pub agrees_how : Options → Bool
 agrees_how options =
-    not (is_some options.how && (is_of_parts options || (is_some options.slot || is_some options.policy)))
+    not (is_some options.how && (is_of_parts options || is_some options.slot))
+    && (not (is_some options.how && (is_some options.policy && not (is_some options.breach)))
     && (not ((options.message && options.hold) || ((options.message && options.loss) || (options.hold && options.loss)))
-    && ((is_some options.how || not (options.message || (options.hold || options.loss)))
-    && (asks_message options || not (is_some options.badge))))
+    && ((asks_threads options || not (options.message || (options.hold || options.loss)))
+    && (asks_message options || not (is_some options.badge)))))
 
--- the options go together: `--ever` and `--never` not with each other, and not with `--slot`; `--names` not with these two or
--- `--how`; `--slot` not with `--without` or `--names`; `--messages` needs one of the first two, and `--by` needs `--never` or a
--- question of messages; `--policy` goes with none of these
+-- the options go together: `--ever` and `--never` not with each other, and not with `--slot`; `--names` not with `--how`; `--slot`
+-- not with `--without` or `--names`; `--messages` needs one of the first two, and `--by` needs `--never` or a question of messages;
+-- `--draft` needs `--ever`, and goes not with `--names`; `--policy` goes with none of these
 unfoldable pub agrees : Options → Bool
 agrees options =
     not (options.ever && is_some options.never)
     && (not (is_of_parts options && is_some options.slot)
     && (not (is_some options.slot && (is_some options.without || options.names))
-    && (not ((is_of_parts options || is_some options.how) && options.names)
+    && (not (is_some options.how && options.names)
     && ((is_of_parts options || not (is_some options.messages))
     && (((is_some options.never || asks_message options) || not (is_some options.by))
+    && (not (options.draft && (not options.ever || options.names))
     && (not (is_some options.policy && (is_of_parts options || (is_some options.slot || (is_some options.without || options.names))))
-    && agrees_how options))))))
+    && agrees_how options)))))))
 
 -- the matches of the subcommand that is met
 abbrev pub own_rows : Option (Text × List Row) → List Row

@@ -43,11 +43,15 @@ pub struct Options<'a> {
     pub slot: Option<&'a str>,
     /// Whether `--ever` of `audit` is there: what threads can never get is asked for.
     pub ever: bool,
+    /// Whether `--draft` of `audit --ever` is there: a policy that the layout keeps now is asked for.
+    pub draft: bool,
     /// `--never` of `audit`: two threads, with a comma between them. Whether the first one's part is kept from the other's is asked
     /// for.
     pub never: Option<&'a str>,
     /// `--how` of `audit`: two threads, with a comma between them. Calls are asked for after which it has happened.
     pub how: Option<&'a str>,
+    /// The same of `audit --policy`: the number of a breach, from 1. Calls are asked for by which it happens.
+    pub breach: Option<u64>,
     /// Whether `--message`, `--hold` and `--loss` of `audit --how` are there: what is to happen.
     pub message: bool,
     pub hold: bool,
@@ -64,7 +68,7 @@ pub struct Options<'a> {
     pub messages: Option<&'a str>,
     /// `--policy` of `audit`: the name of a file, to whose policy the layout is held.
     pub policy: Option<&'a str>,
-    /// Whether `--names` of `audit` is there: objects are told by their names, in place of their addresses.
+    /// Whether `--names` of `audit` or `tree` is there: objects are told by their names, in place of their addresses.
     pub names: bool,
     /// `--first` of `explore` and `threads`: how many calls are made before the clients begin.
     pub first: Option<u64>,

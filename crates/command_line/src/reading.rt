@@ -36,6 +36,8 @@ Examples:
                                  what the clients can never get
   sel4sim audit --never client,server --by endpoint layout.toml
                                  whether one of them is kept from the other
+  sel4sim audit --ever --draft --without loader layout.toml
+                                 a policy that the layout keeps now
   sel4sim audit --policy policy.toml layout.toml
                                  whether it keeps to a policy, for all calls to come
   sel4sim explore layout.toml    what every order of its calls comes to
@@ -59,13 +61,15 @@ const SLOT_WITH_PARTS: &str = "--slot goes neither with --ever nor with --never"
 
 const SLOT_WITH_OTHERS: &str = "--slot goes neither with --without nor with --names";
 
-const NAMES_WITH_CALLS: &str = "--names goes with none of --ever, --never and --how";
+const NAMES_WITH_HOW: &str = "--names and --how do not go together";
 
 const MESSAGES_ALONE: &str = "--messages goes with --ever or --never alone";
 
 const BY_ALONE: &str = "--by goes with --never alone, and with --how for messages";
 
-const POLICY_ALONE: &str = "--policy goes with --after alone";
+const DRAFT_ALONE: &str = "--draft goes with --ever alone, and not with --names";
+
+const POLICY_ALONE: &str = "--policy goes with --after, --how and --states alone";
 
 /// What is said where standard input is named twice.
 const TWO_HYPHENS: &str = "- stands for standard input, which can be read once";
@@ -181,12 +185,12 @@ fn why<'a>(alloc: Global) -> Result<Command<'a>, AllocError>
 }
 
 /// The options of `audit` by which threads are trusted to pass messages, and one thread's part is asked to be kept from another's,
-/// and the one of a policy.
+/// and those of a policy.
 fn and_never<'a>(
     alloc: Global,
     command: Result<Command<'a>, AllocError>,
 ) -> Result<Command<'a>, AllocError>
-    ensures { Extends (λ app. with_rule (with_rule (with_rule (with_rule app (text_rule (codes "messages"))) (text_rule (codes "never"))) (text_rule (codes "by"))) (text_rule (codes "policy"))) command.entry result }
+    ensures { Extends (λ app. with_rule (with_rule (with_rule (with_rule (with_rule app (text_rule (codes "messages"))) (text_rule (codes "never"))) (text_rule (codes "by"))) (text_rule (codes "policy"))) (flag_rule (codes "draft"))) command.entry result }
 {
     let messages = text(
         alloc,
@@ -213,7 +217,13 @@ fn and_never<'a>(
         "POLICY",
         "Hold the layout to the policy in this file, for all calls to come",
     );
-    and_argument(and_argument(and_argument(with_messages, never), by), policy)
+    let with_policy = and_argument(and_argument(and_argument(with_messages, never), by), policy);
+    let draft = flag(
+        alloc,
+        "draft",
+        "With --ever: write a policy that the layout keeps now",
+    );
+    and_argument(with_policy, draft)
 }
 
 /// The subcommand `audit`.
@@ -244,12 +254,18 @@ fn audit<'a>(alloc: Global) -> Result<Command<'a>, AllocError>
         "Trust these threads, with commas between them, to make no more calls",
     );
     let with_without = and_argument(with_ever, without);
-    let names = flag(
+    and_how(
         alloc,
-        "names",
-        "Tell objects by their names, in place of their addresses",
-    );
-    and_how(alloc, and_never(alloc, and_argument(with_without, names)))
+        and_never(alloc, and_argument(with_without, by_names(alloc))),
+    )
+}
+
+/// The option `--names`.
+fn by_names<'a>(alloc: Global) -> Arg<'a>
+    ensures { IsArgument (flag_rule (codes "names")) result }
+{
+    let about = "Tell objects by their names, in place of their addresses";
+    flag(alloc, "names", about)
 }
 
 /// The option `--first`.
@@ -295,7 +311,8 @@ fn tree<'a>(alloc: Global) -> Result<Command<'a>, AllocError>
     let after = number(alloc, "after", "Make the first N calls alone");
     let with_after = and_argument(with_file(alloc, "tree", about), after);
     let dot = flag(alloc, "dot", "Print a graph in Graphviz' language DOT");
-    and_argument(with_after, dot)
+    let with_dot = and_argument(with_after, dot);
+    and_argument(with_dot, by_names(alloc))
 }
 
 /// The options of `new` by which its sizes are given.
@@ -453,8 +470,10 @@ fn options_in<'a>(matches: &ArgMatches<'a>) -> Options<'a>
         after: number_given(matches, "after"),
         slot: text_given(matches, "slot"),
         ever: flag_given(matches, "ever"),
+        draft: flag_given(matches, "draft"),
         never: text_given(matches, "never"),
         how: text_given(matches, "how"),
+        breach: number_given(matches, "how"),
         message: flag_given(matches, "message"),
         hold: flag_given(matches, "hold"),
         loss: flag_given(matches, "loss"),
@@ -549,8 +568,10 @@ fn bare_line<'a>(alloc: Global, matches: &ArgMatches<'a>) -> Result<Line<'a>, Al
             after: None,
             slot: None,
             ever: false,
+            draft: false,
             never: None,
             how: None,
+            breach: None,
             message: false,
             hold: false,
             loss: false,
@@ -646,12 +667,14 @@ fn conflict_of(options: &Options) -> Option<&'static str>
         Some(SLOT_WITH_PARTS)
     } else if options.slot.is_some() && (options.without.is_some() || options.names) {
         Some(SLOT_WITH_OTHERS)
-    } else if (is_of_parts || options.how.is_some()) && options.names {
-        Some(NAMES_WITH_CALLS)
+    } else if options.how.is_some() && options.names {
+        Some(NAMES_WITH_HOW)
     } else if !is_of_parts && options.messages.is_some() {
         Some(MESSAGES_ALONE)
     } else if options.never.is_none() && !asks_message(options) && options.by.is_some() {
         Some(BY_ALONE)
+    } else if options.draft && (!options.ever || options.names) {
+        Some(DRAFT_ALONE)
     } else if options.policy.is_some()
         && (is_of_parts || options.slot.is_some() || options.without.is_some() || options.names)
     {

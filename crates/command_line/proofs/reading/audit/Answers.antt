@@ -5,7 +5,7 @@ pub returns : goal.returns
 returns c =
     c.and_how.ensures _
     (c.and_never.ensures _
-    (c.and_argument.ensures _ c.flag-names.ensures _
+    (c.and_argument.ensures _ c.by_names.ensures _
     (c.and_argument-with_without.ensures _ c.text-without.ensures _
     (c.and_argument-with_ever.ensures _ c.flag-ever.ensures _
     (c.and_argument-with_slot.ensures _ c.text-slot.ensures _

@@ -19,9 +19,13 @@ pub returns-then-options-4 : goal.returns-then-options-4
 unfolding agrees
 returns-then-options-4 c = search rules
 
-pub returns-then-options-5 : goal.returns-then-options-5
+pub returns-then-options-6 : goal.returns-then-options-6
 unfolding agrees
-returns-then-options-5 c = search rules
+returns-then-options-6 c = search rules
+
+pub returns-then-options-7 : goal.returns-then-options-7
+unfolding agrees
+returns-then-options-7 c = search rules
 
 pub returns-then-is_some-6 : goal.returns-then-is_some-6
 unfolding agrees
