@@ -71,10 +71,12 @@ rows-python:
 	python3 tests/traces.py $(program) $(setups)
 	python3 tests/why.py $(program) $(setups)
 	python3 tests/audits.py $(program) $(answers)/audits $(answers)/parts $(answers)/trees
+	python3 tests/names.py $(program) $(answers)/audits $(answers)/parts $(answers)/trees
 	python3 tests/parts.py $(program) $(answers)/parts 5
 	python3 tests/policies.py $(program) $(answers)/policies $(answers)/policy_faults
 	python3 tests/random_policies.py $(program) 1 60 $(answers)/parts
-	python3 tests/hows.py $(program) $(answers)/hows $(answers)/parts
+	python3 tests/drafts.py $(program) 1 60 $(answers)/policies $(answers)/parts
+	python3 tests/hows.py $(program) $(answers)/hows $(answers)/parts $(answers)/policies
 	python3 tests/revokes.py $(program) $(answers)/audits $(setups)
 	python3 tests/explore.py $(program) $(answers)/explorations
 	python3 tests/orders_one_by_one.py $(program) 100

@@ -11,6 +11,8 @@ use Rattle.command_audit.specs.Audits.{IsSlotAudited, IsStateAudited}
 use Rattle.command_parts.specs.Told.{IsEver}
 use Rattle.command_parts.specs.Threads.{Trusted}
 use Rattle.command_policy.specs.Policies.{IsPolicyOf}
+use Rattle.command_policy_draft.specs.Drafts.{IsDraft}
+use Rattle.command_policy_how.specs.Told.{IsBreachHow}
 use Rattle.command_import.specs.Import.{IsImported}
 use Rattle.command_never.specs.Never.{Asked, IsNever}
 use Rattle.command_explore.specs.Explorations.{IsExploration}
@@ -50,6 +52,7 @@ question_of options threads = record {
   from = before_mark 44 threads;
   to = behind_mark 44 threads;
   by = by_of options;
+  by_name = options.names;
 }
 
 -- an audit of a state, but for the threads of `--without`, or of the slot that a word stands for
@@ -61,11 +64,18 @@ IsAuditAt options (Some slot) input text verdict = IsAnswerTo (IsSlotAudited slo
 abbrev pub IsAuditNow : Options → List ℕ → List ℕ → Verdict → Type 0
 IsAuditNow options input text verdict = IsAuditAt options (option_map (λ s. s.now) options.slot) input text verdict
 
--- such an audit, or, with `--ever`, what threads can never get
+-- what threads can never get, or, with `--draft`, a policy that the layout keeps now
+abbrev pub IsAuditOfEver : Options → List ℕ → List ℕ → Verdict → Type 0
+IsAuditOfEver options input text verdict =
+    MatchBool options.draft
+    (IsAnswerTo (IsStateAnswer (IsDraft (trust_of options)) options.after) input text verdict)
+    (IsAnswerTo (IsStateAnswer (IsEver (trust_of options) options.names) options.after) input text verdict)
+
+-- such an audit, or, with `--ever`, what is told of all calls to come
 abbrev pub IsAuditOfState : Options → List ℕ → List ℕ → Verdict → Type 0
 IsAuditOfState options input text verdict =
     MatchBool options.ever
-    (IsAnswerTo (IsStateAnswer (IsEver (trust_of options)) options.after) input text verdict)
+    (IsAuditOfEver options input text verdict)
     (IsAuditNow options input text verdict)
 
 -- what is to happen: a message, where nothing else is named
@@ -97,10 +107,15 @@ IsAuditBy options (Some threads) input text verdict =
 abbrev pub IsAuditOfParts : Options → List ℕ → List ℕ → Verdict → Type 0
 IsAuditOfParts options input text verdict = IsAuditBy options (option_map (λ s. s.now) options.never) input text verdict
 
--- or, with `--policy`, what is told of the layout by a policy
+-- what is told of the layout by a policy, or, with `--how`, how a breach of it happens
+abbrev pub IsHeld : Options → Option ℕ → List ℕ → List ℕ → Verdict → Type 0
+IsHeld options None input text verdict = IsAnswerTo (IsPolicyOf options.after) input text verdict
+IsHeld options (Some breach) input text verdict = IsAnswerTo (IsBreachHow breach options.after) input text verdict
+
+-- or, with `--policy`, this
 abbrev pub IsAudit : Options → List ℕ → List ℕ → Verdict → Type 0
 IsAudit options input text verdict =
-    MatchBool (is_some options.policy) (IsAnswerTo (IsPolicyOf options.after) input text verdict) (IsAuditOfParts options input text verdict)
+    MatchBool (is_some options.policy) (IsHeld options options.breach input text verdict) (IsAuditOfParts options input text verdict)
 
 -- the calls that are made before the clients begin, and the states that are kept at the most
 abbrev pub first_calls_of : Options → ℕ
@@ -134,7 +149,7 @@ meaning Migrate options = IsMigration
 meaning Why options = IsAnswerTo (IsWhy options.call)
 meaning Audit options = IsAudit options
 meaning Explore options = IsExplorationBy options
-meaning Tree options = IsAnswerTo (IsStateAnswer (IsTree (form_of options)) options.after)
+meaning Tree options = IsAnswerTo (IsStateAnswer (IsTree (form_of options) options.names) options.after)
 meaning New options = λ input text verdict. IsNewOf options text verdict
 meaning Marks options = IsAnswerTo IsMarks
 meaning Import options = λ input text verdict. IsImported options.listing text verdict

@@ -2,10 +2,9 @@
 ghost use Rattle.std.specs.Prelude.{◌≡◌, ◌≢◌, IfErr, IfOk, map, option_map};
 ghost use Rattle.command_line.specs.declared.arguments.Job.TheVariants.{Threads};
 ghost use Rattle.command_check.specs.Commands.{IsAnswerTo, IsStateAnswer};
-ghost use Rattle.program.specs.Jobs.{IsAudit, IsAuditByHow, IsAuditNow, IsAuditOfParts, IsAuditOfState, IsExplorationBy, by_of, form_of as form_of_options, happening_in, how_of, messages_of, question_of, trust_of, without_of};
+ghost use Rattle.program.specs.Jobs.{IsAudit, IsAuditByHow, IsAuditNow, IsAuditOfEver, IsAuditOfParts, IsAuditOfState, IsExplorationBy, IsHeld, by_of, form_of as form_of_options, happening_in, how_of, messages_of, question_of, trust_of, without_of};
 ghost use Rattle.program.specs.NewWords.{IsNewOf};
 ghost use Rattle.program.specs.WitnessWords.{IsNamedWitness};
-ghost use Rattle.command_parts.specs.Told.{IsEver};
 ghost use Rattle.command_never.specs.Never.{IsNever};
 ghost use Rattle.command_how.specs.How.{IsHow};
 ghost use Rattle.command_audit.specs.Audits.{IsStateAudited};
@@ -15,7 +14,7 @@ use crate::marks::around;
 use crate::new_setup::asked_by;
 use crate::witness::witness_named;
 use command_audit::{SlotAudit, StateAudit};
-use command_check::{Command, Migrator, OnSetup, OnState, StateCommand};
+use command_check::{Command, Migrator, OnSetup};
 use command_core::{Answer, Engine, RunFault};
 use command_explore::{Explore, ExploreOptions, WriteWitness};
 use command_files::FileCheck;
@@ -27,6 +26,8 @@ use command_never::Question;
 use command_new::Maker;
 use command_parts::{Ever, Trust};
 use command_policy::HeldTo;
+use command_policy_draft::Draft;
+use command_policy_how::BreachHow;
 use command_trace::Trace;
 use command_tree::{Form, Tree};
 use command_why::Why;
@@ -43,22 +44,10 @@ fn on_setup<C: Command + Drop>(alloc: Global, command: C, input: &[u8]) -> Resul
     OnSetup { command }.make(alloc, input)
 }
 
-/// What a command on a state makes of an input.
-fn on_state<C: StateCommand + Drop>(
-    alloc: Global,
-    after: Option<u64>,
-    command: C,
-    input: &[u8],
-) -> Result<Answer, RunFault>
-    ensures made { IfOk result (λ made. IsAnswerTo (IsStateAnswer (C.answers command) after) input.now made.text.items made.verdict) }
-    ensures memory { IfErr result (λ fault. fault ≡ RunFault.Memory) }
-{
-    on_setup(alloc, OnState { command, after }, input)
-}
-
-/// What threads can never get, where those of `--without` and of `--messages` are trusted.
+/// What threads can never get, or, with `--draft`, a policy that the layout keeps, where the threads of `--without` and of
+/// `--messages` are trusted.
 fn make_ever(alloc: Global, options: Options<'_>, input: &[u8]) -> Result<Answer, RunFault>
-    ensures made { IfOk result (λ made. IsAnswerTo (IsStateAnswer (IsEver (trust_of options.entry)) options.entry.after) input.now made.text.items made.verdict) }
+    ensures made { IfOk result (λ made. IsAuditOfEver options.entry input.now made.text.items made.verdict) }
     ensures memory { IfErr result (λ fault. fault ≡ RunFault.Memory) }
 {
     let Ok(without) = words_in(alloc, options.without) else {
@@ -86,12 +75,21 @@ fn make_ever_trusting(
 ) -> Result<Answer, RunFault>
     requires without { map (λ w. w.now) without.now ≡ without_of options }
     requires messages { map (λ w. w.now) messages.now ≡ messages_of options }
-    ensures made { IfOk result (λ made. IsAnswerTo (IsStateAnswer (IsEver (trust_of options.entry)) options.entry.after) input.now made.text.items made.verdict) }
+    ensures made { IfOk result (λ made. IsAuditOfEver options.entry input.now made.text.items made.verdict) }
     ensures memory { IfErr result (λ fault. fault ≡ RunFault.Memory) }
 {
     let trust = Trust { without, messages };
-    let after = options.after;
-    on_setup(alloc, Ever { trust, after }, input)
+    let Options { names, after, .. } = options;
+    if options.draft {
+        on_setup(alloc, Draft { trust, after }, input)
+    } else {
+        let ever = Ever {
+            trust,
+            names,
+            after,
+        };
+        on_setup(alloc, ever, input)
+    }
 }
 
 /// The audit of a state without the threads of `--without`.
@@ -164,6 +162,7 @@ fn make_never_between(
         from,
         to,
         by,
+        names: options.names,
         after: options.after,
     };
     on_setup(alloc, question, input)
@@ -287,6 +286,31 @@ fn make_parts_audit(alloc: Global, options: Options<'_>, input: &[u8]) -> Result
     }
 }
 
+/// The layout held to the policy whose bytes these are; with the number of a breach, how it happens.
+fn make_held(
+    alloc: Global,
+    options: Options<'_>,
+    policy: &[u8],
+    input: &[u8],
+) -> Result<Answer, RunFault>
+    ensures made { IfOk result (λ made. IsHeld options.entry options.entry.breach input.now made.text.items made.verdict) }
+    ensures memory { IfErr result (λ fault. fault ≡ RunFault.Memory) }
+{
+    let Options { after, states, .. } = options;
+    match options.breach {
+        None => on_setup(alloc, HeldTo { policy, after }, input),
+        Some(breach) => {
+            let how = BreachHow {
+                policy,
+                breach,
+                after,
+                states,
+            };
+            on_setup(alloc, how, input)
+        }
+    }
+}
+
 /// An audit by the options; with `--policy`, the layout held to the policy whose bytes these are.
 fn make_audit(
     alloc: Global,
@@ -298,8 +322,7 @@ fn make_audit(
     ensures memory { IfErr result (λ fault. fault ≡ RunFault.Memory) }
 {
     if options.policy.is_some() {
-        let after = options.after;
-        on_setup(alloc, HeldTo { policy, after }, input)
+        make_held(alloc, options, policy, input)
     } else {
         make_parts_audit(alloc, options, input)
     }
@@ -398,7 +421,9 @@ impl Engine for Work<'_> {
             Job::Explore => make_exploration(alloc, options, input),
             Job::Tree => {
                 let form = form_of(options);
-                on_state(alloc, options.after, Tree { form }, input)
+                let Options { names, after, .. } = options;
+                let tree = Tree { form, names, after };
+                on_setup(alloc, tree, input)
             }
             Job::New => make_new(alloc, options, input),
             Job::Marks => on_setup(alloc, Marks, input),
