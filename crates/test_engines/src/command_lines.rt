@@ -183,6 +183,10 @@ const OPTIONS: &[(&[&str], Told)] = &[
         Told::Parts(false, Some("")),
     ),
     (
+        &["sel4sim", "audit", "--ever", "--names"],
+        Told::Parts(true, None),
+    ),
+    (
         &["sel4sim", "audit", "--without=@a,2048", "--ever"],
         Told::Parts(true, Some("@a,2048")),
     ),
@@ -242,10 +246,6 @@ const FAULTS_OF_LINES: &[(&[&str], Told)] = &[
     ),
     (
         &["sel4sim", "audit", "--slot=160", "--names"],
-        Told::Conflict("--names"),
-    ),
-    (
-        &["sel4sim", "audit", "--ever", "--names"],
         Told::Conflict("--names"),
     ),
     // calls for help
