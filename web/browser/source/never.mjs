@@ -1,9 +1,16 @@
 // Whether the part of one thread is kept from the part of another: the answer in words, and what the program writes.
-import { element, heading } from "../../page/source/element.mjs";
+import { dim, element, heading } from "../../page/source/element.mjs";
+import { drawOpeners } from "./opener.mjs";
 
 const ANSWER = /^never (\d+(?: @\S+)?) part (\w+) -> (\d+(?: @\S+)?) part (\w+) (excluded|possible)$/u;
 const OPEN = /^open (\d+)$/u;
 const NO_PART = "none";
+/** What may happen, each with the options of `audit --how` that ask for it. */
+const HAPPENINGS = [
+  { words: "a message", title: "A message of the first thread is delivered to the second", options: [] },
+  { words: "a hold", title: "The first thread has a word for the control block of the second", options: ["--hold"] },
+  { words: "a loss", title: "A delete or a revoke of the first thread takes something of the second", options: ["--loss"] },
+];
 
 /** Whether a text is one of `audit --never`. */
 export const isNever = (text) => text.startsWith("never ");
@@ -26,14 +33,22 @@ function wordsOf(told) {
       + "endpoint that --by names.";
 }
 
-/** Draws a text of `audit --never` into an element. */
-export function drawNever(into, text) {
+/** Buttons that have calls looked for, after which it has happened; `open` is told the options, or null where none are looked for. */
+function drawHow(open) {
+  if (!open) return element("p", {}, dim("With --messages no calls are looked for by which it happens."));
+  return element("p", {}, "Look for calls by which it happens:",
+    drawOpeners(HAPPENINGS.map(({ words, title, options }) => ({ words, title, open: () => open(options) }))));
+}
+
+/** Draws a text of `audit --never` into an element; where it is not excluded, with buttons that have calls looked for (drawHow). */
+export function drawNever(into, text, open) {
   const lines = text.split("\n");
   const [, from, fromPart, to, toPart, answer] = lines.map((line) => ANSWER.exec(line)).find(Boolean) ?? [];
   const endpoints = lines.map((line) => OPEN.exec(line)?.[1]).filter(Boolean);
   const told = answer === undefined ? null : element("p", { id: "verdict" },
     element("span", { class: answer === "excluded" ? "tag met" : "tag missed" }, answer), " ",
     wordsOf({ from, fromPart, to, toPart, answer, endpoints }));
-  into.replaceChildren(heading("From one thread to another", "it is a bound on all calls that the threads of parts can make"), ...[told].filter(Boolean),
+  into.replaceChildren(heading("From one thread to another", "it is a bound on all calls that the threads of parts can make"),
+    ...[told, answer === "possible" && drawHow(open)].filter(Boolean),
     element("pre", { tabindex: "0", "aria-label": "What the program wrote" }, text));
 }

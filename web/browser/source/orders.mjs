@@ -2,6 +2,7 @@
 // each way to end stuck. An order that is told can be opened as a set-up that makes its calls.
 import { code, element } from "../../page/source/element.mjs";
 import { drawLine, drawRows } from "./report.mjs";
+import { drawOpeners } from "./opener.mjs";
 
 const ONE_CLIENT = /^explore \d+ \w+ clients 1 /u;
 const CALL = /^(\d+) (client \d+: \d+ \w+)(?: \[(.*)\])?$/u;
@@ -32,12 +33,8 @@ function drawOrder(order, go) {
 }
 
 /** A button that opens the order of a name as a set-up. */
-function drawOpener(name, open) {
-  const button = element("button", { type: "button", class: "opener", title: `A set-up that makes the calls of ${name} in this order` },
-    "open this order");
-  button.addEventListener("click", () => open(name));
-  return button;
-}
+const drawOpener = (name, open) => drawOpeners([{ words: "open this order",
+  title: `A set-up that makes the calls of ${name} in this order`, open: () => open(name) }]);
 
 function drawAnswer([, name, answer, missed, order], { go, open }) {
   return element("div", { class: missed ? "line answer missed-answer" : "line answer" },

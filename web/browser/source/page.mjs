@@ -5,7 +5,7 @@ import { Exercise } from "./exercise.mjs";
 import { Options } from "./options.mjs";
 import { Program, STOPPED } from "./program.mjs";
 import { Steps } from "./steps.mjs";
-import { POLICY, TABS } from "./tabs.mjs";
+import { POLICY, REPORT, STEPS, TABS } from "./tabs.mjs";
 import { Policy, isPolicy } from "./policy.mjs";
 import { asExercise } from "./exercise_text.mjs";
 import { callsOf } from "./report.mjs";
@@ -24,8 +24,6 @@ const byId = (id) => document.getElementById(id);
 const TITLE = "sel4sim";
 const FIRST_EXAMPLE = ["examples", "send_then_receive"];
 const FIRST_EXERCISE = ["exercises", "01_slots_and_words"];
-const [REPORT] = TABS;
-const STEPS = TABS.find(({ name }) => name === "steps");
 /** A layout is shown in the tab of the report, as the program answers it. */
 const LAYOUT = { ...REPORT, show: (page, panel, text) => panel.replaceChildren(element("pre", { tabindex: "0" }, text)) };
 const WHY = TABS.find(({ name }) => name === "why");
@@ -278,9 +276,9 @@ class Page {
     this.show(tab, answer);
   }
 
-  answerTo(tab, bytes) {
+  answerTo(tab, bytes, words = this.options.words(tab, this.policyName)) {
     const policy = { name: this.policyName, bytes: new TextEncoder().encode(this.policy.text) };
-    return this.program.run([...this.options.words(tab, policy.name), this.name], this.name, bytes, tab.hasPolicy ? [policy] : []);
+    return this.program.run([...words, this.name], this.name, bytes, tab.hasPolicy ? [policy] : []);
   }
 
   /** Says what is wrong with the layout in the editor, at its lines, or offers the set-up that the program makes of it. */
@@ -348,7 +346,7 @@ class Page {
     if (isOld) return true;
     const isWhole = status === 0 || status === 1;
     panel.dataset.of = isWhole ? this.opened : "";
-    if (tab.told) panel.replaceChildren(element("p", {}, tab.told), element("pre", {}, this.commandOf(tab)));
+    if (tab.told) panel.replaceChildren(element("p", {}, tab.told), element("pre", {}, this.commandLine(this.options.words(tab))));
     else if (isWhole) tab.show(this, panel, text);
     else panel.replaceChildren(element("pre", {}, text));
     return false;
@@ -365,8 +363,13 @@ class Page {
     if (tab !== REPORT && !report.trap) this.fill(REPORT, report, decoded(report.output));
   }
 
-  commandOf(tab) {
-    return ["sel4sim", ...[...this.options.words(tab, this.policyName), this.name].map(quoted)].join(" ");
+  /** The words of the command line of the tab that is shown, without the set-up. */
+  get words() {
+    return this.options.words(this.tab, this.policyName);
+  }
+
+  commandLine(words) {
+    return ["sel4sim", ...[...words, this.name].map(quoted)].join(" ");
   }
 
   drawTabs() {
@@ -395,7 +398,7 @@ class Page {
     document.body.dataset.tab = this.tab.name;
     if (this.tab === POLICY) this.policy.editor.refresh();
     this.options.draw(this.tab);
-    byId("command-line").textContent = this.commandOf(this.tab);
+    byId("command-line").textContent = this.commandLine(this.words);
   }
 
   /** Shows the tabs that are used less, or hides them again. */
@@ -429,20 +432,34 @@ class Page {
     this.examples.show(`${topic}/${name}`);
   }
 
-  /** Opens the set-up that makes the calls of an order which the tab tells by a name. A button leads back. */
-  async openWitness(order) {
-    const { name, title, tab, options: { values } } = this;
-    const { text } = this.editor;
-    const words = [...this.options.words(tab), "--witness", order, name];
-    const answer = await this.program.run(words, name, new TextEncoder().encode(text));
-    if (answer === STOPPED) return;
-    if (answer.status !== 0) {
-      this.say(decoded(answer.errors) || `The order ${order} is not told as a set-up.`);
-      return;
-    }
-    this.openIn(REPORT, decoded(answer.output), `${title}.${order}.toml`);
-    this.say(`This set-up makes the calls of ${name} in the order ${order}.`, " ",
-      link(`back to ${name}`, () => this.openIn(tab, text, name, values)));
+  /** Opens the set-up that the program writes for these words, in a tab, at its last call; a button leads back. Where it writes
+      none, gives what it says in its place; so it does where what is shown is not the answer to what is in the editor. */
+  async openWitness(words, ending, tab, about) {
+    const { textContent: state } = byId("state");
+    if (!this.isAtRest || state) return state;
+    const { setup } = this;
+    const answer = await this.answerAlso(words);
+    if (answer === STOPPED) return "stopped";
+    const text = decoded(answer.output);
+    if (answer.status !== 0) return text || decoded(answer.errors) || answer.trap || "";
+    this.openIn(tab, text, `${this.title}.${ending}.toml`);
+    this.firstCall = placesOf(text).call.length;
+    this.say(about, " ", link(`back to ${setup.name}`, () => this.openAgain(setup)));
+    return "";
+  }
+
+  /** What the program answers to other words on what is in the editor. */
+  async answerAlso(words) {
+    this.round += 1;
+    const { round } = this;
+    const late = setTimeout(() => this.tell("running…"), MILLISECONDS_UNTOLD);
+    byId("stop").disabled = false;
+    const answer = await this.answerTo(this.tab, new TextEncoder().encode(this.editor.text), words);
+    clearTimeout(late);
+    if (round !== this.round) return STOPPED;
+    byId("stop").disabled = true;
+    this.tell("");
+    return answer;
   }
 
   /** Opens a set-up in a tab. */

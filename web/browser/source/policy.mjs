@@ -1,5 +1,8 @@
 // The policy that the tab of this name holds the layout to: an editor of its own, with what the program says at its lines.
 import { Editor } from "./editor.mjs";
+import { drawLine, drawRows } from "./report.mjs";
+import { drawOpeners } from "./opener.mjs";
+import { element } from "../../page/source/element.mjs";
 
 /** What a new policy begins with. */
 const BEGINNING = `policy = 1
@@ -11,6 +14,9 @@ alone = []
 # way = [{ from = "client", to = "server", by = "endpoint", badge = 1 }]
 `;
 const IS_POLICY = /^(?:[ \t]*(?:#.*)?\n)*[ \t]*policy[ \t]*=/u;
+const BREACH = /^breach /u;
+/** A breach by calls to come; the others say what is there already. */
+const TO_COME = /^breach (?:way|badge|waiting|joined) /u;
 const PLACED = /^(.*):(\d+):\d+: (?:error|warning): (.*)$/gmu;
 
 /** Whether a text is that of a policy: its first key says so. */
@@ -20,6 +26,19 @@ export const isPolicy = (text) => IS_POLICY.test(text);
 export function toldOf(errors, name) {
   const placed = [...errors.matchAll(PLACED)].filter(([, file]) => file === name);
   return placed.map(([, , line, words]) => ({ line: Number(line) - 1, words }));
+}
+
+/** The line of a breach, with a button that has calls looked for by which it happens. */
+const drawBreach = (line, open) => element("div", { class: "line" }, line, drawOpeners([{ words: "by which calls?",
+  title: "Look for calls by which this breach happens, and open them as a set-up", open }]));
+
+/** Draws a text of `audit --policy` into an element; `open` is told the number of a breach of which it is asked how it happens. */
+export function drawHeld(into, text, open) {
+  const lines = text.split("\n").slice(0, -1);
+  const numbers = new Map(lines.filter((line) => BREACH.test(line)).map((line, at) => [line, at + 1]));
+  const told = element("div", { tabindex: "0", role: "region", "aria-label": "What the program wrote" });
+  drawRows(told, lines.map((line) => () => (TO_COME.test(line) ? drawBreach(line, () => open(numbers.get(line))) : drawLine(line))));
+  into.replaceChildren(told);
 }
 
 /** The editor of the policy; `changed` is told of each change that the reader makes. */

@@ -4,6 +4,7 @@ import { dim, element } from "../../page/source/element.mjs";
 import { drawAudit } from "./audit.mjs";
 import { drawEver, threadsTold } from "./ever.mjs";
 import { drawNever, isNever } from "./never.mjs";
+import { drawHeld } from "./policy.mjs";
 import { drawOrders } from "./orders.mjs";
 import { drawReport } from "./report.mjs";
 import { drawWhy } from "./why.mjs";
@@ -26,10 +27,21 @@ function showAudit(page, panel, text) {
   drawAudit(panel, text, { choose: (slot) => page.give(AUDIT, "slot", slot), save: (...drawing) => page.saveDrawing(...drawing) });
 }
 
+/** Opens the set-up that `audit --how` writes, at its last call. */
+const openHow = (page, words, ending) => page.openWitness(words, ending, STEPS,
+  `The last call shows that it happens. ${page.commandLine(words)} wrote this set-up.`);
+
+/** Has calls looked for by which it happens between the two threads of `audit --never`. For `--hold` and `--loss` there is no `--by`. */
+function openHowOf(page, happening) {
+  const options = EVER.options.filter(({ name }) => happening.length === 0 || name !== "by");
+  const words = page.options.words({ ...EVER, options }).map((word) => (word === "--never" ? "--how" : word));
+  return openHow(page, [...words, ...happening], "how");
+}
+
 /** The parts of a layout, where each thread that is told gets a box to tick; or the answer whether two are kept apart. */
 function showEver(page, panel, text) {
   if (isNever(text)) {
-    drawNever(panel, text);
+    drawNever(panel, text, page.options.value(EVER, "messages") ? null : (options) => openHowOf(page, options));
     return;
   }
   page.options.offer(EVER, threadsTold(text));
@@ -37,7 +49,14 @@ function showEver(page, panel, text) {
 }
 
 function showOrders(page, panel, text) {
-  drawOrders(panel, text, { go: (number) => page.goToCall(number), open: (name) => page.openWitness(name) });
+  const open = (order) => page.openWitness([...page.words, "--witness", order], order, REPORT,
+    `This set-up makes the calls of ${page.name} in the order ${order}.`);
+  drawOrders(panel, text, { go: (number) => page.goToCall(number), open });
+}
+
+/** The layout held to a policy, where calls are looked for by which a breach happens. */
+function showHeld(page, panel, text) {
+  drawHeld(panel, text, (number) => openHow(page, [...page.words, "--how", String(number)], `how.${number}`));
 }
 
 /** The page of a trace, in a frame; another set-up is shown from its boot on, or from the call that its address names. */
@@ -57,6 +76,8 @@ function showSetup(page, panel, text) {
 
 const AFTER = { name: "after", about: "How many calls are made; all without it", least: "all calls" };
 
+export const REPORT = { name: "report", words: ["check"], about: "What each call is answered, and the state at the end", show: showReport };
+export const STEPS = { name: "steps", words: ["trace"], about: "What each call changes, step by step", show: showSteps };
 const AUDIT = {
   name: "audit", words: ["audit"], about: "Who reaches what, who can send to whom, and what each revoke would destroy",
   options: [AFTER, { name: "slot", about: "The address of a slot: what a revoke of it would change", least: "none" }],
@@ -76,7 +97,7 @@ const EVER = {
 /** The layout held to the policy in the second editor. */
 export const POLICY = {
   name: "policy", words: ["audit", "--policy"], about: "Whether the layout keeps to a policy, whatever calls are made",
-  missed: "the policy is broken", options: [AFTER], hasPolicy: true, show: showText,
+  missed: "the policy is broken", options: [AFTER], hasPolicy: true, show: showHeld,
 };
 
 /** A tab: its name, the program's words, what the tab is for, and how to show what the program writes. It may have options
@@ -84,8 +105,8 @@ export const POLICY = {
     in a browser. A rare one is in sight where it is chosen, or behind "more". The words of one with a
     policy end with the name of its file. */
 export const TABS = [
-  { name: "report", words: ["check"], about: "What each call is answered, and the state at the end", show: showReport },
-  { name: "steps", words: ["trace"], about: "What each call changes, step by step", show: showSteps },
+  REPORT,
+  STEPS,
   { name: "why", words: ["why"], about: "Why calls are refused", show: showReasons,
     options: [{ name: "call", about: "The number of a call: the reason of that call alone", least: "all refused" }] },
   AUDIT,

@@ -32,7 +32,7 @@ import lectures  # noqa: E402
 import nothing_lost  # noqa: E402
 import sheets  # noqa: E402
 import teacher  # noqa: E402
-from tester import SITE, Tester, as_answer, native, option, pick, picked, type_option  # noqa: E402
+from tester import SITE, Tester, as_answer, native, opened_at_last_call, option, pick, picked, type_option  # noqa: E402
 
 SUBCOMMANDS = (["check"], ["marks"], ["trace"], ["migrate"], ["why"], ["audit"], ["audit", "--ever"], ["audit", "--never", "2048,4096"], ["explore"],
                ["tree"])
@@ -83,6 +83,8 @@ def words_asked(path):
     for file in sorted(path.parent.glob(f"{path.stem}.*")):
         if file.suffix == ".never":
             yield ["audit", *file.with_suffix(".args").read_text().split()]
+        if file.suffix == ".how":
+            yield ["audit", "--how", *file.with_suffix(".args").read_text().split()]
         options = {}
         for option, value in re.findall(r"\.([a-z]+)[-_]([^.]+)", file.name):
             options[option] = f"{options[option]},{value}" if option in options else value
@@ -97,9 +99,9 @@ def words_asked(path):
 
 
 def same_with_options(test, _):
-    """The worked audits, parts and orders, each with its options; and the reason of each call of some set-ups alone."""
+    """The worked audits, parts, orders and calls that were looked for, each with its options; and the reason of each call of some set-ups alone."""
     count = 0
-    for kind in ("audits", "parts", "explorations"):
+    for kind in ("audits", "parts", "explorations", "hows"):
         for path in sorted((TOP / "crates" / "test_worked_answers" / "data" / kind).glob("*.toml")):
             words, text = list(words_asked(path)), path.read_bytes()
             for it, answer in zip(words, test.run_bytes(words, path.name, text)):
@@ -437,6 +439,37 @@ def kept_apart(test, _):
     test.wanted(drawn == parts_drawn == 3, f"without a question {drawn} parts are drawn, and before it {parts_drawn}")
 
 
+def how_it_happens(test, _):
+    """Where it is not excluded, buttons have calls looked for: they are opened at the last one, or the program's line is told; a button leads back."""
+    if not pick(test, *TRUSTED_LOADER):
+        return
+    browser, text = test.browser, test.browser.value("sel4sim.page.editor.text")
+    openers = "[...document.querySelectorAll('#panel-ever .opener')].map((it) => it.textContent)"
+    type_option(test, "never", "client_a,client_c")
+    browser.value("document.getElementById('option-messages-client_b').click()")
+    test.settle(0.6)
+    test.wanted(browser.value(openers) == [] and "With --messages" in test.text("panel-ever"), "with --messages calls are looked for")
+    browser.value("document.getElementById('option-messages-client_b').click()")
+    test.settle(0.6)
+    command = test.text("command-line")
+    test.wanted(browser.value(openers) == ["a message", "a hold", "a loss"], f"what may be looked for is {browser.value(openers)}")
+    for place, words in reversed(list(enumerate(([], ["--hold"], ["--loss"])))):
+        words = ["audit", "--without", "loader", "--how", "client_a,client_c", *words]
+        status, output, _ = native(test.program, test.folder, words, "two_clients.toml", text.encode())
+        browser.value(f"document.querySelectorAll('#panel-ever .opener')[{place}].click()")
+        test.settle()
+        if status == 1:
+            told = browser.value("document.querySelector('#panel-ever [role=status]').textContent")
+            test.wanted(told == output.decode(), f"{words}: {told!r} is told, and not {output}")
+    opened_at_last_call(test, output.decode(), "audit --how")
+    test.wanted(status == 0 and " ".join(words) in test.text("notice"), f"calls are opened with {test.text('notice')!r}")
+    browser.value("document.querySelector('#notice button').click()")
+    test.settle(0.6)
+    test.wanted((browser.value("sel4sim.page.editor.text"), test.text("command-line")) == (text, command), f"the way back leads to {test.text('command-line')}")
+    type_option(test, "never", "client_a,client_b")
+    test.wanted(browser.value(openers) == [], "calls are looked for by which happens what is excluded")
+
+
 def every_order(test, _):
     """The tab orders tells each call with its answers; a number of an order leads to the call."""
     if not pick(test, "for orders", "cancel_against_send"):
@@ -486,7 +519,7 @@ def new_tabs(test, stored):
     """The tabs with options, at two widths."""
     for width in (1280, 390):
         test.browser.call("Emulation.setDeviceMetricsOverride", width=width, height=844, deviceScaleFactor=1, mobile=width < 400)
-        for check in (reasons, audits, parts, kept_apart, every_order, graph):
+        for check in (reasons, audits, parts, kept_apart, how_it_happens, every_order, graph):
             check(test, stored)
             wide = test.browser.value("document.documentElement.scrollWidth")
             test.wanted(wide <= width, f"{check.__name__}: a window of {width} is overrun: {wide}")

@@ -1,10 +1,12 @@
-"""Policies and layouts on the page: the second editor with what breaks a policy at its lines, and set-ups made of layouts."""
+"""Policies and layouts on the page: the second editor with what breaks a policy at its lines, the calls by which it is broken, and
+set-ups made of layouts."""
 import base64
 import json
 import pathlib
+import re
 import subprocess
 
-from tester import TOP, as_answer, pick
+from tester import TOP, as_answer, opened_at_last_call, pick
 
 POLICIES = TOP / "crates" / "test_worked_answers" / "data" / "policies"
 LAYOUTS = TOP / "tests" / "layouts"
@@ -20,23 +22,37 @@ HELD = """(async () => {
 FAULTY = "[...document.querySelectorAll('#policy .faulty')].length"
 TITLES = "[...document.querySelectorAll('PLACE .mark-missed')].map((it) => it.title)"
 SETUP = "sel4sim.page.editor.text"
+# The breaches of which it is asked how they happen.
+TO_COME = re.compile("breach (?:way|badge|waiting|joined) ")
 
 
 def packed(path):
     return base64.b64encode(path.read_bytes()).decode()
 
 
+def breaches(name):
+    """The lines of what breaks a worked policy."""
+    return re.findall("(?m)^breach .*", (POLICIES / f"{name}.out").read_text())
+
+
+def natively(test, *words):
+    return subprocess.run([test.program, *words], cwd=POLICIES, stdin=subprocess.DEVNULL, capture_output=True, timeout=SECONDS)
+
+
 def same_as_native(test, _):
-    """Each worked policy, in the page's own worker: standard output, standard error and status of the native program."""
+    """Each worked policy and how each of its breaches happens, and one behind the last, in the page's own worker: standard output,
+    standard error and status of the native program."""
     count = 0
     for policy in sorted(POLICIES.glob("*.policy.toml")):
-        setup = policy.with_name(policy.name.replace(".policy.toml", ".toml"))
-        words = ["audit", "--policy", policy.name, setup.name]
-        ran = subprocess.run([test.program, *words], cwd=POLICIES, stdin=subprocess.DEVNULL, capture_output=True, timeout=SECONDS)
-        asked = [words, setup.name, packed(setup), policy.name, packed(policy)]
-        given = as_answer(test.browser.value(HELD.replace("ASKED", json.dumps(asked))))
-        test.wanted(given == (ran.returncode, ran.stdout, ran.stderr), f"{policy.name}: {given}, natively {ran.returncode}, {ran.stdout}, {ran.stderr}")
-        count += 1
+        name = policy.name.removesuffix(".policy.toml")
+        setup = policy.with_name(f"{name}.toml")
+        for how in ([], *(["--how", str(number + 1)] for number in range(len(breaches(name)) + 1))):
+            words = ["audit", "--policy", policy.name, *how, setup.name]
+            ran = natively(test, *words)
+            asked = [words, setup.name, packed(setup), policy.name, packed(policy)]
+            given = as_answer(test.browser.value(HELD.replace("ASKED", json.dumps(asked))))
+            test.wanted(given == (ran.returncode, ran.stdout, ran.stderr), f"{words}: {given}, natively {ran.returncode}, {ran.stdout}, {ran.stderr}")
+            count += 1
     for layout in sorted((*LAYOUTS.glob("*.cdl"), *LAYOUTS.glob("*.system"), *LAYOUTS.glob("wrong/*.cdl"), *LAYOUTS.glob("wrong/*.system"))):
         test.compare("a layout", ["import"], layout.name, layout.read_bytes(), test.run_bytes([["import"]], layout.name, layout.read_bytes())[0])
         count += 1
@@ -60,6 +76,35 @@ def held(test, _):
     browser.value(f"sel4sim.page.policy.editor.mirror.setValue({json.dumps(mended)})")
     test.settle(0.6)
     test.wanted(browser.value(FAULTY) == 0 and "status 0" in test.text("status"), f"the policy is mended, and the page says {test.text('status')}")
+
+
+def by_which_calls(test, _):
+    """Each breach by calls to come has a button that has them looked for, and no other breach has one."""
+    for policy in sorted(POLICIES.glob("*.policy.toml")):
+        name = policy.name.removesuffix(".policy.toml")
+        if not pick(test, "for policy", name):
+            continue
+        asked = [(number, line) for number, line in enumerate(breaches(name), 1) if TO_COME.match(line)]
+        told = test.browser.value("[...document.querySelectorAll('#panel-policy .opener')].map((it) => it.parentElement.firstChild.textContent)")
+        test.wanted(told == [line for _, line in asked], f"{name}: calls are looked for of {told}, and not of {asked}")
+        for place, (number, _) in enumerate(asked):
+            opens_how(test, name, place, number)
+
+
+def opens_how(test, name, place, number):
+    """Of a breach it is opened what the native program writes, at its last call, and a button leads back; or its words are told."""
+    browser, shown = test.browser, "[sel4sim.page.editor.text, sel4sim.page.policy.text, document.getElementById('command-line').textContent]"
+    before, ran = browser.value(shown), natively(test, "audit", "--policy", f"{name}.policy.toml", "--how", str(number), f"{name}.toml")
+    browser.value(f"document.querySelectorAll('#panel-policy .opener')[{place}].click()")
+    test.settle()
+    if ran.returncode != 0:
+        told = browser.value(f"document.querySelectorAll('#panel-policy [role=status]')[{place}].textContent")
+        test.wanted(told == (ran.stdout or ran.stderr).decode(), f"{name}, breach {number}: {told!r} is told, and not {ran.stdout}, {ran.stderr}")
+        return
+    opened_at_last_call(test, ran.stdout.decode(), f"{name}, breach {number}")
+    test.click("#notice button")
+    test.settle(0.6)
+    test.wanted(browser.value(shown) == before, f"{name}: the way back leads to {test.text('command-line')}")
 
 
 def kept(test, _):
@@ -118,4 +163,4 @@ def faulty(test, _):
         test.wanted(told == lines and lines, f"{layout.name}: faults are marked at {sorted(told)}, and are at {sorted(lines)}")
 
 
-CHECKS = (same_as_native, held, kept, opened, faulty)
+CHECKS = (same_as_native, held, by_which_calls, kept, opened, faulty)

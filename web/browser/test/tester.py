@@ -5,6 +5,7 @@ import pathlib
 import subprocess
 import sys
 import time
+import tomllib
 
 TOP = pathlib.Path(__file__).resolve().parent.parent.parent.parent
 # What takes longer does not come; a machine that is busy is ten times as slow as one that is not.
@@ -142,6 +143,18 @@ def pick(test, topic, name):
         test.browser.value(f"sel4sim.page.openExample({json.dumps(topic)}, {json.dumps(name)})")
         test.settle()
     return there
+
+
+POSITION = "document.querySelector('#panel-steps iframe')?.contentDocument?.getElementById('position')?.textContent"
+POINTED = "sel4sim.page.editor.pointed.map(({ text }) => text).join('\\n')"
+
+
+def opened_at_last_call(test, text, what):
+    """A text is opened as a set-up, in the steps at its last call, whose lines are marked in the editor."""
+    calls = tomllib.loads(text)["call"]
+    test.wanted(test.browser.value("sel4sim.page.editor.text") == text, f"{what}: another set-up is opened")
+    test.until(f"{POSITION} === 'call {len(calls)} of {len(calls)}'", f"{what}: the steps are not at call {len(calls)}")
+    test.until(f"{POINTED}.includes({json.dumps(calls[-1]['expect'])})", f"{what}: the lines of the last call are not marked")
 
 
 def picked(test, path):
