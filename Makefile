@@ -6,7 +6,7 @@
 program = crates/sel4sim/out/sel4sim
 calls = crates/test_memory/out/test_memory
 setups = crates/test_worked/data
-answers = crates/test_worked_answers/data
+answers = tests/answers
 plain = bench/check_plain/out/target/release/check_plain
 given = crates/sel4sim/stdin
 stored = $(setups)/examples/send_then_receive.toml
@@ -48,7 +48,7 @@ rows-needs:
 rows: rows-needs run
 	@$(MAKE) --no-print-directory rows-python
 	python3 tests/browser_page.py web/site/sel4sim.html
-	python3 tests/schema.py $(program) $(setups) crates/sel4sim/data $(answers) web/page/test/setups tests
+	python3 tests/schema.py $(program) $(setups) crates/sel4sim/data web/page/test/setups tests
 	python3 tools/prove.py test_memory
 	python3 tests/refuse_memory.py $(program) $(calls) $(stored) $(first_format)
 	python3 tests/fail_each_transfer.py $(program) $(stored)

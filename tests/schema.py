@@ -31,8 +31,8 @@ BEYOND = {
     "untyped_overlaps_root_cnode": LAYOUT,
     "untyped_unaligned": LAYOUT,
     "name_that_does_not_exist": NAMES,
-    "refused": NAMES,    # of crates/test_worked_answers/data/audits
-    "refused_name": NAMES,    # of crates/test_worked_answers/data/trees
+    "refused": NAMES,    # of tests/answers/audits
+    "refused_name": NAMES,    # of tests/answers/trees
 }
 
 SLOTS = ["cap", "index", "depth", "src_root", "src_index", "src_depth"]

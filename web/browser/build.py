@@ -45,7 +45,7 @@ BEGIN_HERE = ("send_then_receive", "guarded_address_space", "revocation_of_badge
 # The answers of exercises are not in the page.
 ANSWERS_OF_EXERCISES = ("exercise_answers/", "examples/exercise_copies_and_badges")
 # Set-ups that are told of by another subcommand than check: their folder, and the tab that they are opened in.
-ANSWERS = TOP / "crates" / "test_worked_answers" / "data"
+ANSWERS = TOP / "tests" / "answers"
 FOR_TABS = (("explorations", "orders"), ("audits", "audit"), ("parts", "ever"), ("policies", "policy"), ("trees", "tree"))
 POLICY = ".policy.toml"
 FIRST_CALLS = re.compile(r"^#.*--first (\d+)", re.M)

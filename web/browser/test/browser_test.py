@@ -102,7 +102,7 @@ def same_with_options(test, _):
     """The worked audits, parts, orders and calls that were looked for, each with its options; and the reason of each call of some set-ups alone."""
     count = 0
     for kind in ("audits", "parts", "explorations", "hows"):
-        for path in sorted((TOP / "crates" / "test_worked_answers" / "data" / kind).glob("*.toml")):
+        for path in sorted((TOP / "tests" / "answers" / kind).glob("*.toml")):
             words, text = list(words_asked(path)), path.read_bytes()
             for it, answer in zip(words, test.run_bytes(words, path.name, text)):
                 test.compare(f"{kind}/{path.stem}", it, path.name, text, answer)

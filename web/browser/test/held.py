@@ -8,7 +8,7 @@ import subprocess
 
 from tester import TOP, as_answer, opened_at_last_call, pick
 
-POLICIES = TOP / "crates" / "test_worked_answers" / "data" / "policies"
+POLICIES = TOP / "tests" / "answers" / "policies"
 LAYOUTS = TOP / "tests" / "layouts"
 SECONDS = 600
 # The program in the page with a set-up and a policy, each as base64.
