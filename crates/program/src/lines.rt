@@ -21,7 +21,7 @@ fn run_standard<'a, R: Threads + Wait + Sync, I: Inputs, K: Sink>(
     alloc: Global,
     inputs: &I,
     line: Line<'a>,
-    policy: Vec<u8>,
+    policy: &[u8],
     sink: &mut K,
 ) -> Done<'a, I::Standard, I::File, I::Fault>
     requires sink { K.failed sink.old ≡ false }
@@ -30,18 +30,9 @@ fn run_standard<'a, R: Threads + Wait + Sync, I: Inputs, K: Sink>(
         I.Standard.Source I.File.Source K.Sink line.entry.job line.entry.options None result.input result.answer sink.old sink.new }
 {
     let mut source = inputs.standard();
-    let answer = run_job(
-        rt,
-        alloc,
-        line.job,
-        line.options,
-        policy.as_slice(),
-        &mut source,
-        sink,
-    );
+    let answer = run_job(rt, alloc, line.job, line.options, policy, &mut source, sink);
     Done {
         line,
-        policy,
         input: Used::Standard(source),
         answer,
     }
@@ -53,7 +44,7 @@ fn run_file<'a, R: Threads + Wait + Sync, I: Inputs, K: Sink>(
     alloc: Global,
     inputs: &I,
     line: Line<'a>,
-    policy: Vec<u8>,
+    policy: &[u8],
     name: &str,
     sink: &mut K,
 ) -> Done<'a, I::Standard, I::File, I::Fault>
@@ -65,25 +56,15 @@ fn run_file<'a, R: Threads + Wait + Sync, I: Inputs, K: Sink>(
     match inputs.open(name) {
         Ok(file) => {
             let mut source = file;
-            let answer = run_job(
-                rt,
-                alloc,
-                line.job,
-                line.options,
-                policy.as_slice(),
-                &mut source,
-                sink,
-            );
+            let answer = run_job(rt, alloc, line.job, line.options, policy, &mut source, sink);
             Done {
                 line,
-                policy,
                 input: Used::File(source),
                 answer,
             }
         }
         Err(fault) => Done {
             line,
-            policy,
             input: Used::Unopened(fault),
             answer: Err(RunFault::Reading),
         },
@@ -102,7 +83,6 @@ fn run_new<'a, S, F, E, K: Sink>(alloc: Global, line: Line<'a>, sink: &mut K) ->
     let answer = run_work(alloc, Job::New, line.options, nothing, &mut source, sink);
     Done {
         line,
-        policy: Vec::new(alloc),
         input: Used::Nothing,
         answer,
     }
@@ -114,7 +94,7 @@ fn run_setup<'a, R: Threads + Wait + Sync, I: Inputs, K: Sink>(
     alloc: Global,
     inputs: &I,
     line: Line<'a>,
-    policy: Vec<u8>,
+    policy: &[u8],
     sink: &mut K,
 ) -> Done<'a, I::Standard, I::File, I::Fault>
     requires sink { K.failed sink.old ≡ false }
@@ -141,7 +121,7 @@ fn run_line<'a, R: Threads + Wait + Sync, I: Inputs, K: Sink>(
     alloc: Global,
     inputs: &I,
     line: Line<'a>,
-    policy: Vec<u8>,
+    policy: &[u8],
     sink: &mut K,
 ) -> Done<'a, I::Standard, I::File, I::Fault>
     requires sink { K.failed sink.old ≡ false }
@@ -272,7 +252,10 @@ pub fn run_words<
         Ok(line) => {
             if line.several.is_empty() {
                 match read_second(alloc, inputs, line.options.policy) {
-                    Ok(policy) => Ended::Did(run_line(rt, alloc, inputs, line, policy, sink)),
+                    Ok(policy) => {
+                        let policy = policy.as_slice();
+                        Ended::Did(run_line(rt, alloc, inputs, line, policy, sink))
+                    }
                     Err(unread) => Ended::NoPolicy(unread),
                 }
             } else {

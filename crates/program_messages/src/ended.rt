@@ -13,8 +13,6 @@ const REFUSED: &str = "command line refused";
 pub struct Done<'a, S, F, E> {
     /// What was asked for.
     pub line: Line<'a>,
-    /// The bytes of the policy that the line names.
-    pub policy: Vec<u8>,
     /// The input, after the job.
     pub input: Used<S, F, E>,
     /// What the job found.
