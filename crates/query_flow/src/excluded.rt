@@ -17,6 +17,9 @@ use kernel_core::{Kernel, ThreadState};
 use slot_core::DerivationStore;
 use std::alloc::{AllocError, Global};
 
+/// The most full slots of a kernel whose flows are looked for. The test of flows looks at each thread with each CNode for each thread.
+const MOST_SLOTS: usize = 512;
+
 /// Where endpoints lie that a thread may use: from an address to another.
 #[derive(Clone, Copy)]
 pub struct Spot {
@@ -263,7 +266,7 @@ fn are_alike(some: &[u64], others: &[u64]) -> bool
     some == others
 }
 
-/// The flows of a kernel, where those that are found pass the test.
+/// The flows of a kernel, where those that are found pass the test; none of one with more than `MOST_SLOTS` full slots.
 #[tactic(auto, using(crate::proofs::Ruled::is_tested))]
 fn tested_flow<P: Profile, S: DerivationStore<P> + Drop, W: Waiters<P> + Drop>(
     alloc: Global,
@@ -272,6 +275,9 @@ fn tested_flow<P: Profile, S: DerivationStore<P> + Drop, W: Waiters<P> + Drop>(
 ) -> Result<Option<Flows>, AllocError>
     ensures { IfOk result (λ found. IfSome found (spec.IsTested P.profile trusted.now kernel.now)) }
 {
+    if kernel.derivations(alloc)?.len() > MOST_SLOTS {
+        return Ok(None);
+    }
     let flows = flow_of::<P, S, W>(alloc, kernel, trusted)?;
     let is = is_flow::<P, S, W>(alloc, kernel, &flows)?;
     if is && are_alike(flows.trusted.as_slice(), trusted) {
@@ -303,6 +309,33 @@ pub fn passes_none<P: Profile, S: DerivationStore<P> + Drop, W: Waiters<P> + Dro
         Some(flows) => {
             let kept = are_kept::<P, S, W>(alloc, kernel, &flows, by, from, to)?;
             Ok(are_free(&flows, from, to) && kept)
+        }
+    }
+}
+
+/// Whether flows exclude both: that a message of the thread `from` is ever delivered to the thread `to`, but by the endpoints that are
+/// named, and that a word of the thread `from` ever leads to a capability to the control block of the thread `to`.
+///
+/// # Errors
+///
+/// Memory was refused.
+#[tactic(auto, using(crate::proofs::Ruled::none_passed, crate::proofs::Ruled::none_named))]
+pub fn keeps_apart<P: Profile, S: DerivationStore<P> + Drop, W: Waiters<P> + Drop>(
+    alloc: Global,
+    kernel: &Kernel<P, S, W>,
+    trusted: &[u64],
+    by: &[u64],
+    from: u64,
+    to: u64,
+) -> Result<bool, AllocError>
+    ensures passes { IfOk result (λ is. is ≡ true → PassesNoneEver P.profile trusted.now kernel.now by.now from to) }
+    ensures names { IfOk result (λ is. is ≡ true → NamesNoneEver P.profile trusted.now kernel.now from to) }
+{
+    match tested_flow::<P, S, W>(alloc, kernel, trusted)? {
+        None => Ok(false),
+        Some(flows) => {
+            let kept = are_kept::<P, S, W>(alloc, kernel, &flows, by, from, to)?;
+            Ok(are_free(&flows, from, to) && kept && holds_none::<P>(&flows, from, to))
         }
     }
 }

@@ -6,7 +6,7 @@ mod laws;
 mod listed;
 mod search;
 
-pub use excluded::{changes_none, names_none, passes_none};
+pub use excluded::{changes_none, keeps_apart, names_none, passes_none};
 pub use laws::flows_stay_held;
 pub use listed::{Caller, Flows, MayStand, Standing, is_flow};
 pub use search::flow_of;
