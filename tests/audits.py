@@ -25,7 +25,7 @@ def command(file):
 def status_with(text):
     if not text:
         return 4
-    if text.startswith(b"never ") and any(line.startswith(b"never ") and line.endswith(b" possible") for line in text.split(b"\n")):
+    if text.startswith(b"never ") and any(line.startswith(b"never ") and line.endswith((b" possible", b" possible decided")) for line in text.split(b"\n")):
         return 1
     return 2 if text.startswith(b"set-up refused ") else 0
 

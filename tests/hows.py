@@ -6,7 +6,7 @@ is the wanted line, byte for byte. Where it is 0, NAME.how is a witness, and ano
 by `check` in all that it expects, with as many calls found, and its last call has to be answered as that of NAME.how.
 
 In PARTS each NAME.PAIR.never is asked with `--how` in place of `--never`: where that says `excluded`, so has this; and
-`check` has to meet each witness.
+`check` has to meet each witness. Where it says that it is possible, a comment of NAME.toml says what `--how` finds.
 
 In POLICIES each breach of each policy is asked with `--how N`. Of what is held nothing is written, and standard error has its line.
 Of the others `check` meets each witness, and the last call is the delivery that the breach names, by its endpoint and with its badge;
@@ -52,10 +52,16 @@ def faults(program, setup, wanted):
 
 
 def answer_of(never):
-    """The last word of the answer to a question that can be asked with `--how`: that takes no `--messages`; else nothing."""
+    """The answer to a question that can be asked with `--how`: that takes no `--messages`; else nothing."""
     answers = [line for line in never.read_text().splitlines() if line.startswith("never ") and " -> " in line]
     words = never.with_suffix(".args").read_text().split()
-    return answers[0].split()[-1] if len(answers) == 1 and "--messages" not in words else ""
+    return re.search(r" part \w+ ([a-z ]+)$", answers[0])[1] if len(answers) == 1 and "--messages" not in words else ""
+
+
+def question(words):
+    """The two threads of a question, with the endpoints of `--by`."""
+    given = dict(zip(words[::2], words[1::2]))
+    return given["--never"] + (f" --by {given['--by']}" if "--by" in given else "")
 
 
 def asked_faults(program, never):
@@ -68,8 +74,17 @@ def asked_faults(program, never):
         met, report = run(program, ["check", "-"], text)
         if met != 0:
             yield f"check does not meet the witness:\n{report.decode()}"
-    if answer_of(never) == "excluded" and (status != 1 or not first.endswith(" excluded")):
+    answer, one_thread = answer_of(never), len(set(question(words).split()[0].split(","))) == 1
+    if one_thread and answer and status != 4:
+        yield f"status {status} of a thread and itself"
+    if not one_thread and answer.startswith("excluded") and (status != 1 or not first.endswith(f" {answer}")):
         yield f"status {status}, {first}"
+    if answer == "possible decided" and status != 0:
+        yield f"status {status}, {first}"
+    told = re.search(r" -> .* part \w+ (.+)$", first)
+    said = f"# {question(words)}: {'a witness' if status == 0 else told[1] if told else 'no question'}"
+    if answer.startswith("possible") and said not in setup.read_text().splitlines():
+        yield f"the set-up does not say {said!r}"
     if status not in (0, 1, 4):
         yield f"status {status}"
 

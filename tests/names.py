@@ -124,7 +124,7 @@ def told_parts(names, labels, text):
         (r"(grant|reply) (\d+) -> (\d+) -> (\d+)", lambda t: f"{t[1]} {part(t[2])} -> {names.endpoint(t[3])} -> {part(t[4])}"),
         (r"take (\d+) -> (\d+)", lambda t: f"take {part(t[1])} -> {part(t[2])}"),
         (rf"waiting {THREAD} -> (\d+) (badge \d+)", lambda t: f"waiting {names.thread(t[1])} -> {names.endpoint(t[2])} {t[3]}"),
-        (rf"never {THREAD} part (\w+) -> {THREAD} part (\w+) (\w+)", lambda t: f"never {names.thread(t[1])} part {part(t[2])} -> {names.thread(t[3])} part {part(t[4])} {t[5]}"),
+        (rf"never {THREAD} part (\w+) -> {THREAD} part (\w+) ([\w ]+)", lambda t: f"never {names.thread(t[1])} part {part(t[2])} -> {names.thread(t[3])} part {part(t[4])} {t[5]}"),
         (r"open (\d+)", lambda t: f"open {names.endpoint(t[1])}"),
         (r"  part (\d+) (memory .*)", lambda t: f"  part {part(t[1])} {t[2]}"),
         (r"  part (\d+) use (\d+) (badge .*)", lambda t: f"  part {part(t[1])} use {names.endpoint(t[2])} {t[3]}"),
@@ -140,7 +140,7 @@ def told_parts(names, labels, text):
 
 def part_of_one(text):
     """Whether two threads lie in one part: then a chain leads to a control block."""
-    told = re.search(r"^never \d+.* part (\w+) -> .* part (\w+) \w+$", text, re.M)
+    told = re.search(r"^never \d+.* part (\w+) -> .* part (\w+) [\w ]+$", text, re.M)
     return told and told[1] == told[2]
 
 

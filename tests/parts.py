@@ -1,14 +1,16 @@
 #!/usr/bin/env python3
 """parts.py PROGRAM FOLDER [COUNT]: random calls break nothing that `audit --never` calls excluded.
 
-Each layout NAME.toml of the FOLDER is asked, for each two of its threads, whether the one's part is kept from the other's, once with
-the threads that its NAME.args trusts as `--without`, and once with the same threads as `--messages`. Then COUNT lists of random calls
-(20 where no number is given) are made behind it: of threads in parts by any operation, and with `--messages` also sends and receives
-of the trusted threads. By the report of `check` no message of an excluded pair may have been delivered, and no slot of the one's part
-may hold a capability to an object that has a byte in the other's. The first list is also looked at with a pair's answer turned round:
-somewhere that has to show. A part that is told with `only messages` may get no capability. In every second list one part makes no
-calls, and where no line says that another may take slots from it, each of its slots holds what it held.
+Each layout NAME.toml of the FOLDER is asked, for each two of its threads, whether the one's part is kept from the other's, once with the
+threads that its NAME.args trusts as `--without`, and once with the same threads as `--messages`. Then COUNT lists of random calls (20 where
+no number is given) are made behind it: of threads in parts by any operation, and with `--messages` also sends and receives of the trusted
+threads. By the report of `check` no message of an excluded pair may have been delivered, and no slot of the one's part may hold a
+capability to an object that has a byte in the other's. The first list is also looked at with a pair's answer turned round: somewhere that
+has to show. Of threads that flows keep apart the first's messages may not be delivered to the second, and of threads of which it is decided
+that a message passes `audit --how` has to find the calls. A part that is told with `only messages` may get no capability. In every second
+list one part makes no calls, and where no line says that another may take slots from it, each of its slots holds what it held.
 """
+import itertools
 import pathlib
 import random
 import re
@@ -122,6 +124,12 @@ def broken(report, made, memory, pair, narrow):
                 yield line
 
 
+def delivered(report, made, one, other):
+    """The deliveries from the one thread to the other by the calls behind the first ones."""
+    calls = [line for line in report.splitlines() if re.match(r"\d+ \d+ \w+: ", line)]
+    return [line for line in calls[made:] if (told := DELIVERED.match(line)) and (int(told[2]), int(told[3])) == (one, other)]
+
+
 def tried(program, layout, how, who, count):
     """Looks at one layout with its trusted threads, and yields what is broken; also how much there was to look at."""
     text = layout.read_text()
@@ -133,11 +141,15 @@ def tried(program, layout, how, who, count):
     narrow = " narrow " in ever.splitlines()[0]
     made = int(re.search(r" after (\d+)", ever)[1])
     free = [int(word) for word in re.findall(rf"^{how} (\d+)", ever, re.M) if int(word) not in threads]
-    answers = {}
-    for one in threads:
-        for other in threads:
-            if one != other:
-                answers[threads[one], threads[other]] = " excluded" in run(program, ["audit", "--never", f"{one},{other}", *trust, "-"], text)
+    answers, apart = {}, []
+    for one, other in itertools.permutations(threads, 2):
+        told = run(program, ["audit", "--never", f"{one},{other}", *trust, "-"], text)
+        answers[threads[one], threads[other]] = " excluded\n" in told
+        if " excluded by flow\n" in told:
+            apart.append((one, other))
+        if " possible decided\n" in told and how == "without":
+            found = run(program, ["audit", "--how", f"{one},{other}", *trust, "-"], text)
+            yield True, [] if "expect = " in found else [f"{layout.name}: {one} -> {other} is decided, and --how says {found.strip()}"]
     alone, takes = only_messages(ever), {(int(one), int(other)) for one, other in TAKE.findall(ever)}
     before = held(run(program, ["check", "-"], text))
     for seed in range(count):
@@ -152,6 +164,8 @@ def tried(program, layout, how, who, count):
         report = run(program, ["check", "-"], text + "\n" + calls)
         kept = quiet if all(other != quiet for one, other in takes) else None
         yield True, [f"{layout.name} --{how} {seed}: {line}" for line in changed(before, held(report), memory, alone, kept)]
+        for one, other in apart:
+            yield True, [f"{layout.name} --{how} {seed}: flows keep {one} from {other}: {line}" for line in delivered(report, made, one, other)]
         for pair, excluded in answers.items():
             yield excluded, [f"{layout.name} --{how} {seed}: part {pair[0]} -> {pair[1]}: {line}" for line in broken(report, made, memory, pair, narrow)]
 

@@ -167,7 +167,6 @@ fn sought_unless_flow<P: Profile, S: MakeStore<P> + DerivationStore<P>, W: MakeW
 /// Whether it is excluded, in a kernel whose objects lie in its memory.
 fn excludes<P: Profile, S: MakeStore<P> + DerivationStore<P>, W: MakeWaiters<P>>(
     alloc: Global,
-    setup: &Setup,
     kernel: &Kernel<P, S, W>,
     asked: &Asked<'_>,
 ) -> Result<bool, AllocError>
@@ -176,7 +175,7 @@ fn excludes<P: Profile, S: MakeStore<P> + DerivationStore<P>, W: MakeWaiters<P>>
     ensures ruled { IfOk result (λ is. is ≡ true → (uses : List PartUseOf) → IsRuledOut P.profile (asking_of asked.now) uses kernel.now asked.now.what) }
     ensures inside { IfOk result (λ is. is ≡ false → IsInside P.profile (asking_of asked.now) kernel.now asked.now.what) }
 {
-    match is_excluded::<P, S, W>(alloc, setup, kernel, asked) {
+    match is_excluded::<P, S, W>(alloc, kernel, asked) {
         Ok(is) => Ok(is),
         Err(PartsFault::Memory) => Err(AllocError),
         Err(PartsFault::Block) => unreachable!(),
@@ -201,7 +200,7 @@ pub fn outcome_of<P: Profile, S: MakeStore<P> + DerivationStore<P>, W: MakeWaite
     ensures { IfOk result (λ outcome. (uses : List PartUseOf) → AreRightParts P.profile kernel.now asked.now.without.now asked.now.memory.now uses
         → spec.IsOutcome P.profile (asking_of asked.now) uses kernel.now behind.now.setup.now behind.now.made outcome) }
 {
-    if excludes::<P, S, W>(alloc, behind.setup, kernel, asked)? {
+    if excludes::<P, S, W>(alloc, kernel, asked)? {
         return Ok(Outcome::Without(NoWitness::Excluded));
     }
     let outcome = sought_unless_flow::<P, S, W>(alloc, behind, kernel, asked, most)?;

@@ -1,5 +1,6 @@
 pub mod Runs
 pub mod Never
+pub mod OfParts
 pub mod ByFlow
 pub mod Below
 pub mod Decided

@@ -1,19 +1,18 @@
 -- What is excluded no calls show.
-use Rattle.std.proofs.Common.{◌≡◌, ℕ, zero, suc, ◌+◌, ◌-◌, ◌⊎◌, inl, inr, Bool, true, false, not, ◌==◌, ◌&&◌, List, [], ◌∷◌, ◌++◌, length, take, Option, Some, None, refl, sym, ap, subst, ◌∙◌, arith}
+use Rattle.std.proofs.Common.{◌≡◌, ℕ, zero, suc, ◌+◌, ◌-◌, ◌⊎◌, inl, inr, Bool, true, false, not, ◌==◌, List, [], ◌∷◌, ◌++◌, length, Option, Some, None, refl, sym, ap, subst, ◌∙◌, arith}
 use Rattle.std.specs.Prelude.{slice_get, is_some}
 use Rattle.std.specs.List.{list_all, AllByRecursion as Each}
 use Rattle.std.proofs.lemmas.Bool.{false≢true, eqb-true}
 use Rattle.std.proofs.lemmas.Nat.{pow_pos}
 use Rattle.cap_core.specs.declared.profile.ProfileName.{ProfileName}
-use Rattle.cap_core.specs.declared.capability.Cap.TheVariants.{Null, Tcb}
+use Rattle.cap_core.specs.declared.capability.Cap.TheVariants.{Tcb}
 use Rattle.cap_core.specs.Numbers.{tcb_bits}
-use Rattle.kernel_forest.specs.Entries.{cap_at}
 use Rattle.kernel_delete.proofs.Members.{both_true}
 use Rattle.kernel_abstract.specs.declared.call.Call.{Call}
 use Rattle.kernel_abstract.specs.declared.call.Reply.{Reply}
 use Rattle.kernel_abstract.specs.declared.call.Reply.TheVariants.{Done, Delivered, Waiting, Dropped, Empty, Refused}
 use Rattle.kernel_abstract.specs.State.{State, shown}
-use Rattle.kernel_abstract.specs.Step.{step, replies_of, state_after}
+use Rattle.kernel_abstract.specs.Step.{replies_of, state_after}
 use Rattle.kernel_abstract.specs.Reached.{IsReached}
 use Rattle.kernel_abstract.proofs.Reached.Runs.{reached_after}
 use Rattle.query_parts.specs.declared.listed.PartMemory.{PartMemory}
@@ -29,10 +28,10 @@ use Rattle.command_parts.specs.Threads.{callers}
 use Rattle.query_parts.proofs.Taking.{takes_nothing, stay_none}
 use Rattle.query_reach.specs.Reaching.{Reaches}
 use Rattle.setup_report.specs.State.{is_in}
-use Rattle.command_never_text.specs.Kept.{TellsKept, AreThreadsKept}
+use Rattle.command_never_text.specs.Kept.{TellsKept}
 use Rattle.command_how_witness.specs.declared.asked.Happening.{Happening}
 use Rattle.command_how_witness.specs.declared.asked.Happening.TheVariants.{Message, Hold, Loss}
-use Rattle.command_how_witness.specs.Witness.{Asking, may_thread_call, is_caller, is_message, is_message_last, ShowsMessage, ShowsHold, ShowsLoss, ShowsIt}
+use Rattle.command_how_witness.specs.Witness.{Asking, is_caller, is_message, is_message_last, ShowsMessage, ShowsHold, ShowsLoss, ShowsIt}
 use Rattle.command_how_witness.specs.Excluded.{IsKept, IsOutside, LiesElsewhere, StandsApart, HasNoWitness}
 
 -- ---- the callers lie in parts

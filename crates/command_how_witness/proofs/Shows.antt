@@ -1,5 +1,5 @@
 -- The calls of a hold and of a loss show what they are for.
-use Rattle.std.proofs.Common.{◌≡◌, ℕ, Bool, true, ◌==◌, ◌&&◌, List, [], ◌∷◌, ◌++◌, Some, ap, sym, subst, ◌∙◌}
+use Rattle.std.proofs.Common.{◌≡◌, ℕ, true, ◌==◌, List, [], ◌∷◌, ◌++◌, Some, subst}
 use Rattle.std.specs.List.{list_all}
 use Rattle.std.proofs.lemmas.Bool.{eqb-true}
 use Rattle.cap_core.specs.declared.profile.ProfileName.{ProfileName}
@@ -8,7 +8,7 @@ use Rattle.kernel_abstract.specs.declared.call.Call.{Call}
 use Rattle.kernel_abstract.specs.Shown.{Shown}
 use Rattle.kernel_abstract.specs.State.{State, shown}
 use Rattle.kernel_abstract.specs.Step.{step, state_after}
-use Rattle.kernel_abstract.specs.Reached.{IsReached, StepsTo}
+use Rattle.kernel_abstract.specs.Reached.{IsReached}
 use Rattle.kernel_abstract.proofs.Reached.Runs.{reached_after}
 use Rattle.command_how_witness.specs.Witness.{Asking, is_caller, StayLive, held_word, Holds, Takes, ShowsHold, ShowsLoss}
 use Rattle.command_how_witness.specs.Private.{is_hold_called, is_loss_called}

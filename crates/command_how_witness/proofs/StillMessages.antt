@@ -61,10 +61,11 @@ use Rattle.command_never_text.specs.Never.{is_waiting_sender, is_waiting_receive
 use Rattle.command_never_text.specs.Waits.{waits}
 use Rattle.command_never_text.proofs.Had.{read_kept}
 use Rattle.command_never_text.proofs.Waiting.{sender_waits, receiver_waits}
+use Rattle.command_never_text.specs.Still.{LieInTwoStill}
 use Rattle.command_how_witness.specs.declared.asked.Happening.TheVariants as happening
 use Rattle.command_how_witness.specs.Witness.{Asking, IsShown, is_caller, is_badge, is_message, is_message_last, ShowsMessage, ShowsIt}
 use Rattle.command_how_witness.specs.Still.{HoldsEndpoint}
-use Rattle.command_how_witness.specs.StillDecided.{LieInTwoStill, IsShownAlone, IsDecidedWithBadge}
+use Rattle.command_how_witness.specs.StillDecided.{IsShownAlone, IsDecidedWithBadge}
 use Rattle.command_how_witness.proofs.Below.{part_is}
 use Rattle.command_how_witness.proofs.Never.{caller_in}
 use Rattle.command_how_witness.proofs.Groups.{is_number, number_is, is_number_of, Held, held_at, is_live, held_live, slot_in, part_in_group, not_live, use_had}
@@ -138,7 +139,7 @@ one_part : (o : Option ℕ) (a b : ℕ) → o ≡ Some a → o ≡ Some b → a 
 one_part o a b h g = let two : Some a ≡ Some b = sym h ∙ g in cc
 
 module _ (p : ProfileName) (q : Asking) (uses : List PartUse) (A : State) (reached : IsReached p A)
-    (right : AreRightParts p (shown A) q.without q.memory uses) (two : LieInTwoStill p q uses (shown A)) where
+    (right : AreRightParts p (shown A) q.without q.memory uses) (two : LieInTwoStill p q.without q.memory uses (shown A) q.from q.to) where
   abbrev parts : Parts
   parts = parts_listed q.memory uses
 

@@ -47,9 +47,9 @@ use Rattle.command_never_text.specs.Never.{has_bytes, is_use_of, is_open, is_wai
 use Rattle.command_never_text.specs.Waits.{wait_in, wait_of, waits}
 use Rattle.command_never_text.proofs.Had.{IsKeptRight, write_kept, read_kept}
 use Rattle.command_never_text.proofs.Kept.{now_closed}
+use Rattle.command_never_text.specs.Still.{IsReadyToPass, IsStill, LieInTwoStill}
 use Rattle.command_how_witness.specs.Witness.{Asking, may_thread_call}
-use Rattle.command_how_witness.specs.Still.{IsReadyToPass, IsStill, HoldsEndpoint}
-use Rattle.command_how_witness.specs.StillDecided.{LieInTwoStill}
+use Rattle.command_how_witness.specs.Still.{HoldsEndpoint}
 use Rattle.command_how_witness.proofs.Below.{is_the_part}
 use Rattle.command_how_witness.proofs.Decided.{has_byte}
 use Rattle.command_how_witness.proofs.Groups.{Held, IsMember, Standing, found, is_live, held_live, endpoint_named, split, split_closed, split_around, IsHeldBy, IsInGroup, IsMet, part_in_group, use_had, use_met, held_is_live, one_alone}
@@ -169,7 +169,7 @@ some_same : (a b : ℕ) → Some a ≡ Some b → a ≡ b
 some_same a b h = cc
 
 module _ (p : ProfileName) (q : Asking) (uses : List PartUse) (A : State) (reached : IsReached p A)
-    (right : AreRightParts p (shown A) q.without q.memory uses) (two : LieInTwoStill p q uses (shown A)) where
+    (right : AreRightParts p (shown A) q.without q.memory uses) (two : LieInTwoStill p q.without q.memory uses (shown A) q.from q.to) where
   abbrev parts : Parts
   parts = parts_listed q.memory uses
 

@@ -1,14 +1,12 @@
 -- Still parts: their threads can do nothing but send and receive, so what they can do is known from what they hold; and what they
 -- may pass to each other, passes.
-use Rattle.std.specs.Prelude.{◌≡◌, ◌≢◌, ◌⊎◌, ⊤, ℕ, ◌+◌, true, List, [], ◌∷◌, ◌++◌, length, Some, is_some}
+use Rattle.std.specs.Prelude.{◌≡◌, ◌≢◌, ◌⊎◌, ⊤, ℕ, ◌+◌, true, List, [], ◌∷◌, ◌++◌, length, Some}
 use Rattle.std.specs.List.{AllByRecursion as Each}
 use Rattle.cap_core.specs.declared.profile.ProfileName.{ProfileName}
 use Rattle.cap_core.specs.declared.capability.Badge.{Badge}
 use Rattle.cap_core.specs.declared.capability.Cap.TheVariants.{CNode, Endpoint}
-use Rattle.cap_core.specs.declared.capability.Guard.{Guard}
 use Rattle.cap_core.specs.declared.message.Message.{Message}
 use Rattle.cap_core.specs.declared.rights.Rights.{Rights}
-use Rattle.cap_core.specs.Numbers.{word_bits}
 use Rattle.cap_core.specs.Rights.{write_bit, read_bit}
 use Rattle.cspace_core.specs.Inside.{IsSlotOf}
 use Rattle.kernel_forest.specs.Forest.{Forest}
@@ -18,28 +16,13 @@ use Rattle.kernel_abstract.specs.declared.call.Op.{Op}
 use Rattle.kernel_abstract.specs.declared.call.Op.TheVariants.{Send, Recv}
 use Rattle.kernel_abstract.specs.declared.call.Reply.{Reply}
 use Rattle.kernel_abstract.specs.declared.call.Reply.TheVariants.{Delivered}
-use Rattle.kernel_abstract.specs.declared.call.ThreadState.TheVariants.{Ready}
 use Rattle.kernel_abstract.specs.Decode.{has_right}
 use Rattle.kernel_abstract.specs.Reached.{IsReached}
-use Rattle.kernel_abstract.specs.Shown.{Shown, state_at, waiting_at}
+use Rattle.kernel_abstract.specs.Shown.{Shown, waiting_at}
 use Rattle.kernel_abstract.specs.State.{State, shown}
 use Rattle.kernel_abstract.specs.Step.{replies_of, state_after}
 use Rattle.query_parts.specs.Parts.{Parts}
-use Rattle.query_parts.specs.Passing.{PassesAlone}
-
--- a thread is ready, and its root slot holds a CNode whose guard and radix have all bits of a word together
-pub record IsReadyToPass (p : ProfileName) (v : Shown) (thread : ℕ) : Type 0 where
-  pub base : ℕ
-  pub radix : ℕ
-  pub guard : Guard
-  pub ready : state_at v thread ≡ Some Ready
-  pub root : cap_at v.derivations thread ≡ CNode base radix guard
-  pub whole : guard.size + radix ≡ word_bits p
-
--- a part is still where its CNodes hold nothing but endpoints' capabilities, and each of its live threads is such
-pub record IsStill (p : ProfileName) (parts : Parts) (i : ℕ) (v : Shown) : Type 0 where
-  pub passes : PassesAlone p parts i v.derivations
-  pub threads : (thread : ℕ) → parts.part_of thread ≡ Some i → is_some (state_at v thread) ≡ true → IsReadyToPass p v thread
+use Rattle.command_never_text.specs.Still.{IsReadyToPass, IsStill}
 
 -- a call is of a thread of a still part
 abbrev pub IsOfStillPart : ProfileName → Parts → Shown → Call → Type 0

@@ -1,5 +1,5 @@
 -- A text that is a witness: what it is read as.
-use Rattle.std.specs.Prelude.{◌≡◌, ◌≤◌, ℕ, nat_le, List, map, take, drop, length, slice_get, option_and_then, is_some, Ok, Some}
+use Rattle.std.specs.Prelude.{◌≡◌, ◌≤◌, ℕ, nat_le, List, map, take, drop, length, slice_get, is_some, Ok, Some}
 use Rattle.cap_core.specs.declared.profile.ProfileName.{ProfileName}
 use Rattle.kernel_abstract.specs.declared.call.Call.{Call}
 use Rattle.kernel_abstract.specs.declared.call.Reply.{Reply}

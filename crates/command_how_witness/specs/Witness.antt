@@ -1,5 +1,5 @@
 -- What calls show: that a message passes from one thread to another, that the one holds the other, or takes something from it.
-use Rattle.std.specs.Prelude.{◌≡◌, ℕ, ◌≤◌, ◌==◌, ◌&&◌, ◌⊎◌, Bool, true, false, not, List, [], ◌∷◌, ◌++◌, map, take, length, slice_get, ◌-◌, Option, Some, None, is_some}
+use Rattle.std.specs.Prelude.{◌≡◌, ℕ, ◌≤◌, ◌==◌, ◌&&◌, ◌⊎◌, Bool, true, false, not, List, [], ◌∷◌, ◌++◌, take, length, slice_get, ◌-◌, Option, Some, None, is_some}
 use Rattle.std.specs.List.{list_all}
 use Rattle.cap_core.specs.declared.profile.ProfileName.{ProfileName}
 use Rattle.cap_core.specs.declared.capability.Cap.TheVariants.{Null, Tcb}

@@ -9,36 +9,30 @@ ghost use Rattle.query_parts.specs.Listed.{parts_listed};
 ghost use Rattle.query_parts.specs.Below.{StandsNoneBelow};
 ghost use Rattle.kernel_abstract.specs.Memory.{IsInMemory};
 ghost use Rattle.command_never_text.specs.declared.never.Never.TheVariants.{Excluded as ExcludedOf, Possible as PossibleOf};
+ghost use Rattle.command_never_text.specs.Answer.{is_excluded as is_excluded_of};
 ghost use Rattle.command_how_witness.specs.Witness.{asking_of};
 ghost use Rattle.command_how_witness.specs.Excluded.{IsKept, IsNeverSaid, IsOutside, IsRuledOut, IsInside, StandsOneBelow, TakesFrom};
 ghost use Rattle.command_how_witness.specs.Private as spec;
 
 use crate::asked::{Asked, Happening};
 use cap_core::Profile;
-use command_never_text::{Never, never_gets};
-use command_parts::{Heading, is_in, is_of_part};
+use command_never_text::{Never, never_by_parts};
+use command_parts::{is_in, is_of_part};
 use ipc_core::MakeWaiters;
 use kernel_core::Kernel;
 use query_parts::{PartMemory, PartsFault, part_at};
-use setup_format::Setup;
-use setup_naming::Naming;
 use slot_core::{Derivation, DerivationStore, MakeStore};
 use std::alloc::{AllocError, Global};
 
 fn is_excluded_by(answer: Never) -> bool
-    ensures excluded { result ≡ true → answer ≡ ExcludedOf }
-    ensures possible { result ≡ false → answer ≡ PossibleOf }
+    ensures { result ≡ is_excluded_of answer }
 {
-    match answer {
-        Never::Excluded => true,
-        Never::Possible => false,
-    }
+    matches!(answer, Never::Excluded)
 }
 
 /// Whether the part of the one thread is kept from that of the other, but by the endpoints that are named.
 fn is_kept<P: Profile, S: MakeStore<P> + DerivationStore<P>, W: MakeWaiters<P>>(
     alloc: Global,
-    setup: &Setup,
     kernel: &Kernel<P, S, W>,
     asked: &Asked<'_>,
 ) -> Result<bool, PartsFault>
@@ -47,20 +41,15 @@ fn is_kept<P: Profile, S: MakeStore<P> + DerivationStore<P>, W: MakeWaiters<P>>(
     ensures possible { IfOk result (λ is. is ≡ false → IsNeverSaid P.profile (asking_of asked.now) kernel.now PossibleOf) }
     ensures fault { IfErr result (λ fault. fault ≡ PartsFault.Block → (memory : ℕ) → IsInMemory P.profile memory kernel.now → ⊥) }
 {
-    let heading = Heading {
-        setup,
-        made: 0,
-        refused: 0,
-        without: asked.without,
-        messages: &[],
-    };
-    let naming = Naming::Addresses(&[]);
-    match never_gets::<P, S, W>(
-        alloc, &naming, &heading, asked.from, asked.to, asked.by, kernel,
-    ) {
-        Ok((_, answer)) => Ok(is_excluded_by(answer)),
-        Err(fault) => Err(fault),
-    }
+    let Asked {
+        without,
+        from,
+        to,
+        by,
+        ..
+    } = *asked;
+    let answer = never_by_parts::<P, S, W>(alloc, without, from, to, by, kernel)?;
+    Ok(is_excluded_by(answer))
 }
 
 /// Whether the one thread lies in no part, or the other does not lie in its part.
@@ -175,7 +164,7 @@ fn is_loss_excluded<P: Profile, S: MakeStore<P> + DerivationStore<P>, W: MakeWai
     }
 }
 
-/// Whether the laws say that it can't happen from the state of a kernel, to which calls of a set-up led.
+/// Whether the laws say that it can't happen from the state of a kernel.
 ///
 /// # Errors
 ///
@@ -183,7 +172,6 @@ fn is_loss_excluded<P: Profile, S: MakeStore<P> + DerivationStore<P>, W: MakeWai
 /// whose objects lie in its memory has such a thread (`fault`).
 pub fn is_excluded<P: Profile, S: MakeStore<P> + DerivationStore<P>, W: MakeWaiters<P>>(
     alloc: Global,
-    setup: &Setup,
     kernel: &Kernel<P, S, W>,
     asked: &Asked<'_>,
 ) -> Result<bool, PartsFault>
@@ -193,7 +181,7 @@ pub fn is_excluded<P: Profile, S: MakeStore<P> + DerivationStore<P>, W: MakeWait
     ensures fault { IfErr result (λ fault. fault ≡ PartsFault.Block → (memory : ℕ) → IsInMemory P.profile memory kernel.now → ⊥) }
 {
     match asked.what {
-        Happening::Message => is_kept::<P, S, W>(alloc, setup, kernel, asked),
+        Happening::Message => is_kept::<P, S, W>(alloc, kernel, asked),
         Happening::Hold => Ok(is_hold_excluded(asked)),
         Happening::Loss => Ok(is_loss_excluded::<P, S, W>(alloc, kernel, asked)?),
     }

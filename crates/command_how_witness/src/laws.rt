@@ -10,7 +10,7 @@ ghost use Rattle.query_parts.specs.Parts.{Parts};
 ghost use Rattle.command_how_witness.specs.Witness.{Asking};
 ghost use Rattle.command_how_witness.specs.Excluded.{HasNoWitness, HasNoWitnessByFlow, IsOnlyOne};
 ghost use Rattle.command_how_witness.specs.Still.{ChangesNoSlot, CanPass};
-ghost use Rattle.command_how_witness.specs.StillDecided.{IsDecided, IsDecidedWithBadge};
+ghost use Rattle.command_how_witness.specs.StillDecided.{IsDecided, IsDecidedWithBadge, IsToldDecided};
 
 /// Where it is excluded, no calls show it: there is never a witness and *excluded* of one question.
 pub fn what_is_excluded_has_no_witness()
@@ -49,4 +49,9 @@ pub fn still_parts_are_decided()
 /// receives of the other alone do.
 pub fn still_parts_are_decided_with_badge()
     ensures { (p : ProfileName) (q : Asking) (uses : List PartUse) (A : State) → IsDecidedWithBadge p q uses A }
+{}
+
+/// Where `--never` answers `possible decided`, such a message happens: sends of the one thread and receives of the other alone show it.
+pub fn what_is_told_decided_is_shown()
+    ensures { (p : ProfileName) (q : Asking) (uses : List PartUse) (A : State) → IsToldDecided p q uses A }
 {}

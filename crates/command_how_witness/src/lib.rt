@@ -17,7 +17,7 @@ pub use excluded::is_excluded;
 pub use laws::{
     still_parts_are_decided, still_parts_are_decided_with_badge, still_parts_can_pass,
     still_parts_change_no_slot, what_a_flow_excludes_has_no_witness,
-    what_is_excluded_has_no_witness, what_is_excluded_is_decided,
+    what_is_excluded_has_no_witness, what_is_excluded_is_decided, what_is_told_decided_is_shown,
 };
 pub use shown::{is_message, is_shown};
 pub use text::is_witness_text;

@@ -7,7 +7,7 @@ use Rattle.kernel_abstract.specs.State.{State, shown}
 use Rattle.setup_values.specs.Names.{Names}
 use Rattle.setup_format.specs.Views.{SetupView}
 use Rattle.command_never_text.specs.declared.never.Never.{Never}
-use Rattle.command_never_text.specs.declared.never.Never.TheVariants.{Excluded, Possible}
+use Rattle.command_never_text.specs.declared.never.Never.TheVariants.{Excluded, ExcludedByFlow, Possible, Decided}
 use Rattle.kernel_abstract.specs.Plan.{Plan}
 use Rattle.setup_objects.specs.declared.meant.ObjectKind.TheVariants.{Thread, Endpoint}
 use Rattle.setup_objects.specs.Meant.{object_meant, are_meant}
@@ -40,7 +40,9 @@ asked_never q = record {
 
 abbrev pub never_verdict : Never → Verdict
 never_verdict Excluded = AllMet
+never_verdict ExcludedByFlow = AllMet
 never_verdict Possible = NotMet
+never_verdict Decided = NotMet
 
 -- nothing is written
 abbrev pub IsAbsent : List ℕ → Verdict → Type 0

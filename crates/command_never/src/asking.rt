@@ -30,8 +30,8 @@ use std::alloc::{AllocError, Global};
 /// its name, or by a slot of the root CNode (`object_meant`).
 ///
 /// The verdict is `AllMet` where it is excluded that the one part ever gets a capability to an object that has bytes in the
-/// other's memory, or that a message of it is ever delivered there, but by the endpoints that are named; `NotMet` where that
-/// is not excluded; or `Absent` with nothing written: where the set-up has fewer calls, where a word stands for nothing of its kind,
+/// other's memory, or that a message of it is ever delivered there, but by the endpoints that are named, and where flows exclude it
+/// of the two threads (`Never::ExcludedByFlow`); `NotMet` where that is not excluded; or `Absent` with nothing written: where the set-up has fewer calls, where a word stands for nothing of its kind,
 /// and where no thread is live at `from` or at `to`.
 #[derive(Clone, Copy, Drop)]
 pub struct Question<'a> {
@@ -48,8 +48,8 @@ fn verdict_of(answer: Never) -> Verdict
     ensures { result ≡ spec.never_verdict answer }
 {
     match answer {
-        Never::Excluded => Verdict::AllMet,
-        Never::Possible => Verdict::NotMet,
+        Never::Excluded | Never::ExcludedByFlow => Verdict::AllMet,
+        Never::Possible | Never::Decided => Verdict::NotMet,
     }
 }
 
@@ -72,6 +72,7 @@ fn answer_between<P: Profile, S: DerivationStore<P> + Drop, W: Waiters<P> + Drop
     from: u64,
     to: u64,
     by: &[u64],
+    asks_flows: bool,
     kernel: &Kernel<P, S, W>,
 ) -> Result<Answer, AllocError>
     requires live { spec.are_live kernel.now from to ≡ true }
@@ -79,11 +80,17 @@ fn answer_between<P: Profile, S: DerivationStore<P> + Drop, W: Waiters<P> + Drop
     ensures { IfOk result (λ made. spec.IsAnsweredOf P.profile (naming_view naming.now) heading.now.setup.now heading.now.made heading.now.refused
         heading.now.without.now heading.now.messages.now kernel.now by.now from to made.text.items made.verdict) }
 {
-    match never_gets::<P, S, W>(alloc, naming, heading, from, to, by, kernel) {
+    match never_gets::<P, S, W>(alloc, naming, heading, from, to, by, asks_flows, kernel) {
         Ok((text, answer)) => Ok(Answer::new(alloc, text, verdict_of(answer))),
         Err(PartsFault::Memory) => Err(AllocError),
         Err(PartsFault::Block) => unreachable!(),
     }
+}
+
+/// Whether `import --flows` made the set-up, which names a CNode for the slots of each thread. There a thread also uses what no word of
+/// it leads to, as a frame that it maps, so flows, which go by words, are not asked.
+fn counts_all_objects(names: &[Name]) -> bool {
+    names.iter().any(|name| name.text.as_str().ends_with(".slots"))
 }
 
 /// An answer of which a text is told, where there is one: nothing is written.
@@ -136,7 +143,8 @@ impl Question<'_> {
             messages: messages.as_slice(),
         };
         let by = by.as_slice();
-        answer_between::<P, S, W>(alloc, naming, &heading, from, to, by, kernel)
+        let asks_flows = !counts_all_objects(names);
+        answer_between::<P, S, W>(alloc, naming, &heading, from, to, by, asks_flows, kernel)
     }
 
     /// What is told where no thread is live at one of the two addresses.

@@ -41,7 +41,7 @@ named_above p above (tree a under others) =
     ∙ sym (filter_map-append tcb_base (map (λ (e : Entry). e.cap) (preorder under)) (map (λ (e : Entry). e.cap) (preorder others)))
     ∙ ap (filter_map tcb_base) (sym (map-append (λ (e : Entry). e.cap) (preorder under) (preorder others))))
 
-live_told : (p : ProfileName) (A : State) (t : ℕ) → list_any (λ k. t == k) (threads_of A.derivations) ≡ true → is_in t (threads p (shown A)) ≡ true
+pub live_told : (p : ProfileName) (A : State) (t : ℕ) → list_any (λ k. t == k) (threads_of A.derivations) ≡ true → is_in t (threads p (shown A)) ≡ true
 unfolding shown
 live_told p A t live =
     any_rising (λ k. t == k) (named p NamedObject.Thread (derivations_of A.derivations))

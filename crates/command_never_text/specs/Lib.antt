@@ -1,7 +1,10 @@
--- Whether one thread's part is kept from another's: Waits has who waits on an endpoint, Never the answer, Kept what it promises,
--- Chains which chains of slots are told, and Open the text of an answer.
+-- Whether one thread's part is kept from another's: Waits has who waits on an endpoint, Never the answer of parts, Kept what it
+-- promises, Still what parts are still, Answer what other answers stand on, Chains which chains of slots are told, and Open the text of
+-- an answer.
 pub mod Waits
 pub mod Never
 pub mod Kept
+pub mod Still
+pub mod Answer
 pub mod Chains
 pub mod Open

@@ -1,6 +1,6 @@
 -- Whether one thread's part is kept from another's: that it can never get a capability to an object that has bytes in that
 -- part's memory, and that no message of it is ever delivered there, but by the endpoints that are named.
-use Rattle.std.specs.Prelude.{ℕ, ◌+◌, ◌==◌, ◌&&◌, ◌||◌, nat_le, nat_lt, Bool, not, cond, List, map, ◌++◌, Option, Some, None}
+use Rattle.std.specs.Prelude.{ℕ, ◌+◌, ◌==◌, ◌&&◌, ◌||◌, nat_le, nat_lt, Bool, not, cond, List, filter, map, ◌++◌, Option, Some, None}
 use Rattle.std.specs.List.{list_any}
 use Rattle.cap_core.specs.declared.profile.ProfileName.{ProfileName}
 use Rattle.cap_core.specs.Numbers.{endpoint_size}
@@ -60,6 +60,10 @@ is_open p memory uses waits by i j endpoint =
 -- the endpoints of which a part has a use, and those on which a thread waits: no other is open between two parts
 abbrev pub endpoints_met : List PartUse → List Wait → List ℕ
 endpoints_met uses waits = rising (map (λ (u : PartUse). u.endpoint) uses ++ map (λ (w : Wait). w.endpoint) waits)
+
+-- those that are open
+abbrev pub open_endpoints : ProfileName → List PartMemory → List PartUse → List Wait → List ℕ → ℕ → ℕ → List ℕ
+open_endpoints p memory uses waits by i j = filter (is_open p memory uses waits by i j) (endpoints_met uses waits)
 
 -- they are one part, or an endpoint is open
 abbrev pub are_open : ProfileName → List PartMemory → List PartUse → List Wait → List ℕ → ℕ → ℕ → Bool

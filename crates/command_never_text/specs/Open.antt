@@ -14,7 +14,7 @@ use Rattle.setup_report.specs.Text.{rights_text}
 use Rattle.setup_report.specs.Report.{terminated}
 use Rattle.command_never_text.specs.declared.waits.Wait.{Wait}
 use Rattle.command_never_text.specs.declared.never.Never.{Never}
-use Rattle.command_never_text.specs.declared.never.Never.TheVariants.{Excluded, Possible}
+use Rattle.command_never_text.specs.declared.never.Never.TheVariants.{Excluded, ExcludedByFlow, Possible, Decided}
 use Rattle.setup_format.specs.Views.{SetupView}
 use Rattle.setup_report.specs.State.{is_in, endpoints, threads}
 use Rattle.setup_naming.specs.Naming.{Texts}
@@ -25,6 +25,7 @@ use Rattle.command_never_text.specs.Waits.{waits}
 use Rattle.command_never_text.specs.Never.{has_some, is_use_of, is_waiting_sender, is_waiting_receiver, is_open, endpoints_met, never}
 use Rattle.command_parts.specs.Ever.{AreRightParts}
 use Rattle.command_never_text.specs.Kept.{AreThreadsKept}
+use Rattle.command_never_text.specs.Answer.{is_excluded, IsFounded}
 use Rattle.command_never_text.specs.Chains.{AreChains}
 
 -- ---- the endpoints that are allowed; and the answer: the threads with their parts
@@ -45,7 +46,9 @@ part_or_none_told (Some told) = part_told_as told
 
 abbrev pub never_word : Never → List ℕ
 never_word Excluded = codes "excluded"
+never_word ExcludedByFlow = codes "excluded by flow"
 never_word Possible = codes "possible"
+never_word Decided = codes "possible decided"
 
 abbrev pub answer_line : PartTexts → List PartMemory → ℕ → ℕ → Never → List ℕ
 answer_line told memory from to answer =
@@ -120,32 +123,33 @@ taken_between told memory v (Some i) (Some j) = cond (i == j) [] (takes_between 
 
 -- ---- all of it
 
-abbrev pub lines_of_answer : ProfileName → PartTexts → List PartMemory → List PartUse → Shown → List ℕ → ℕ → ℕ → List ℕ
-lines_of_answer p told memory uses v by from to =
-    answer_line told memory from to (never p memory uses (waits p v) by from to)
+abbrev pub lines_of_answer : ProfileName → PartTexts → List PartMemory → List PartUse → Shown → List ℕ → ℕ → ℕ → Never → List ℕ
+lines_of_answer p told memory uses v by from to answer =
+    answer_line told memory from to answer
     ++ (lines_between p told memory uses v by (part_at memory from) (part_at memory to)
     ++ (sel4_between told p memory uses (part_at memory from) (part_at memory to)
     ++ taken_between told memory v (part_at memory from) (part_at memory to)))
 
-unfoldable pub never_text : ProfileName → PartTexts → SetupView → ℕ → ℕ → List ℕ → List ℕ → List PartMemory → List PartUse → Shown → List ℕ → ℕ → ℕ → List ℕ
-never_text p told setup made refused without messages memory uses v by from to =
-    head_lines (codes "never") told.texts setup made refused without messages v
-    ++ (flat_map (allowed_line told (endpoints p v)) by ++ lines_of_answer p told memory uses v by from to)
+unfoldable pub never_text : ProfileName → PartTexts → SetupView → ℕ → ℕ → List ℕ → List ℕ → List PartMemory → List PartUse → Shown → List ℕ → ℕ → ℕ → Never → List ℕ
+never_text p told setup made refused without messages memory uses v by from to answer =
+    head_lines (codes "never 4") told.texts setup made refused without messages v
+    ++ (flat_map (allowed_line told (endpoints p v)) by ++ lines_of_answer p told memory uses v by from to answer)
 
 -- that text, with the chains behind it
 pub record IsNeverText (p : ProfileName) (told : PartTexts) (setup : SetupView) (made refused : ℕ) (without messages : List ℕ) (memory : List PartMemory)
-    (uses : List PartUse) (v : Shown) (by : List ℕ) (from to : ℕ) (text : List ℕ) : Type 0 where
+    (uses : List PartUse) (v : Shown) (by : List ℕ) (from to : ℕ) (answer : Never) (text : List ℕ) : Type 0 where
   pub chains : List ℕ
   pub are_chains : AreChains p told.texts memory uses v by from to chains
-  pub lines : text ≡ never_text p told setup made refused without messages memory uses v by from to ++ chains
+  pub lines : text ≡ never_text p told setup made refused without messages memory uses v by from to answer ++ chains
 
--- the text and the answer, of parts that may be written; and where the answer is that it is excluded, the one thread's part is kept
--- from the other's
+-- the text and the answer, of parts that may be written: it is excluded where the parts exclude it, and the one thread's part is kept
+-- from the other's then; each other answer has what it stands on
 pub record IsNeverOf (p : ProfileName) (texts : Texts) (setup : SetupView) (made refused : ℕ) (without messages : List ℕ) (v : Shown) (by : List ℕ)
     (from to : ℕ) (text : List ℕ) (answer : Never) : Type 0 where
   pub memory : List PartMemory
   pub uses : List PartUse
   pub right : AreRightParts p v (without ++ messages) memory uses
-  pub told : IsNeverText p (part_texts texts memory (threads p v)) setup made refused without messages memory uses v by from to text
-  pub answered : answer ≡ never p memory uses (waits p v) by from to
+  pub told : IsNeverText p (part_texts texts memory (threads p v)) setup made refused without messages memory uses v by from to answer text
+  pub answered : is_excluded answer ≡ is_excluded (never p memory uses (waits p v) by from to)
   pub kept : answer ≡ Excluded → AreThreadsKept p memory uses v by from to
+  pub founded : IsFounded p (without ++ messages) memory v by from to answer

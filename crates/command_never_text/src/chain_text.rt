@@ -9,7 +9,7 @@ ghost use Rattle.cap_core.specs.Numbers.{tcb_size as tcb_size_of};
 ghost use Rattle.command_never_text.specs.Never as answers;
 ghost use Rattle.command_never_text.specs.Chains as spec;
 
-use crate::never::{Between, Layout, endpoint_size, endpoints_met, has_bytes, is_open};
+use crate::never::{Between, Layout, endpoint_size, has_bytes, open_endpoints};
 use cap_core::Profile;
 use command_parts::PartNaming;
 use query_parts::PartMemory;
@@ -117,19 +117,6 @@ fn chains_within<P: Profile>(
     Ok(there)
 }
 
-fn first_open<P: Profile>(
-    layout: &Layout<'_>,
-    between: &Between<'_>,
-    endpoints: &[u64],
-) -> Option<u64>
-    ensures { result ≡ find (answers.is_open P.profile layout.now.memory.now layout.now.uses.now layout.now.waits.now between.now.by.now between.now.from between.now.to) endpoints.now }
-{
-    endpoints
-        .iter()
-        .find(|endpoint| is_open::<P>(layout, between, **endpoint))
-        .copied()
-}
-
 /// What a chain to an endpoint that is open to a part is to come to.
 fn open_endpoint<P: Profile>(memory: &[PartMemory], part: u64, endpoint: u64) -> Target
     ensures { result ≡ spec.open_endpoint P.profile memory.now part endpoint }
@@ -191,8 +178,8 @@ fn chain_between_parts<P: Profile>(
     ensures { IfOk result (λ text. (f : Forest Entry) → AreFullSlots f filled.now → spec.IsChainToOpen P.profile (part_naming_view told.now).texts f layout.now.memory.now between.now.to from
         (find (answers.is_open P.profile layout.now.memory.now layout.now.uses.now layout.now.waits.now between.now.by.now between.now.from between.now.to) (answers.endpoints_met layout.now.uses.now layout.now.waits.now)) (string_bytes text)) }
 {
-    let endpoints = endpoints_met(alloc, layout)?;
-    let first = first_open::<P>(layout, between, endpoints.as_slice());
+    let open = open_endpoints::<P>(alloc, layout, between)?;
+    let first = open.as_slice().first().copied();
     chain_to_open::<P>(alloc, told, filled, layout.memory, between.to, from, first)
 }
 

@@ -1,14 +1,16 @@
 //! Whether one part is kept from another, but for the endpoints that are named.
-ghost use Rattle.std.specs.Prelude.{◌≡◌, IfOk};
+ghost use Rattle.std.specs.Prelude.{◌≡◌, ℕ, IfOk, filter};
 ghost use Rattle.std.specs.List.{list_any};
 ghost use Rattle.cap_core.specs.Numbers.{endpoint_size as endpoint_size_of};
+ghost use Rattle.query_parts.specs.declared.keyed.UseKey.TheVariants as UseKeyOf;
+ghost use Rattle.query_parts.specs.Keyed.{AreByKey, has_key};
 ghost use Rattle.query_parts.specs.Listed as listed;
 ghost use Rattle.command_never_text.specs.Never as spec;
 
 use crate::waits::Wait;
 use cap_core::Profile;
-use command_parts::{has_use_to_receive, has_use_to_send, is_in, is_of_part, rising};
-use query_parts::{PartMemory, PartUse};
+use command_parts::{has_use_to_receive, has_use_to_send, is_in, is_of_part, rising, uses_on};
+use query_parts::{PartMemory, PartUse, UseKey, part_at, uses_by_key};
 use std::alloc::{AllocError, Global};
 
 /// Whether a thread's part is kept from another's, whatever calls threads make that are not trusted to make no more.
@@ -17,8 +19,13 @@ pub enum Never {
     /// The part never gets a capability to an object that has bytes in the other's memory, and no message of it is ever
     /// delivered there, but by the endpoints that are named.
     Excluded,
+    /// The parts do not exclude it, but flows do: no message of the thread is ever delivered to the other, but by the endpoints that
+    /// are named, and no word of it ever leads to the other's control block.
+    ExcludedByFlow,
     /// That is not excluded.
     Possible,
+    /// It happens: both parts are still, and sends of the one thread and receives of the other alone show such a message.
+    Decided,
 }
 
 /// Parts, and the threads that wait.
@@ -123,7 +130,7 @@ fn may_receive_on<P: Profile>(layout: &Layout<'_>, part: u64, endpoint: u64) -> 
 }
 
 /// Whether an endpoint that is not named is open from the one part to the other.
-pub fn is_open<P: Profile>(layout: &Layout<'_>, between: &Between<'_>, endpoint: u64) -> bool
+fn is_open<P: Profile>(layout: &Layout<'_>, between: &Between<'_>, endpoint: u64) -> bool
     ensures { result ≡ spec.is_open P.profile layout.now.memory.now layout.now.uses.now layout.now.waits.now between.now.by.now between.now.from between.now.to endpoint }
 {
     let takes = has_use_of(layout.uses, between.from, endpoint)
@@ -134,11 +141,7 @@ pub fn is_open<P: Profile>(layout: &Layout<'_>, between: &Between<'_>, endpoint:
 }
 
 /// The endpoints of which a part has a use, and those on which a thread waits.
-///
-/// # Errors
-///
-/// Memory was refused.
-pub fn endpoints_met(alloc: Global, layout: &Layout<'_>) -> Result<Vec<u64>, AllocError>
+fn endpoints_met(alloc: Global, layout: &Layout<'_>) -> Result<Vec<u64>, AllocError>
     ensures { IfOk result (λ v. v.items ≡ spec.endpoints_met layout.now.uses.now layout.now.waits.now) }
 {
     let mut endpoints: Vec<u64> = layout.uses.iter().map(|u| u.endpoint).collect(alloc)?;
@@ -147,39 +150,94 @@ pub fn endpoints_met(alloc: Global, layout: &Layout<'_>) -> Result<Vec<u64>, All
     rising(alloc, endpoints.as_slice())
 }
 
-fn is_one_open<P: Profile>(layout: &Layout<'_>, between: &Between<'_>, endpoints: &[u64]) -> bool
-    ensures { result ≡ list_any (spec.is_open P.profile layout.now.memory.now layout.now.uses.now layout.now.waits.now between.now.by.now between.now.from between.now.to) endpoints.now }
+/// Whether an endpoint is open, by the uses of parts by rising endpoint.
+fn is_open_by<P: Profile>(
+    layout: &Layout<'_>,
+    by_endpoint: &[PartUse],
+    between: &Between<'_>,
+    endpoint: u64,
+) -> bool
+    requires order { AreByKey UseKeyOf.Endpoint by_endpoint.now }
+    requires same { (n : ℕ) → filter (has_key UseKeyOf.Endpoint n) by_endpoint.now ≡ filter (has_key UseKeyOf.Endpoint n) layout.now.uses.now }
+    ensures { result ≡ spec.is_open P.profile layout.now.memory.now layout.now.uses.now layout.now.waits.now between.now.by.now between.now.from between.now.to endpoint }
 {
-    endpoints
-        .iter()
-        .any(|endpoint| is_open::<P>(layout, between, *endpoint))
+    let here = Layout {
+        uses: uses_on(by_endpoint, endpoint),
+        ..*layout
+    };
+    is_open::<P>(&here, between, endpoint)
+}
+
+/// Those of some endpoints that are open.
+fn open_of<P: Profile>(
+    alloc: Global,
+    layout: &Layout<'_>,
+    between: &Between<'_>,
+    endpoints: &[u64],
+) -> Result<Vec<u64>, AllocError>
+    ensures { IfOk result (λ v. v.items ≡ filter (spec.is_open P.profile layout.now.memory.now layout.now.uses.now layout.now.waits.now between.now.by.now between.now.from between.now.to) endpoints.now) }
+{
+    let by_endpoint = uses_by_key(alloc, layout.uses, UseKey::Endpoint)?;
+    let mut open = Vec::new(alloc);
+    for endpoint in endpoints {
+        if is_open_by::<P>(layout, by_endpoint.as_slice(), between, *endpoint) {
+            open.push(*endpoint)?;
+        }
+    }
+    Ok(open)
+}
+
+/// The endpoints that are open from the one part to the other.
+///
+/// # Errors
+///
+/// Memory was refused.
+pub fn open_endpoints<P: Profile>(
+    alloc: Global,
+    layout: &Layout<'_>,
+    between: &Between<'_>,
+) -> Result<Vec<u64>, AllocError>
+    ensures { IfOk result (λ v. v.items ≡ spec.open_endpoints P.profile layout.now.memory.now layout.now.uses.now layout.now.waits.now between.now.by.now between.now.from between.now.to) }
+{
+    let endpoints = endpoints_met(alloc, layout)?;
+    open_of::<P>(alloc, layout, between, endpoints.as_slice())
 }
 
 /// Whether they are one part, or an endpoint is open from the one to the other.
-pub fn are_open<P: Profile>(layout: &Layout<'_>, between: &Between<'_>, endpoints: &[u64]) -> bool
-    requires { endpoints.now ≡ spec.endpoints_met layout.now.uses.now layout.now.waits.now }
-    ensures { result ≡ spec.are_open P.profile layout.now.memory.now layout.now.uses.now layout.now.waits.now between.now.by.now between.now.from between.now.to }
+fn are_open<P: Profile>(
+    alloc: Global,
+    layout: &Layout<'_>,
+    between: &Between<'_>,
+) -> Result<bool, AllocError>
+    ensures { IfOk result (λ is. is ≡ spec.are_open P.profile layout.now.memory.now layout.now.uses.now layout.now.waits.now between.now.by.now between.now.from between.now.to) }
 {
-    between.from == between.to || is_one_open::<P>(layout, between, endpoints)
+    if between.from == between.to {
+        return Ok(true);
+    }
+    let open = open_endpoints::<P>(alloc, layout, between)?;
+    Ok(!open.is_empty())
 }
 
-/// The answer for the parts of two threads.
-pub fn never_between<P: Profile>(
+/// What parts answer of two threads: that it is excluded, or that it is possible.
+///
+/// # Errors
+///
+/// Memory was refused.
+pub fn never_of_parts<P: Profile>(
+    alloc: Global,
     layout: &Layout<'_>,
-    endpoints: &[u64],
     by: &[u64],
-    from: Option<u64>,
-    to: Option<u64>,
-) -> Never
-    requires { endpoints.now ≡ spec.endpoints_met layout.now.uses.now layout.now.waits.now }
-    ensures { result ≡ spec.never_between P.profile layout.now.memory.now layout.now.uses.now layout.now.waits.now by.now from to }
+    from: u64,
+    to: u64,
+) -> Result<Never, AllocError>
+    ensures { IfOk result (λ answer. answer ≡ spec.never P.profile layout.now.memory.now layout.now.uses.now layout.now.waits.now by.now from to) }
 {
-    let (Some(from), Some(to)) = (from, to) else {
-        return Never::Possible;
+    let (Some(from), Some(to)) = (part_at(layout.memory, from), part_at(layout.memory, to)) else {
+        return Ok(Never::Possible);
     };
-    if are_open::<P>(layout, &Between { from, to, by }, endpoints) {
-        Never::Possible
+    if are_open::<P>(alloc, layout, &Between { from, to, by })? {
+        Ok(Never::Possible)
     } else {
-        Never::Excluded
+        Ok(Never::Excluded)
     }
 }

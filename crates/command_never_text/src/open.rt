@@ -7,28 +7,29 @@ ghost use Rattle.query_reach.specs.FullSlots.{AreFullSlots};
 ghost use Rattle.setup_naming.specs.Naming.{naming_view};
 ghost use Rattle.command_parts.specs.Telling.{part_naming_view};
 ghost use Rattle.query_parts.specs.Listed as listed_at;
-ghost use Rattle.command_never_text.specs.Never as answers;
 ghost use Rattle.command_never_text.specs.Waits.{waits as waits_of};
 ghost use Rattle.setup_report.specs.State.{endpoints as endpoints_of};
 ghost use Rattle.command_never_text.specs.Open as spec;
 
+use crate::answering::{answer_of, state_parts};
 use crate::chain_text::chains_between;
 use crate::never::{
-    Between, Layout, Never, endpoint_size, endpoints_met, has_some, is_open, is_receiver,
-    is_sender, is_use_of, never_between,
+    Between, Layout, Never, endpoint_size, has_some, is_receiver, is_sender, is_use_of,
+    never_of_parts, open_endpoints,
 };
-use crate::waits::{Wait, waits};
+use crate::still::Callers;
+use crate::waits::Wait;
 use cap_core::Profile;
 use command_parts::{
     BadgeText, Heading, PartNaming, PartTold, add_heading, add_sel4_lines, add_take_of,
-    all_trusted, is_in, listed, none_text, part_slots, parts_of_callers,
+    all_trusted, is_in, none_text, part_slots, uses_on,
 };
 use ipc_core::Waiters;
 use kernel_core::Kernel;
-use query_parts::{PartMemory, PartUse, PartsFault, part_at};
+use query_parts::{PartMemory, PartUse, PartsFault, UseKey, part_at, uses_by_key};
 use query_reach::{FullSlot, full_slots};
 use setup_naming::Naming;
-use setup_report::{RightsText, state_rows};
+use setup_report::RightsText;
 use slot_core::{CapStore, DerivationStore};
 use std::alloc::{AllocError, Global};
 use std::fmt;
@@ -68,7 +69,9 @@ fn never_word(answer: Never) -> &'static str
 {
     match answer {
         Never::Excluded => "excluded",
+        Never::ExcludedByFlow => "excluded by flow",
         Never::Possible => "possible",
+        Never::Decided => "possible decided",
     }
 }
 
@@ -310,56 +313,43 @@ fn add_endpoint<P: Profile, S: CapStore<P> + Drop, W: Waiters<P> + Drop>(
     add_receivers(out, told, layout, between.to, endpoint)
 }
 
-fn add_where_open<P: Profile, S: CapStore<P> + Drop, W: Waiters<P> + Drop>(
-    out: &mut String,
-    told: &PartNaming<'_>,
-    layout: &Layout<'_>,
-    kernel: &Kernel<P, S, W>,
-    between: &Between<'_>,
-    endpoint: u64,
-) -> Result<(), AllocError>
-    requires { layout.now.waits.now ≡ waits_of P.profile kernel.now }
-    ensures { OnOk result (string_bytes out.new ≡ string_bytes out.old
-        ++ spec.open_lines P.profile (part_naming_view told.now) layout.now.memory.now layout.now.uses.now kernel.now between.now.by.now between.now.from between.now.to endpoint) }
-{
-    if is_open::<P>(layout, between, endpoint) {
-        add_endpoint::<P, S, W>(out, told, layout, kernel, between, endpoint)
-    } else {
-        Ok(())
-    }
-}
-
+/// Adds some endpoints that are open, each with what the two parts have of it.
 fn add_all_open<P: Profile, S: CapStore<P> + Drop, W: Waiters<P> + Drop>(
+    alloc: Global,
     out: &mut String,
     told: &PartNaming<'_>,
     layout: &Layout<'_>,
     kernel: &Kernel<P, S, W>,
     between: &Between<'_>,
-    endpoints: &[u64],
+    open: &[u64],
 ) -> Result<(), AllocError>
     requires { layout.now.waits.now ≡ waits_of P.profile kernel.now }
     ensures { OnOk result (string_bytes out.new ≡ string_bytes out.old
-        ++ flat_map (spec.open_lines P.profile (part_naming_view told.now) layout.now.memory.now layout.now.uses.now kernel.now between.now.by.now between.now.from between.now.to) endpoints.now) }
+        ++ flat_map (spec.open_endpoint_lines P.profile (part_naming_view told.now) layout.now.memory.now layout.now.uses.now kernel.now between.now.from between.now.to) open.now) }
 {
-    for endpoint in endpoints {
-        add_where_open::<P, S, W>(out, told, layout, kernel, between, *endpoint)?;
+    let by_endpoint = uses_by_key(alloc, layout.uses, UseKey::Endpoint)?;
+    for endpoint in open {
+        let here = Layout {
+            uses: uses_on(by_endpoint.as_slice(), *endpoint),
+            ..*layout
+        };
+        add_endpoint::<P, S, W>(out, told, &here, kernel, between, *endpoint)?;
     }
     Ok(())
 }
 
 /// Adds the endpoints that are open between the parts of two threads, where these are two.
 fn add_between<P: Profile, S: CapStore<P> + Drop, W: Waiters<P> + Drop>(
+    alloc: Global,
     out: &mut String,
     told: &PartNaming<'_>,
     layout: &Layout<'_>,
     kernel: &Kernel<P, S, W>,
-    endpoints: &[u64],
     by: &[u64],
     from: Option<u64>,
     to: Option<u64>,
 ) -> Result<(), AllocError>
-    requires waits { layout.now.waits.now ≡ waits_of P.profile kernel.now }
-    requires endpoints { endpoints.now ≡ answers.endpoints_met layout.now.uses.now layout.now.waits.now }
+    requires { layout.now.waits.now ≡ waits_of P.profile kernel.now }
     ensures { OnOk result (string_bytes out.new ≡ string_bytes out.old
         ++ spec.lines_between P.profile (part_naming_view told.now) layout.now.memory.now layout.now.uses.now kernel.now by.now from to) }
 {
@@ -370,7 +360,8 @@ fn add_between<P: Profile, S: CapStore<P> + Drop, W: Waiters<P> + Drop>(
         return Ok(());
     }
     let between = Between { from, to, by };
-    add_all_open::<P, S, W>(out, told, layout, kernel, &between, endpoints)
+    let open = open_endpoints::<P>(alloc, layout, &between)?;
+    add_all_open::<P, S, W>(alloc, out, told, layout, kernel, &between, open.as_slice())
 }
 
 /// Adds what passes between the parts of two threads in seL4, beside messages, where these are two.
@@ -457,7 +448,7 @@ fn slots_of<P: Profile, S: DerivationStore<P> + Drop, W: Waiters<P> + Drop>(
     Ok(filled)
 }
 
-/// Adds the answer for parts that are given, and what is open between them; and tells the answer.
+/// Adds the answer for parts that are given, and what is open between them.
 fn add_lines_of_answer<P: Profile, S: DerivationStore<P> + Drop, W: Waiters<P> + Drop>(
     alloc: Global,
     out: &mut String,
@@ -467,35 +458,23 @@ fn add_lines_of_answer<P: Profile, S: DerivationStore<P> + Drop, W: Waiters<P> +
     by: &[u64],
     kernel: &Kernel<P, S, W>,
     layout: &Layout<'_>,
-) -> Result<Never, AllocError>
+    answer: Never,
+) -> Result<(), AllocError>
     requires { layout.now.waits.now ≡ waits_of P.profile kernel.now }
-    ensures text { OnOk result (string_bytes out.new ≡ string_bytes out.old
-        ++ spec.lines_of_answer P.profile (part_naming_view told.now) layout.now.memory.now layout.now.uses.now kernel.now by.now from to) }
-    ensures answer { IfOk result (λ answer. answer ≡ answers.never P.profile layout.now.memory.now layout.now.uses.now (waits_of P.profile kernel.now) by.now from to) }
+    ensures { OnOk result (string_bytes out.new ≡ string_bytes out.old
+        ++ spec.lines_of_answer P.profile (part_naming_view told.now) layout.now.memory.now layout.now.uses.now kernel.now by.now from to answer) }
 {
-    let endpoints = endpoints_met(alloc, layout)?;
     let first = part_at(layout.memory, from);
     let second = part_at(layout.memory, to);
-    let answer = never_between::<P>(layout, endpoints.as_slice(), by, first, second);
     add_answer(out, told, layout.memory, from, to, answer)?;
-    add_between::<P, S, W>(
-        out,
-        told,
-        layout,
-        kernel,
-        endpoints.as_slice(),
-        by,
-        first,
-        second,
-    )?;
+    add_between::<P, S, W>(alloc, out, told, layout, kernel, by, first, second)?;
     add_sel4_between::<P>(alloc, out, told, layout, first, second)?;
-    add_taken_between::<P, S, W>(alloc, out, told, layout.memory, kernel, first, second)?;
-    Ok(answer)
+    add_taken_between::<P, S, W>(alloc, out, told, layout.memory, kernel, first, second)
 }
 
-/// The text, but for the chains, and the answer for parts that are given. `live` has the live endpoints.
+/// The text of an answer, but for the chains, for parts that are given. `live` has the live endpoints.
 #[tactic(auto, unfolding(crate::specs::Open::never_text))]
-fn never_of_parts<P: Profile, S: DerivationStore<P> + Drop, W: Waiters<P> + Drop>(
+fn text_of_parts<P: Profile, S: DerivationStore<P> + Drop, W: Waiters<P> + Drop>(
     alloc: Global,
     told: &PartNaming<'_>,
     heading: &Heading<'_>,
@@ -505,23 +484,21 @@ fn never_of_parts<P: Profile, S: DerivationStore<P> + Drop, W: Waiters<P> + Drop
     live: &[u64],
     kernel: &Kernel<P, S, W>,
     layout: &Layout<'_>,
-) -> Result<(String, Never), AllocError>
+    answer: Never,
+) -> Result<String, AllocError>
     requires waits { layout.now.waits.now ≡ waits_of P.profile kernel.now }
     requires live { live.now ≡ endpoints_of P.profile kernel.now }
-    ensures text { IfOk result (λ made. string_bytes made.0 ≡ spec.never_text P.profile (part_naming_view told.now) heading.now.setup.now heading.now.made heading.now.refused
-        heading.now.without.now heading.now.messages.now layout.now.memory.now layout.now.uses.now kernel.now by.now from to) }
-    ensures answer { IfOk result (λ made. made.1 ≡ answers.never P.profile layout.now.memory.now layout.now.uses.now (waits_of P.profile kernel.now) by.now from to) }
+    ensures { IfOk result (λ text. string_bytes text ≡ spec.never_text P.profile (part_naming_view told.now) heading.now.setup.now heading.now.made heading.now.refused
+        heading.now.without.now heading.now.messages.now layout.now.memory.now layout.now.uses.now kernel.now by.now from to answer) }
 {
     let mut out = String::new(alloc);
-    add_heading::<P, S, W>(&mut out, "never", told, heading, kernel)?;
+    add_heading::<P, S, W>(&mut out, "never 4", told, heading, kernel)?;
     add_all_allowed(&mut out, told, live, by)?;
-    let answer = add_lines_of_answer::<P, S, W>(
-        alloc, &mut out, told, from, to, by, kernel, layout,
-    )?;
-    Ok((out, answer))
+    add_lines_of_answer::<P, S, W>(alloc, &mut out, told, from, to, by, kernel, layout, answer)?;
+    Ok(out)
 }
 
-/// The text of an answer for parts that are given, with the chains behind it, and the answer.
+/// The text of an answer for parts that are given, with the chains behind it.
 fn never_with_chains<P: Profile, S: DerivationStore<P> + Drop, W: Waiters<P> + Drop>(
     alloc: Global,
     told: &PartNaming<'_>,
@@ -532,27 +509,28 @@ fn never_with_chains<P: Profile, S: DerivationStore<P> + Drop, W: Waiters<P> + D
     live: &[u64],
     kernel: &Kernel<P, S, W>,
     layout: &Layout<'_>,
-) -> Result<(Vec<u8>, Never), AllocError>
+    answer: Never,
+) -> Result<Vec<u8>, AllocError>
     requires waits { layout.now.waits.now ≡ waits_of P.profile kernel.now }
     requires live { live.now ≡ endpoints_of P.profile kernel.now }
-    ensures text { IfOk result (λ made. spec.IsNeverText P.profile (part_naming_view told.now) heading.now.setup.now heading.now.made heading.now.refused
-        heading.now.without.now heading.now.messages.now layout.now.memory.now layout.now.uses.now kernel.now by.now from to made.0.items) }
-    ensures answer { IfOk result (λ made. made.1 ≡ answers.never P.profile layout.now.memory.now layout.now.uses.now (waits_of P.profile kernel.now) by.now from to) }
+    ensures { IfOk result (λ text. spec.IsNeverText P.profile (part_naming_view told.now) heading.now.setup.now heading.now.made heading.now.refused
+        heading.now.without.now heading.now.messages.now layout.now.memory.now layout.now.uses.now kernel.now by.now from to answer text.items) }
 {
-    let (mut text, answer) = never_of_parts::<P, S, W>(
-        alloc, told, heading, from, to, by, live, kernel, layout,
+    let mut text = text_of_parts::<P, S, W>(
+        alloc, told, heading, from, to, by, live, kernel, layout, answer,
     )?;
     let filled = slots_of::<P, S, W>(alloc, kernel)?;
     let from_in = (from, part_at(layout.memory, from));
     let to_in = (to, part_at(layout.memory, to));
     let chains = chains_between::<P>(alloc, told, filled.as_slice(), layout, by, from_in, to_in)?;
     text.push_str(chains.as_str())?;
-    Ok((text.into_bytes(), answer))
+    Ok(text.into_bytes())
 }
 
 /// Whether a thread's part is kept from another's, but for the endpoints that `by` names, whatever calls the threads make that are
 /// not trusted; and the text that says so, with the endpoints that are open where it is not, what passes between the parts in seL4
 /// beside messages, which of them may take slots from the other, and the slots through which the one thread comes to what is open.
+/// Where the parts exclude nothing, flows are asked if `asks_flows` is set.
 ///
 /// # Errors
 ///
@@ -565,27 +543,32 @@ pub fn never_gets<P: Profile, S: DerivationStore<P> + Drop, W: Waiters<P> + Drop
     from: u64,
     to: u64,
     by: &[u64],
+    asks_flows: bool,
     kernel: &Kernel<P, S, W>,
 ) -> Result<(Vec<u8>, Never), PartsFault>
     ensures told { IfOk result (λ made. spec.IsNeverOf P.profile (naming_view naming.now) heading.now.setup.now heading.now.made heading.now.refused
         heading.now.without.now heading.now.messages.now kernel.now by.now from to made.0.items made.1) }
     ensures fault { IfErr result (λ fault. fault ≡ PartsFault.Block → (memory : ℕ) → IsInMemory P.profile memory kernel.now → ⊥) }
 {
-    let rows = state_rows::<P, S, W>(alloc, kernel)?;
     let trusted = all_trusted(alloc, heading)?;
-    let parts = parts_of_callers::<P, S, W>(alloc, trusted.as_slice(), kernel, &rows)?;
-    let threads = listed(alloc, &rows.threads)?;
-    let live = listed(alloc, &rows.endpoints)?;
-    let waits = waits::<P, S, W>(alloc, kernel, threads.as_slice())?;
+    let state = state_parts::<P, S, W>(alloc, trusted.as_slice(), kernel)?;
     let layout = Layout {
-        memory: parts.memory.as_slice(),
-        uses: parts.uses.as_slice(),
-        waits: waits.as_slice(),
+        memory: state.parts.memory.as_slice(),
+        uses: state.parts.uses.as_slice(),
+        waits: state.waits.as_slice(),
     };
-    let live = live.as_slice();
-    let told = PartNaming::new(alloc, naming, layout.memory, threads.as_slice())?;
-    let made = never_with_chains::<P, S, W>(
-        alloc, &told, heading, from, to, by, live, kernel, &layout,
+    let callers = Callers {
+        memory: layout.memory,
+        threads: state.threads.as_slice(),
+        trusted: trusted.as_slice(),
+        asks_flows,
+    };
+    let of_parts = never_of_parts::<P>(alloc, &layout, by, from, to)?;
+    let answer = answer_of::<P, S, W>(alloc, kernel, &callers, by, from, to, of_parts)?;
+    let told = PartNaming::new(alloc, naming, layout.memory, callers.threads)?;
+    let live = state.endpoints.as_slice();
+    let text = never_with_chains::<P, S, W>(
+        alloc, &told, heading, from, to, by, live, kernel, &layout, answer,
     )?;
-    Ok(made)
+    Ok((text, answer))
 }

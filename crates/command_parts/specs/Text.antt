@@ -40,10 +40,10 @@ refused_text refused = cond (refused == 0) [] (codes " refused " ++ decimal refu
 abbrev pub calls_text : ℕ → ℕ → ℕ → List ℕ
 calls_text calls made refused = codes " calls " ++ (decimal calls ++ (codes " after " ++ (decimal made ++ refused_text refused)))
 
--- of a text with this name, by a set-up of which so many calls are made, and so many of these refused
+-- of a text with this name and version, by a set-up of which so many calls are made, and so many of these refused
 abbrev pub parts_head_line : List ℕ → SetupView → ℕ → ℕ → List ℕ
-parts_head_line name setup made refused =
-    terminated (name ++ (codes " 3 " ++ (profile_text setup.profile ++ (codes " memory_bits " ++ (decimal setup.plan.memory_bits
+parts_head_line title setup made refused =
+    terminated (title ++ (codes " " ++ (profile_text setup.profile ++ (codes " memory_bits " ++ (decimal setup.plan.memory_bits
     ++ calls_text (length setup.calls) made refused)))))
 
 -- the word `none` after a trusted thread that is not live
@@ -58,8 +58,8 @@ messages_line texts v thread = terminated (codes "messages " ++ (texts.about thr
 
 -- the first line, the threads that make no more calls, and those that go on to send and receive alone
 abbrev pub head_lines : List ℕ → Texts → SetupView → ℕ → ℕ → List ℕ → List ℕ → Shown → List ℕ
-head_lines name texts setup made refused without messages v =
-    parts_head_line name setup made refused ++ (flat_map (without_line texts v) without ++ flat_map (messages_line texts v) messages)
+head_lines title texts setup made refused without messages v =
+    parts_head_line title setup made refused ++ (flat_map (without_line texts v) without ++ flat_map (messages_line texts v) messages)
 
 -- ---- a part: its live threads, its memory and the endpoints that it may use
 
@@ -300,4 +300,4 @@ ever_lines p told memory uses v = lines_by_slots p told memory uses v (part_slot
 
 unfoldable pub ever_text : ProfileName → PartTexts → SetupView → ℕ → ℕ → List ℕ → List ℕ → List PartMemory → List PartUse → Shown → List ℕ
 ever_text p told setup made refused without messages memory uses v =
-    head_lines (codes "ever") told.texts setup made refused without messages v ++ ever_lines p told memory uses v
+    head_lines (codes "ever 3") told.texts setup made refused without messages v ++ ever_lines p told memory uses v

@@ -62,15 +62,15 @@ impl fmt::Display for CallsText {
     }
 }
 
-/// Adds the first line of a text with this name.
+/// Adds the first line of a text with this name and version.
 fn add_head(
     out: &mut String,
-    name: &str,
+    title: &str,
     setup: &Setup,
     made: usize,
     refused: usize,
 ) -> Result<(), AllocError>
-    ensures { OnOk result (string_bytes out.new ≡ string_bytes out.old ++ spec.parts_head_line name.now setup.now made refused) }
+    ensures { OnOk result (string_bytes out.new ≡ string_bytes out.old ++ spec.parts_head_line title.now setup.now made refused) }
 {
     let profile = profile_text(setup.profile());
     let memory_bits = setup.plan().memory_bits();
@@ -79,7 +79,7 @@ fn add_head(
         made,
         refused,
     };
-    writeln!(out, "{name} 3 {profile} memory_bits {memory_bits}{calls}")
+    writeln!(out, "{title} {profile} memory_bits {memory_bits}{calls}")
 }
 
 /// What is told of an object that is not there.
@@ -147,22 +147,22 @@ fn add_messengers<P: Profile, S: CapStore<P> + Drop, W: Waiters<P> + Drop>(
     Ok(())
 }
 
-/// Adds the first lines of a text with this name: of which state it tells, and which threads are trusted.
+/// Adds the first lines of a text with this name and version: of which state it tells, and which threads are trusted.
 ///
 /// # Errors
 ///
 /// Memory was refused.
 pub fn add_heading<P: Profile, S: CapStore<P> + Drop, W: Waiters<P> + Drop>(
     out: &mut String,
-    name: &str,
+    title: &str,
     told: &PartNaming<'_>,
     heading: &Heading<'_>,
     kernel: &Kernel<P, S, W>,
 ) -> Result<(), AllocError>
     ensures { OnOk result (string_bytes out.new ≡ string_bytes out.old
-        ++ spec.head_lines name.now (part_naming_view told.now).texts heading.now.setup.now heading.now.made heading.now.refused heading.now.without.now heading.now.messages.now kernel.now) }
+        ++ spec.head_lines title.now (part_naming_view told.now).texts heading.now.setup.now heading.now.made heading.now.refused heading.now.without.now heading.now.messages.now kernel.now) }
 {
-    add_head(out, name, heading.setup, heading.made, heading.refused)?;
+    add_head(out, title, heading.setup, heading.made, heading.refused)?;
     add_all_without::<P, S, W>(out, told, kernel, heading.without)?;
     add_messengers::<P, S, W>(out, told, kernel, heading.messages)
 }

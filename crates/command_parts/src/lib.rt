@@ -18,6 +18,7 @@ pub use behind::kernel_behind;
 pub use command::Ever;
 pub use head::{Heading, add_heading, none_text};
 pub use laws::{parts_of_messages_keep_to_their_uses, what_is_not_told_is_not_taken};
+pub use messages::passes_alone;
 pub use parts::{BadgeText, is_of_part};
 pub use sets::{is_in, listed, rising};
 pub use takes::{PartSlot, Take, add_take_of, part_slots};

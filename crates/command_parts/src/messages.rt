@@ -37,7 +37,8 @@ fn leads_to_more<P: Profile>(part_slots: &[PartSlot], part: u64, part_slot: &Par
     is_number(part_slot.part, part) && gives_more::<P>(part_slots, part_slot.cap)
 }
 
-fn passes_alone<P: Profile>(part_slots: &[PartSlot], part: u64) -> bool
+/// Whether a part only passes messages: each full slot of a CNode that a slot of the part names holds an endpoint's capability.
+pub fn passes_alone<P: Profile>(part_slots: &[PartSlot], part: u64) -> bool
     ensures { result ≡ spec.passes_alone P.profile part_slots.now part }
 {
     !part_slots

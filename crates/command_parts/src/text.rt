@@ -248,7 +248,7 @@ fn text_of_parts<P: Profile, S: DerivationStore<P> + Drop, W: Waiters<P> + Drop>
     let endpoints = listed(alloc, &rows.endpoints)?;
     let told = PartNaming::new(alloc, naming, parts.memory.as_slice(), threads.as_slice())?;
     let mut out = String::new(alloc);
-    add_heading::<P, S, W>(&mut out, "ever", &told, heading, kernel)?;
+    add_heading::<P, S, W>(&mut out, "ever 3", &told, heading, kernel)?;
     add_lines::<P, S, W>(
         alloc,
         &mut out,

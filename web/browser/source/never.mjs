@@ -2,7 +2,7 @@
 import { dim, element, heading } from "../../page/source/element.mjs";
 import { drawOpeners } from "./opener.mjs";
 
-const ANSWER = /^never (\d+(?: @\S+)?) part (\w+) -> (\d+(?: @\S+)?) part (\w+) (excluded|possible)$/u;
+const ANSWER = /^never (\d+(?: @\S+)?) part (\w+) -> (\d+(?: @\S+)?) part (\w+) (excluded|excluded by flow|possible|possible decided)$/u;
 const OPEN = /^open (\d+)$/u;
 const NO_PART = "none";
 /** What may happen, each with the options of `audit --how` that ask for it. */
@@ -26,8 +26,12 @@ function reasonOf({ from, fromPart, to, toPart, endpoints }) {
 
 /** The answer in words. */
 function wordsOf(told) {
-  const { fromPart, toPart, answer } = told;
-  return answer === "possible" ? `Not excluded: ${reasonOf(told)}. Whether some calls do it, this does not say.`
+  const { from, fromPart, to, toPart, answer } = told;
+  if (answer === "possible") return `Not excluded: ${reasonOf(told)}. Whether some calls do it, this does not say.`;
+  if (answer === "possible decided") return `It happens: ${reasonOf(told)}, and sends of ${from} and receives of ${to} alone show it.`;
+  return answer === "excluded by flow"
+    ? `Whatever calls are made by threads that are not trusted: no message of ${from} is ever delivered to ${to}, but by an endpoint that --by `
+      + `names, and no word of ${from} ever leads to the control block of ${to}. Of their parts this does not hold.`
     : `Whatever calls the threads of the parts make: no slot of part ${fromPart} ever holds a capability to an object of part `
       + `${toPart}, and no message of a thread of part ${fromPart} is ever delivered to a thread of part ${toPart}, but by an `
       + "endpoint that --by names.";
@@ -46,9 +50,9 @@ export function drawNever(into, text, open) {
   const [, from, fromPart, to, toPart, answer] = lines.map((line) => ANSWER.exec(line)).find(Boolean) ?? [];
   const endpoints = lines.map((line) => OPEN.exec(line)?.[1]).filter(Boolean);
   const told = answer === undefined ? null : element("p", { id: "verdict" },
-    element("span", { class: answer === "excluded" ? "tag met" : "tag missed" }, answer), " ",
+    element("span", { class: answer.startsWith("excluded") ? "tag met" : "tag missed" }, answer), " ",
     wordsOf({ from, fromPart, to, toPart, answer, endpoints }));
   into.replaceChildren(heading("From one thread to another", "it is a bound on all calls that the threads of parts can make"),
-    ...[told, answer === "possible" && drawHow(open)].filter(Boolean),
+    ...[told, answer?.startsWith("possible") && drawHow(open)].filter(Boolean),
     element("pre", { tabindex: "0", "aria-label": "What the program wrote" }, text));
 }

@@ -420,7 +420,7 @@ def kept_apart(test, _):
     offered = test.browser.value("[...document.getElementById('option-never').list.options].map((it) => it.value)")
     test.wanted(len(offered) == 12 and "client_a,client_b" in offered, f"the pairs {offered} are offered")
     asked = (("never", "client_a,client_b", "--without loader --never client_a,client_b", 0, "excluded", ()),
-             ("never", "client_a,client_c", "--without loader --never client_a,client_c", 1, "possible", ("open 10240", "chain 4096 @client_a -> 10240")),
+             ("never", "client_a,client_c", "--without loader --never client_a,client_c", 1, "possible decided", ("open 10240", "chain 4096 @client_a -> 10240")),
              ("by", "10240", "--without loader --never client_a,client_c --by 10240", 0, "excluded", ()),
              ("never", "loader,client_a", "--without loader --never loader,client_a --by 10240", 1, "possible", ("2048 @loader lies in no part",)))
     for name, value, words, status, answer, lines in asked:

@@ -10,8 +10,8 @@ use Rattle.command_never_text.specs.Chains.{AreChainsBetween}
 use Rattle.command_never_text.specs.Open.{never_text}
 use Rattle.command_never_text.proofs.open.never_with_chains.Goals as goal
 
-pub returns-clause-text : goal.returns-clause-text
-returns-clause-text g c =
+pub returns : goal.returns
+returns g c =
     let p = g.P.Profile.profile in
     let told_by = part_naming_view c.args.told.now in
     let f = c.args.kernel.now.derivations in
@@ -33,6 +33,6 @@ returns-clause-text g c =
           subst (λ (j : Option ℕ). AreChainsBetween p told_by.texts f memory uses (waits p c.args.kernel.now) by from to (part_at memory from) j text) c.part_at-2.ensures
           (subst (λ (i : Option ℕ). AreChainsBetween p told_by.texts f memory uses (waits p c.args.kernel.now) by from to i c.part_at-2.result text) c.part_at.ensures told);
       lines = ap (λ (v : Vec ℕ Global). v.items) c.into_bytes.ensures.value ∙ (c.in_ok-push_str.ensures.bytes
-          ∙ (ap (λ (l : List ℕ). l ++ c.as_str.result.now) c.in_ok-text.ensures.text
-          ∙ ap (λ (l : List ℕ). never_text p told_by head.setup.now head.made head.refused head.without.now head.messages.now memory uses c.args.kernel.now by from to ++ l) c.as_str.ensures.value));
+          ∙ (ap (λ (l : List ℕ). l ++ c.as_str.result.now) c.in_ok-text.ensures
+          ∙ ap (λ (l : List ℕ). never_text p told_by head.setup.now head.made head.refused head.without.now head.messages.now memory uses c.args.kernel.now by from to c.args.answer ++ l) c.as_str.ensures.value));
     }
