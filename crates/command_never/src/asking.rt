@@ -87,10 +87,15 @@ fn answer_between<P: Profile, S: DerivationStore<P> + Drop, W: Waiters<P> + Drop
     }
 }
 
-/// Whether `import --flows` made the set-up, which names a CNode for the slots of each thread. There a thread also uses what no word of
-/// it leads to, as a frame that it maps, so flows, which go by words, are not asked.
+/// What the name of the CNode ends with that `import --flows` makes of the slots of a thread.
+const NODE_OF_SLOTS: &str = "_slots";
+
+/// Whether `import --flows` may have made the set-up. There a thread also uses what no word of it leads to, as a frame that it maps, so
+/// flows, which go by words, are not asked.
 fn counts_all_objects(names: &[Name]) -> bool {
-    names.iter().any(|name| name.text.as_str().ends_with(".slots"))
+    names
+        .iter()
+        .any(|name| name.text.as_str().ends_with(NODE_OF_SLOTS))
 }
 
 /// An answer of which a text is told, where there is one: nothing is written.
