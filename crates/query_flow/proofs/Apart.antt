@@ -23,9 +23,9 @@ use Rattle.query_flow.specs.declared.listed.Flows.{Flows}
 use Rattle.query_flow.specs.declared.excluded.Spot.{Spot}
 use Rattle.query_flow.specs.Flow.{Flow}
 use Rattle.query_flow.specs.Laws.{MayUse}
-use Rattle.query_flow.specs.Listed.{is_among, within, last_le, covers, caller_of, names_of, fits_badge, flow_of_lists}
+use Rattle.query_flow.specs.Listed.{is_among, within, last_le, covers, caller_of, names_of, nodes_of, fits_badge, flow_of_lists}
 use Rattle.query_flow.specs.Excluded.{is_listed}
-use Rattle.query_flow.specs.Apart.{names_by, names_in, one_at, from_to, spot_of, spot_in, and_spot, is_apart, are_apart}
+use Rattle.query_flow.specs.Apart.{names_by, names_in, nodes_by, nodes_in, one_at, from_to, spot_of, spot_in, and_spot, is_apart, are_apart}
 use Rattle.query_flow.proofs.Made.{few_fit}
 use Rattle.query_flow.proofs.Settled.{stands_by, within_range, last_is}
 
@@ -150,7 +150,7 @@ module _ (p : ProfileName) (right : ℕ) (by : List ℕ) (e : ℕ) (badge : Badg
         at = and_true (nat_le base e) (nat_le e end.0) low high;
       }
   spotted (standing.Untyped base bits) c = absurd (false≢true c)
-  spotted (standing.Node base radix is_whole) c = absurd (false≢true c)
+  spotted (standing.Node base radix takes) c = absurd (false≢true c)
   spotted (standing.Thread base) c = absurd (false≢true c)
 
   spotted_in : (names : List ℕ) (s : MayStand) → is_among names s.set ≡ true → covers p s.what (Endpoint e badge rights) ≡ true → IsSpotted (spot_in right by names s) e
@@ -170,12 +170,19 @@ named_by : (o : Option Caller) (set : ℕ) → names_of o set ≡ is_among (name
 named_by None set = refl
 named_by (Some k) set = refl
 
+noded_by : (o : Option Caller) (set : ℕ) → nodes_of o set ≡ is_among (nodes_by o) set
+noded_by None set = refl
+noded_by (Some k) set = refl
+
 module _ (p : ProfileName) (flows : Flows) where
   abbrev pub its : Flow
   its = flow_of_lists p flows
 
   pub named_in : (thread set : ℕ) → its.names (its.set_of thread) set ≡ true → is_among (names_in flows thread) set ≡ true
   named_in thread set h = sym (named_by (caller_of flows.callers.items (its.set_of thread)) set) ∙ h
+
+  pub noded_in : (thread set : ℕ) → its.nodes (its.set_of thread) set ≡ true → is_among (nodes_in flows thread) set ≡ true
+  noded_in thread set h = sym (noded_by (caller_of flows.callers.items (its.set_of thread)) set) ∙ h
 
   pub used_spot : (right : ℕ) (by : List ℕ) (thread e : ℕ) (badge : Badge) → is_among by e ≡ false → MayUse its right (its.set_of thread) e badge →
       list_any (lies_at e) (filter_map (spot_in right by (names_in flows thread)) flows.standing.items) ≡ true

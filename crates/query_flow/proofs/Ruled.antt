@@ -35,12 +35,12 @@ use Rattle.query_flow.specs.Flow.{Flow, IsHeld, IsSettled, IsSettledFor}
 use Rattle.query_flow.specs.Laws.{IsExpected, MayUse}
 use Rattle.query_flow.specs.Listed.{is_among, set_at, covers, caller_of, has_slots, is_set_settled, flow_of_lists, IsFlow}
 use Rattle.query_flow.specs.Excluded.{is_listed, IsOfOthers, TellsNone, PassesNoneEver, NamesNone, NamesNoneEver, ChangesNone, ChangesNoneEver}
-use Rattle.query_flow.specs.Apart.{names_in, one_at, spot_in, send_spot, receive_spot, sends_of, receives_of, are_free, are_kept, names_no_thread, names_no_node, IsTested}
-use Rattle.query_flow.proofs.Found.{word_lies}
+use Rattle.query_flow.specs.Apart.{names_in, nodes_in, one_at, spot_in, send_spot, receive_spot, sends_of, receives_of, are_free, are_kept, names_no_thread, names_no_node, IsTested}
+use Rattle.query_flow.proofs.Found.{word_lies, node_lies}
 use Rattle.query_flow.proofs.Runs.{stay_held}
 use Rattle.query_flow.proofs.Told.{MaySend, MayReceive, all_told}
 use Rattle.query_flow.proofs.Settled.{stands_by, with_slots, caller_settled, settled_by_test, held_of_told}
-use Rattle.query_flow.proofs.Apart.{listed_among, lies_at, none_both, spot_among, spot_last, named_in, used_spot}
+use Rattle.query_flow.proofs.Apart.{listed_among, lies_at, none_both, spot_among, spot_last, named_in, noded_in, used_spot}
 use Rattle.query_flow.proofs.Quiet.{quiet_step}
 
 not_cond : (b : Bool) (x : Spot) → b ≡ false → cond b None (Some x) ≡ Some x
@@ -190,22 +190,26 @@ module _ (p : ProfileName) (trusted : List ℕ) (v : Shown) (flows : Flows) (tes
         (all_in (λ (x : MayStand). not (is_among (names_in flows from) x.set && covers p x.what (Tcb to))) flows.standing.items s.0 none s.1.0)
         (subst (λ n. is_among (names_in flows from) n ≡ true) (sym s.1.1.0) (named_at f held word slot h)) s.1.1.1
 
-    no_node_at : (set : ℕ) (cap : Cap) → names_no_node (names_in flows from) flows.standing.items ≡ true → is_among (names_in flows from) set ≡ true → flow.may set cap ≡ true → is_cnode cap ≡ true → ⊥
+    node_at : (f : Forest Entry) → IsHeld flow f → (word slot : ℕ) → slot_named p f (cap_at f from) word ≡ Ok slot → is_cnode (cap_at f slot) ≡ true →
+        is_among (nodes_in flows from) (flow.set_of slot) ≡ true
+    node_at f held word slot h node = noded_in p flows from (flow.set_of slot) (node_lies p flow (flow.set_of from) caller f held from word slot refl h node)
+
+    no_node_at : (set : ℕ) (cap : Cap) → names_no_node (nodes_in flows from) flows.standing.items ≡ true → is_among (nodes_in flows from) set ≡ true → flow.may set cap ≡ true → is_cnode cap ≡ true → ⊥
     no_node_at set (CNode base radix guard) none named may node =
         let s = stands_by p flows.memory.items flows.standing.items flows.callers.items flows.trusted.items set (CNode base radix guard) refl may in
-        not_both (is_among (names_in flows from) s.0.set) (has_slots s.0.what)
-        (all_in (λ (x : MayStand). not (is_among (names_in flows from) x.set && has_slots x.what)) flows.standing.items s.0 none s.1.0)
-        (subst (λ n. is_among (names_in flows from) n ≡ true) (sym s.1.1.0) named) (with_slots p s.0.what base radix guard s.1.1.1)
+        not_both (is_among (nodes_in flows from) s.0.set) (has_slots s.0.what)
+        (all_in (λ (x : MayStand). not (is_among (nodes_in flows from) x.set && has_slots x.what)) flows.standing.items s.0 none s.1.0)
+        (subst (λ n. is_among (nodes_in flows from) n ≡ true) (sym s.1.1.0) named) (with_slots p s.0.what base radix guard s.1.1.1)
     no_node_at set Null none named may node = false≢true node
     no_node_at set (Untyped base bits free) none named may node = false≢true node
     no_node_at set (Endpoint base badge rights) none named may node = false≢true node
     no_node_at set (Tcb base) none named may node = false≢true node
 
-    no_node : names_no_node (names_in flows from) flows.standing.items ≡ true → (f : Forest Entry) → IsHeld flow f → (word slot : ℕ) → slot_named p f (cap_at f from) word ≡ Ok slot →
+    no_node : names_no_node (nodes_in flows from) flows.standing.items ≡ true → (f : Forest Entry) → IsHeld flow f → (word slot : ℕ) → slot_named p f (cap_at f from) word ≡ Ok slot →
         is_cnode (cap_at f slot) ≡ true → ⊥
-    no_node none f held word slot h node = no_node_at (flow.set_of slot) (cap_at f slot) none (named_at f held word slot h) (held slot) node
+    no_node none f held word slot h node = no_node_at (flow.set_of slot) (cap_at f slot) none (node_at f held word slot h node) (held slot) node
 
-    no_change : names_no_node (names_in flows from) flows.standing.items ≡ true → (B : State) → IsHeld flow B.derivations → ChangesNone p B from
+    no_change : names_no_node (nodes_in flows from) flows.standing.items ≡ true → (B : State) → IsHeld flow B.derivations → ChangesNone p B from
     no_change none B held call own =
         quiet_step p B call
         (λ word n slot h node. no_node none B.derivations held n slot
@@ -218,5 +222,5 @@ module _ (p : ProfileName) (trusted : List ℕ) (v : Shown) (flows : Flows) (tes
 
   pub none_changed : (from : ℕ) →
       is_set_settled p flows.memory.items flows.standing.items (caller_of flows.callers.items (set_at flows.memory.items from)) ≡ true →
-      names_no_node (names_in flows from) flows.standing.items ≡ true → ChangesNoneEver p trusted v from
+      names_no_node (nodes_in flows from) flows.standing.items ≡ true → ChangesNoneEver p trusted v from
   none_changed from is none A reached shows calls of = no_change from is none (state_after p A calls) (held_after A reached shows calls of)

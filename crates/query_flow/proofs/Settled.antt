@@ -6,6 +6,7 @@ use Rattle.std.proofs.lemmas.Bool.Decides.{nat_tests}
 use Rattle.std.proofs.lemmas.Nat.{pow-add, pow_pos}
 use Rattle.std.proofs.Math.Nat.{mul-le-mul_right, pow-le-pow_right}
 use Rattle.cap_core.specs.declared.profile.ProfileName.{ProfileName}
+use Rattle.cap_core.specs.declared.profile.ProfileName.TheVariants.{Wide, Narrow}
 use Rattle.cap_core.specs.declared.capability.Badge.{Badge}
 use Rattle.cap_core.specs.declared.capability.Guard.{Guard}
 use Rattle.cap_core.specs.declared.capability.Cap.{Cap}
@@ -35,7 +36,7 @@ use Rattle.query_flow.specs.Laws.{TellsOfFlow, IsFlowEver}
 use Rattle.query_flow.proofs.Runs.{stay_held}
 use Rattle.query_flow.proofs.Told.{tell_flow}
 use Rattle.query_flow.specs.Flow.{Flow, IsHeld, IsMadeOf, IsSettledFor, IsSettled}
-use Rattle.query_flow.specs.Listed.{is_among, set_at, within, last_le, covers, may_in, may_stand, caller_of, names_of, fills_of, flow_listed, misses, has_all, lie_where, slots_lie, lead_to, is_ending, are_ending, are_put, are_made, is_made, made_of, roots_stand, threads_get, roots_set, opened, has_slots, is_over, stands_over, has_over, all_have, is_caller_settled, is_set_settled, are_threads_settled, is_settled, is_entry_told, are_told, flow_of_lists}
+use Rattle.query_flow.specs.Listed.{is_among, set_at, fits_bits, within, last_le, covers, may_in, may_stand, caller_of, names_of, nodes_of, fills_of, flow_listed, misses, has_all, lie_where, slots_lie, lead_to, is_ending, are_ending, may_end, goes_on, are_put, are_made, is_made, made_of, roots_stand, threads_get, roots_set, opened, has_slots, is_over, stands_over, has_over, all_have, is_caller_settled, is_set_settled, are_threads_settled, is_settled, is_entry_told, are_told, flow_of_lists}
 
 -- ---- addresses of a range
 
@@ -127,7 +128,7 @@ module _ (p : ProfileName) (memory : List PartMemory) where
       let inside = within_range first bits base (slot_bits p + radix) slot (last_in base (slot_bits p + radix)) (last_in first bits) refl refl over
       (omega (arith, at)) (omega (arith, at, top)) in
       range_where (is_among sets) memory first bits slot (last_in first bits) refl lie inside.0 inside.1
-  slot_lies sets (standing.Node first bits is_whole) (CNode base radix guard) slot over lie (n, (low, at)) =
+  slot_lies sets (standing.Node first bits takes) (CNode base radix guard) slot over lie (n, (low, at)) =
       let same = both_true (first == base) _ over in
       let wide = both_true (bits == radix) _ same.1 in
       let start = eqb-true first base same.0 in
@@ -138,12 +139,15 @@ module _ (p : ProfileName) (memory : List PartMemory) where
 
 -- ---- what stands for a capability
 
-badges_fit : (most some less : Badge) → (most.0 == some.0 || most.0 == 0) ≡ true → (some.0 == less.0 || some.0 == 0) ≡ true → (most.0 == less.0 || most.0 == 0) ≡ true
-badges_fit most some less h k = by (either_true (most.0 == some.0) (most.0 == 0) h)
+bits_fit : (most some less : ℕ) → (most == some || most == 0) ≡ true → (some == less || some == 0) ≡ true → (most == less || most == 0) ≡ true
+bits_fit most some less h k = by (either_true (most == some) (most == 0) h)
   where
-    by : ((most.0 == some.0) ≡ true) ⊎ ((most.0 == 0) ≡ true) → (most.0 == less.0 || most.0 == 0) ≡ true
-    by (inr none) = true_right (most.0 == less.0) (most.0 == 0) none
-    by (inl same) = subst (λ n. (n == less.0 || n == 0) ≡ true) (sym (eqb-true most.0 some.0 same)) k
+    by : ((most == some) ≡ true) ⊎ ((most == 0) ≡ true) → (most == less || most == 0) ≡ true
+    by (inr none) = true_right (most == less) (most == 0) none
+    by (inl same) = subst (λ n. (n == less || n == 0) ≡ true) (sym (eqb-true most some same)) k
+
+badges_fit : (most some less : Badge) → (most.0 == some.0 || most.0 == 0) ≡ true → (some.0 == less.0 || some.0 == 0) ≡ true → (most.0 == less.0 || most.0 == 0) ≡ true
+badges_fit most some less h k = bits_fit most.0 some.0 less.0 h k
 
 rights_fit : (most some less : Rights) → bit_and some.0 most.0 == some.0 ≡ true → bit_and less.0 some.0 == less.0 ≡ true → bit_and less.0 most.0 == less.0 ≡ true
 rights_fit most some less h k =
@@ -183,19 +187,14 @@ over_covers p (standing.Endpoint base most rights) (standing.Endpoint other some
     let ys = both_true (some.0 == badge.0 || some.0 == 0) _ y.1 in
     subst (λ n. n == b && ((most.0 == badge.0 || most.0 == 0) && bit_and few.0 rights.0 == few.0) ≡ true) (sym (eqb-true base other x.0))
     (and_true (other == b) _ y.0 (and_true (most.0 == badge.0 || most.0 == 0) _ (badges_fit most some badge xs.0 ys.0) (rights_fit rights fewer few xs.1 ys.1)))
-over_covers p (standing.Node base radix is_whole) (standing.Node other bits whole) (CNode b r guard) h c =
+over_covers p (standing.Node base radix takes) (standing.Node other bits some) (CNode b r guard) h c =
     let x = both_true (base == other) _ h in
     let xs = both_true (radix == bits) _ x.1 in
     let y = both_true (other == b) _ c in
     let ys = both_true (bits == r) _ y.1 in
-    subst (λ n. n == b && (radix == r && (not is_whole || guard.size + r == word_bits p)) ≡ true) (sym (eqb-true base other x.0))
+    subst (λ n. n == b && (radix == r && fits_bits takes (guard.size + r)) ≡ true) (sym (eqb-true base other x.0))
     (and_true (other == b) _ y.0
-    (and_true (radix == r) _ (subst (λ n. n == r ≡ true) (sym (eqb-true radix bits xs.0)) ys.0) (whole_fits is_whole whole _ xs.1 ys.1)))
-  where
-    whole_fits : (a b c : Bool) → (not a || b) ≡ true → (not b || c) ≡ true → (not a || c) ≡ true
-    whole_fits false b c h k = refl
-    whole_fits true true c h k = k
-    whole_fits true false c h k = absurd (false≢true h)
+    (and_true (radix == r) _ (subst (λ n. n == r ≡ true) (sym (eqb-true radix bits xs.0)) ys.0) (bits_fit takes some (guard.size + r) xs.1 ys.1)))
 over_covers p (standing.Thread base) (standing.Thread other) (Tcb b) h c = subst (λ n. n == b ≡ true) (sym (eqb-true base other h)) c
 over_covers p most what cap h c = cc
 
@@ -217,32 +216,52 @@ opened_covers p (standing.Endpoint base most rights) (Endpoint b badge had) made
     badged (inr none) fits = true_right (most.0 == other.0) (most.0 == 0) none
     badged (inl same) (inl is) = true_left (most.0 == other.0) (most.0 == 0) (subst (λ n. most.0 == n ≡ true) is same)
     badged (inl same) (inr none) = true_right (most.0 == other.0) (most.0 == 0) (subst (λ n. most.0 == n ≡ true) none same)
-opened_covers p (standing.Node base radix is_whole) (CNode b r guard) made c (other, is) =
+opened_covers p (standing.Node base radix takes) (CNode b r guard) made c (other, is) =
     let x = both_true (base == b) _ c in
     let xs = both_true (radix == r) _ x.1 in
-    subst (λ m. covers p (standing.Node base radix false) m ≡ true) (sym is) (and_true (base == b) _ x.0 (and_true (radix == r) true xs.0 refl))
+    subst (λ m. covers p (standing.Node base radix 0) m ≡ true) (sym is)
+    (and_true (base == b) _ x.0 (and_true (radix == r) _ xs.0 (true_right (0 == other.size + r) (0 == 0) refl)))
 opened_covers p (standing.Thread base) (Tcb b) made c is = subst (λ m. covers p (standing.Thread base) m ≡ true) (sym is) c
 opened_covers p what cap made c is = cc
 
 -- a CNode, or a region, has slots
 pub with_slots : (p : ProfileName) (what : Standing) (base radix : ℕ) (guard : Guard) → covers p what (CNode base radix guard) ≡ true → has_slots what ≡ true
 with_slots p (standing.Region first bits) base radix guard c = refl
-with_slots p (standing.Node first bits is_whole) base radix guard c = refl
+with_slots p (standing.Node first bits takes) base radix guard c = refl
 with_slots p (standing.Untyped first bits) base radix guard c = absurd (false≢true c)
 with_slots p (standing.Endpoint first most rights) base radix guard c = absurd (false≢true c)
 with_slots p (standing.Thread first) base radix guard c = absurd (false≢true c)
 
 -- a caller's own CNode by which words end
-ends : (p : ProfileName) (what : Standing) (base radix : ℕ) (guard : Guard) → covers p what (CNode base radix guard) ≡ true → is_ending what ≡ true → guard.size + radix ≡ word_bits p
+some_bits : (p : ProfileName) → word_bits p ≡ 0 → ⊥
+some_bits Wide h = cc
+some_bits Narrow h = cc
+
+ends : (p : ProfileName) (what : Standing) (base radix : ℕ) (guard : Guard) → covers p what (CNode base radix guard) ≡ true → is_ending p what ≡ true → guard.size + radix ≡ word_bits p
 ends p (standing.Region first bits) base radix guard c e = absurd (false≢true e)
 ends p (standing.Untyped first bits) base radix guard c e = absurd (false≢true c)
 ends p (standing.Endpoint first most rights) base radix guard c e = absurd (false≢true c)
 ends p (standing.Thread first) base radix guard c e = absurd (false≢true c)
-ends p (standing.Node first bits true) base radix guard c e =
+ends p (standing.Node first bits takes) base radix guard c e =
     let x = both_true (first == base) _ c in
     let xs = both_true (bits == radix) _ x.1 in
-    eqb-true (guard.size + radix) (word_bits p) xs.1
-ends p (standing.Node first bits false) base radix guard c e = absurd (false≢true e)
+    let whole = eqb-true takes (word_bits p) e in
+    elim (either_true (takes == guard.size + radix) (takes == 0) xs.1) [
+      | inl same ↦ sym (eqb-true takes (guard.size + radix) same) ∙ whole
+      | inr none ↦ absurd (some_bits p (sym whole ∙ eqb-true takes 0 none))
+    ]
+
+-- and one by which words may end
+may_end_by : (p : ProfileName) (what : Standing) (base radix : ℕ) (guard : Guard) → covers p what (CNode base radix guard) ≡ true → guard.size + radix ≡ word_bits p →
+    may_end p what ≡ true
+may_end_by p (standing.Region first bits) base radix guard c whole = refl
+may_end_by p (standing.Untyped first bits) base radix guard c whole = absurd (false≢true c)
+may_end_by p (standing.Endpoint first most rights) base radix guard c whole = absurd (false≢true c)
+may_end_by p (standing.Thread first) base radix guard c whole = absurd (false≢true c)
+may_end_by p (standing.Node first bits takes) base radix guard c whole =
+    let x = both_true (first == base) _ c in
+    let xs = both_true (bits == radix) _ x.1 in
+    subst (λ n. (takes == n || takes == 0) ≡ true) whole xs.1
 
 either_way : (a b : Bool) → (not a || b) ≡ true → a ≡ true → b ≡ true
 either_way true b h k = h
@@ -303,7 +322,7 @@ over_last : (t : Standing) (base bits : ℕ) → is_over t (standing.Region base
 over_last (standing.Region first few) base bits h = has_last first few base bits h
 over_last (standing.Untyped first few) base bits h = absurd (false≢true h)
 over_last (standing.Endpoint first most rights) base bits h = absurd (false≢true h)
-over_last (standing.Node first radix is_whole) base bits h = absurd (false≢true h)
+over_last (standing.Node first radix takes) base bits h = absurd (false≢true h)
 over_last (standing.Thread first) base bits h = absurd (false≢true h)
 
 module _ (p : ProfileName) (memory : List PartMemory) (all : List MayStand) (callers : List Caller) (trusted : List ℕ) where
@@ -357,25 +376,38 @@ module _ (p : ProfileName) (memory : List PartMemory) (all : List MayStand) (cal
     begins_is : begin ≡ true
     begins_is = (both_true begin _ h).0
 
-    after_begin : ((are_ending all k.set || lead_to p memory all k.names.items k.names.items)
-        && (lead_to p memory all k.names.items k.fills.items
+    abbrev whole : Bool
+    whole = list_all (λ (s : MayStand). not (s.set == k.set && may_end p s.what) || slots_lie p memory k.nodes.items s.what) all
+
+    after_begin : (whole
+        && ((are_ending p all k.set || goes_on p memory all k)
+        && (lead_to p memory all k.nodes.items k.fills.items
         && (lead_to p memory all k.fills.items k.fills.items
-        && (are_put all k && (are_made all k && roots_set memory all k))))) ≡ true
+        && (are_put all k && (are_made all k && roots_set memory all k)))))) ≡ true
     after_begin = (both_true begin _ h).1
 
-    goes_is : (are_ending all k.set || lead_to p memory all k.names.items k.names.items) ≡ true
-    goes_is = (both_true (are_ending all k.set || lead_to p memory all k.names.items k.names.items) _ after_begin).0
+    whole_is : whole ≡ true
+    whole_is = (both_true whole _ after_begin).0
 
-    after_goes : (lead_to p memory all k.names.items k.fills.items
+    after_whole : ((are_ending p all k.set || goes_on p memory all k)
+        && (lead_to p memory all k.nodes.items k.fills.items
+        && (lead_to p memory all k.fills.items k.fills.items
+        && (are_put all k && (are_made all k && roots_set memory all k))))) ≡ true
+    after_whole = (both_true whole _ after_begin).1
+
+    goes_is : (are_ending p all k.set || goes_on p memory all k) ≡ true
+    goes_is = (both_true (are_ending p all k.set || goes_on p memory all k) _ after_whole).0
+
+    after_goes : (lead_to p memory all k.nodes.items k.fills.items
         && (lead_to p memory all k.fills.items k.fills.items
         && (are_put all k && (are_made all k && roots_set memory all k)))) ≡ true
-    after_goes = (both_true (are_ending all k.set || lead_to p memory all k.names.items k.names.items) _ after_begin).1
+    after_goes = (both_true (are_ending p all k.set || goes_on p memory all k) _ after_whole).1
 
-    given_is : lead_to p memory all k.names.items k.fills.items ≡ true
-    given_is = (both_true (lead_to p memory all k.names.items k.fills.items) _ after_goes).0
+    given_is : lead_to p memory all k.nodes.items k.fills.items ≡ true
+    given_is = (both_true (lead_to p memory all k.nodes.items k.fills.items) _ after_goes).0
 
     after_given : (lead_to p memory all k.fills.items k.fills.items && (are_put all k && (are_made all k && roots_set memory all k))) ≡ true
-    after_given = (both_true (lead_to p memory all k.names.items k.fills.items) _ after_goes).1
+    after_given = (both_true (lead_to p memory all k.nodes.items k.fills.items) _ after_goes).1
 
     deeper_is : lead_to p memory all k.fills.items k.fills.items ≡ true
     deeper_is = (both_true (lead_to p memory all k.fills.items k.fills.items) _ after_given).0
@@ -399,11 +431,20 @@ module _ (p : ProfileName) (memory : List PartMemory) (all : List MayStand) (cal
         (either_way (s.0.set == k.set) _ (all_in (λ (x : MayStand). not (x.set == k.set) || slots_lie p memory k.names.items x.what) all s.0 begins_is s.1.0)
         (subst (λ n. n == k.set ≡ true) (sym s.1.1.0) (eqb_self k.set))) is
 
-    ending_at : are_ending all k.set ≡ true → (base radix : ℕ) (guard : Guard) → may_stand p all k.set (CNode base radix guard) ≡ true → guard.size + radix ≡ word_bits p
+    ends_at : (base radix : ℕ) (guard : Guard) (slot : ℕ) → may_stand p all k.set (CNode base radix guard) ≡ true → guard.size + radix ≡ word_bits p →
+        IsSlotOf p (CNode base radix guard) slot → is_among k.nodes.items (set_at memory slot) ≡ true
+    ends_at base radix guard slot may takes is =
+        let s = stands_by k.set (CNode base radix guard) refl may in
+        slot_lies p memory k.nodes.items s.0.what (CNode base radix guard) slot s.1.1.1
+        (either_way (s.0.set == k.set && may_end p s.0.what) _
+        (all_in (λ (x : MayStand). not (x.set == k.set && may_end p x.what) || slots_lie p memory k.nodes.items x.what) all s.0 whole_is s.1.0)
+        (and_true (s.0.set == k.set) _ (subst (λ n. n == k.set ≡ true) (sym s.1.1.0) (eqb_self k.set)) (may_end_by p s.0.what base radix guard s.1.1.1 takes))) is
+
+    ending_at : are_ending p all k.set ≡ true → (base radix : ℕ) (guard : Guard) → may_stand p all k.set (CNode base radix guard) ≡ true → guard.size + radix ≡ word_bits p
     ending_at e base radix guard may =
         let s = stands_by k.set (CNode base radix guard) refl may in
         ends p s.0.what base radix guard s.1.1.1
-        (either_way (s.0.set == k.set) _ (all_in (λ (x : MayStand). not (x.set == k.set) || is_ending x.what) all s.0 e s.1.0)
+        (either_way (s.0.set == k.set) _ (all_in (λ (x : MayStand). not (x.set == k.set) || is_ending p x.what) all s.0 e s.1.0)
         (subst (λ n. n == k.set ≡ true) (sym s.1.1.0) (eqb_self k.set)))
 
     -- what stands in a set that is filled is put
@@ -441,7 +482,7 @@ module _ (p : ProfileName) (memory : List PartMemory) (all : List MayStand) (cal
         may_of to (standing.Region first few) made (each_has sets to (standing.Region first few) m in_to)
         (within_trans first few base bits (base_of made) (bits_of p made) c inside)
     in_made (standing.Endpoint first most rights) base bits free made sets to c m in_to inside = absurd (false≢true c)
-    in_made (standing.Node first radix is_whole) base bits free made sets to c m in_to inside = absurd (false≢true c)
+    in_made (standing.Node first radix takes) base bits free made sets to c m in_to inside = absurd (false≢true c)
     in_made (standing.Thread first) base bits free made sets to c m in_to inside = absurd (false≢true c)
 
     made_in : (what : Standing) (base bits free : ℕ) (made : Cap) (to : ℕ) → covers p what (Untyped base bits free) ≡ true → is_made all k.fills.items (made_of what) ≡ true →
@@ -458,7 +499,7 @@ module _ (p : ProfileName) (memory : List PartMemory) (all : List MayStand) (cal
         let end = has_last first few base bits c in
         in_made (standing.Region first few) base bits free made k.fills.items to c m in_to (within_of base bits (base_of made) (bits_of p made) end.0 end.1 low high)
     made_in (standing.Endpoint first most rights) base bits free made to c m in_to low high = absurd (false≢true c)
-    made_in (standing.Node first radix is_whole) base bits free made to c m in_to low high = absurd (false≢true c)
+    made_in (standing.Node first radix takes) base bits free made to c m in_to low high = absurd (false≢true c)
     made_in (standing.Thread first) base bits free made to c m in_to low high = absurd (false≢true c)
 
     makes_at : (from to base bits free : ℕ) (made : Cap) → is_among k.names.items from ≡ true → is_among k.fills.items to ≡ true →
@@ -478,9 +519,9 @@ module _ (p : ProfileName) (memory : List PartMemory) (all : List MayStand) (cal
         range_where (roots_stand all k) memory base bits thread (last_in base bits) refl g inside.0 inside.1
     thread_gets (standing.Untyped base bits) thread c g = absurd (false≢true c)
     thread_gets (standing.Endpoint base most rights) thread c g = absurd (false≢true c)
-    thread_gets (standing.Node base radix is_whole) thread c g = absurd (false≢true c)
+    thread_gets (standing.Node base radix takes) thread c g = absurd (false≢true c)
 
-    sets_at : (from of thread base radix : ℕ) (guard other : Guard) → is_among k.names.items from ≡ true → is_among k.names.items of ≡ true →
+    sets_at : (from of thread base radix : ℕ) (guard other : Guard) → is_among k.nodes.items from ≡ true → is_among k.names.items of ≡ true →
         may_stand p all of (Tcb thread) ≡ true → may_stand p all from (CNode base radix guard) ≡ true → may_stand p all (set_at memory thread) (CNode base radix other) ≡ true
     sets_at from of thread base radix guard other in_from in_of may_of' may_from =
         let t = stands_by of (Tcb thread) refl may_of' in
@@ -488,9 +529,9 @@ module _ (p : ProfileName) (memory : List PartMemory) (all : List MayStand) (cal
         let gets = either_way (is_among k.names.items t.0.set) _ (all_in (λ (x : MayStand). not (is_among k.names.items x.set) || threads_get memory all k x.what) all t.0 roots_is t.1.0)
         (subst (λ m. is_among k.names.items m ≡ true) (sym t.1.1.0) in_of) in
         let roots = thread_gets t.0.what thread t.1.1.1 gets in
-        let stands = either_way (is_among k.names.items n.0.set && has_slots n.0.what) _
-        (all_in (λ (x : MayStand). not (is_among k.names.items x.set && has_slots x.what) || has_over all (set_at memory thread) (opened x.what)) all n.0 roots n.1.0)
-        (and_true (is_among k.names.items n.0.set) _ (subst (λ m. is_among k.names.items m ≡ true) (sym n.1.1.0) in_from) (with_slots p n.0.what base radix guard n.1.1.1)) in
+        let stands = either_way (is_among k.nodes.items n.0.set && has_slots n.0.what) _
+        (all_in (λ (x : MayStand). not (is_among k.nodes.items x.set && has_slots x.what) || has_over all (set_at memory thread) (opened x.what)) all n.0 roots n.1.0)
+        (and_true (is_among k.nodes.items n.0.set) _ (subst (λ m. is_among k.nodes.items m ≡ true) (sym n.1.1.0) in_from) (with_slots p n.0.what base radix guard n.1.1.1)) in
         may_of (set_at memory thread) (opened n.0.what) (CNode base radix other) stands
         (opened_covers p n.0.what (CNode base radix guard) (CNode base radix other) n.1.1.1 (other, refl))
 
@@ -509,22 +550,30 @@ module _ (p : ProfileName) (memory : List PartMemory) (all : List MayStand) (cal
   caller_settled c (Some k) is h =
       let at = set_is callers c k is in
       let named : (set : ℕ) → names_of (caller_of callers c) set ≡ is_among k.names.items set = λ set. ap (λ (o : Option Caller). names_of o set) is in
+      let noded : (set : ℕ) → nodes_of (caller_of callers c) set ≡ is_among k.nodes.items set = λ set. ap (λ (o : Option Caller). nodes_of o set) is in
       let filled : (set : ℕ) → fills_of (caller_of callers c) set ≡ is_among k.fills.items set = λ set. ap (λ (o : Option Caller). fills_of o set) is in
       record {
         begins = λ root slot may here. named (set_at memory slot) ∙ begins_at k h root slot (subst (λ n. may_stand p all n root ≡ true) (sym at) may) here;
-        goes_on = elim (either_true (are_ending all k.set) (lead_to p memory all k.names.items k.names.items) (goes_is k h)) [
+        goes_on = elim (either_true (are_ending p all k.set) (goes_on p memory all k) (goes_is k h)) [
           | inl e ↦ inl (λ base radix guard may. ending_at k h e base radix guard (subst (λ n. may_stand p all n (CNode base radix guard) ≡ true) (sym at) may))
-          | inr g ↦ inr (λ set cap slot in_names may here. named (set_at memory slot) ∙ leads k.names.items k.names.items set cap slot g (sym (named set) ∙ in_names) may here)
+          | inr g ↦ inr (λ set cap slot in_names may here.
+              let both = both_true (lead_to p memory all k.names.items k.names.items) (lead_to p memory all k.names.items k.nodes.items) g in
+              let from = sym (named set) ∙ in_names in (
+                named (set_at memory slot) ∙ leads k.names.items k.names.items set cap slot both.0 from may here,
+                noded (set_at memory slot) ∙ leads k.names.items k.nodes.items set cap slot both.1 from may here,
+              ))
         ];
+        ends = λ base radix guard slot may takes here.
+            noded (set_at memory slot) ∙ ends_at k h base radix guard slot (subst (λ n. may_stand p all n (CNode base radix guard) ≡ true) (sym at) may) takes here;
         reaches = λ set cap slot in_either may here. filled (set_at memory slot) ∙ elim in_either [
-          | inl n ↦ leads k.names.items k.fills.items set cap slot (given_is k h) (sym (named set) ∙ n) may here
+          | inl n ↦ leads k.nodes.items k.fills.items set cap slot (given_is k h) (sym (noded set) ∙ n) may here
           | inr f ↦ leads k.fills.items k.fills.items set cap slot (deeper_is k h) (sym (filled set) ∙ f) may here
         ];
         puts = λ from to cap made in_from in_to may is. puts_at k h from to cap made (sym (filled from) ∙ in_from) (sym (filled to) ∙ in_to) may is;
         makes = λ from to base bits free made in_from in_to may low high.
             makes_at k h from to base bits free made (sym (named from) ∙ in_from) (sym (filled to) ∙ in_to) may low high;
         sets = λ from of thread base radix guard other in_from in_of may_of' may_from.
-            sets_at k h from of thread base radix guard other (sym (named from) ∙ in_from) (sym (named of) ∙ in_of) may_of' may_from;
+            sets_at k h from of thread base radix guard other (sym (noded from) ∙ in_from) (sym (named of) ∙ in_of) may_of' may_from;
       }
 
   -- each thread that may stand somewhere and is not trusted has a settled set
@@ -545,14 +594,14 @@ module _ (p : ProfileName) (memory : List PartMemory) (all : List MayStand) (cal
       (range_where (λ set. is_set_settled p memory all (caller_of callers set)) memory base bits thread (last_in base bits) refl h inside.0 inside.1)
   thread_settled (standing.Untyped base bits) thread c h free = absurd (false≢true c)
   thread_settled (standing.Endpoint base most rights) thread c h free = absurd (false≢true c)
-  thread_settled (standing.Node base radix is_whole) thread c h free = absurd (false≢true c)
+  thread_settled (standing.Node base radix takes) thread c h free = absurd (false≢true c)
 
   -- how much is used of a region does not matter
   used_same : (what : Standing) (base bits free other : ℕ) → covers p what (Untyped base bits free) ≡ covers p what (Untyped base bits other)
   used_same (standing.Untyped first few) base bits free other = refl
   used_same (standing.Region first few) base bits free other = refl
   used_same (standing.Endpoint first most rights) base bits free other = refl
-  used_same (standing.Node first radix is_whole) base bits free other = refl
+  used_same (standing.Node first radix takes) base bits free other = refl
   used_same (standing.Thread first) base bits free other = refl
 
   pub settled_by_test : is_settled p memory all callers trusted ≡ true → IsSettled p flow

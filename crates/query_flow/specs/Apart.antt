@@ -27,6 +27,14 @@ names_by (Some k) = k.names.items
 abbrev pub names_in : Flows → ℕ → List ℕ
 names_in flows thread = names_by (caller_of flows.callers.items (set_at flows.memory.items thread))
 
+abbrev pub nodes_by : Option Caller → List ℕ
+nodes_by None = []
+nodes_by (Some k) = k.nodes.items
+
+-- the sets in which they may end at a CNode's capability
+abbrev pub nodes_in : Flows → ℕ → List ℕ
+nodes_in flows thread = nodes_by (caller_of flows.callers.items (set_at flows.memory.items thread))
+
 -- ---- the endpoints that a thread may use with a right, but those that are named: each spot from one address to another
 
 abbrev pub one_at : ℕ → Spot
@@ -87,7 +95,7 @@ abbrev pub names_no_thread : ProfileName → List ℕ → List MayStand → ℕ 
 names_no_thread p names all to = list_all (λ (s : MayStand). not (is_among names s.set && covers p s.what (Tcb to))) all
 
 abbrev pub names_no_node : List ℕ → List MayStand → Bool
-names_no_node names all = list_all (λ (s : MayStand). not (is_among names s.set && has_slots s.what)) all
+names_no_node nodes all = list_all (λ (s : MayStand). not (is_among nodes s.set && has_slots s.what)) all
 
 -- flows that pass the test, with these threads trusted
 pub record IsTested (p : ProfileName) (trusted : List ℕ) (v : Shown) (flows : Flows) : Type 0 where

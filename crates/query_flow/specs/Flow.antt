@@ -13,13 +13,14 @@ use Rattle.kernel_forest.specs.Forest.{Forest}
 use Rattle.kernel_forest.specs.Entries.{Entry, cap_at}
 
 -- all slots in sets, by the set's number; what may stand in the slots of a set; which threads are trusted to make no calls but sends and
--- receives; and of the threads whose root slots lie in a set: in which sets their words may end, and which they may fill and read by
--- an index
+-- receives; and of the threads whose root slots lie in a set: in which sets their words may end, in which they may end at a CNode's
+-- capability, and which they may fill and read by an index
 pub record Flow : Type 0 where
   pub set_of : ℕ → ℕ
   pub may : ℕ → Cap → Bool
   pub trusted : ℕ → Bool
   pub names : ℕ → ℕ → Bool
+  pub nodes : ℕ → ℕ → Bool
   pub fills : ℕ → ℕ → Bool
 
 -- a capability may stand in a slot
@@ -48,18 +49,22 @@ abbrev pub IsEnding : ProfileName → Flow → ℕ → Type 0
 IsEnding p flow c =
     (base radix : ℕ) (guard : Guard) → flow.may c (CNode base radix guard) ≡ true → guard.size + radix ≡ word_bits p
 
--- words go on from a CNode's capability in a slot in which they may end
+-- words go on from a CNode's capability in a slot in which they may end, and may end at one behind it
 abbrev pub GoesOn : ProfileName → Flow → ℕ → Type 0
 GoesOn p flow c =
-    (set : ℕ) (cap : Cap) (slot : ℕ) → flow.names c set ≡ true → flow.may set cap ≡ true → IsSlotOf p cap slot → LiesIn flow (flow.names c) slot
+    (set : ℕ) (cap : Cap) (slot : ℕ) → flow.names c set ≡ true → flow.may set cap ≡ true → IsSlotOf p cap slot →
+    LiesIn flow (flow.names c) slot × LiesIn flow (flow.nodes c) slot
 
 -- what threads do whose root slots lie in set c: nothing that is not told
 pub record IsSettledFor (p : ProfileName) (flow : Flow) (c : ℕ) : Type 0 where
   -- their words end in the slots of their roots, or go on
   pub begins : (root : Cap) (slot : ℕ) → flow.may c root ≡ true → IsSlotOf p root slot → LiesIn flow (flow.names c) slot
   pub goes_on : IsEnding p flow c ⊎ GoesOn p flow c
+  -- words end at a CNode's capability in a root where that takes all their bits
+  pub ends : (base radix : ℕ) (guard : Guard) (slot : ℕ) → flow.may c (CNode base radix guard) ≡ true → guard.size + radix ≡ word_bits p →
+      IsSlotOf p (CNode base radix guard) slot → LiesIn flow (flow.nodes c) slot
   -- they fill and read the slots of CNodes whose capabilities words lead to, or stand in slots that they read
-  pub reaches : (set : ℕ) (cap : Cap) (slot : ℕ) → (flow.names c set ≡ true) ⊎ (flow.fills c set ≡ true) → flow.may set cap ≡ true →
+  pub reaches : (set : ℕ) (cap : Cap) (slot : ℕ) → (flow.nodes c set ≡ true) ⊎ (flow.fills c set ≡ true) → flow.may set cap ≡ true →
       IsSlotOf p cap slot → LiesIn flow (flow.fills c) slot
   -- what they read they may put where they fill
   pub puts : (from to : ℕ) (cap made : Cap) → flow.fills c from ≡ true → flow.fills c to ≡ true → flow.may from cap ≡ true →
@@ -68,7 +73,7 @@ pub record IsSettledFor (p : ProfileName) (flow : Flow) (c : ℕ) : Type 0 where
   pub makes : (from to base bits free : ℕ) (made : Cap) → flow.names c from ≡ true → flow.fills c to ≡ true →
       flow.may from (Untyped base bits free) ≡ true → base ≤ base_of made → end_of p made ≤ base + 2 ^ bits → flow.may to made ≡ true
   -- a CNode that a word leads to may become the root of a thread that a word leads to
-  pub sets : (from of thread base radix : ℕ) (guard other : Guard) → flow.names c from ≡ true → flow.names c of ≡ true →
+  pub sets : (from of thread base radix : ℕ) (guard other : Guard) → flow.nodes c from ≡ true → flow.names c of ≡ true →
       flow.may of (Tcb thread) ≡ true → flow.may from (CNode base radix guard) ≡ true → StandsAt flow thread (CNode base radix other)
 
 -- a flow that holds for all calls: any slot may be empty, how much is used of a region does not matter, and each thread that is not

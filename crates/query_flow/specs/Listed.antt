@@ -32,6 +32,10 @@ set_at memory address = unwrap_or (part_at memory address) 0
 abbrev pub fits_badge : Badge → Badge → Bool
 fits_badge most badge = most.0 == badge.0 || most.0 == 0
 
+-- the bits that a CNode takes, or any where none are told
+abbrev pub fits_bits : ℕ → ℕ → Bool
+fits_bits most takes = most == takes || most == 0
+
 abbrev pub has_rights : Rights → Rights → Bool
 has_rights most few = bit_and few.0 most.0 == few.0
 
@@ -45,13 +49,12 @@ abbrev pub within : ℕ → ℕ → ℕ → ℕ → Bool
 within base bits other few = nat_le base other && last_le (last_in other few) (last_in base bits)
 
 -- what stands for a capability: an untyped region for its own, a region for all that lies in it, an endpoint with a badge that fits and no more rights, a CNode with
--- any guard, or with one by which it takes all bits of a word, and a thread
+-- any guard, or with one by which it takes so many bits, and a thread
 abbrev pub covers : ProfileName → Standing → Cap → Bool
 covers p (standing.Untyped base bits) (Untyped other few free) = base == other && bits == few
 covers p (standing.Region base bits) cap = within base bits (base_of cap) (bits_of p cap)
 covers p (standing.Endpoint base most rights) (Endpoint other badge few) = base == other && (fits_badge most badge && has_rights rights few)
-covers p (standing.Node base radix is_whole) (CNode other bits guard) =
-    base == other && (radix == bits && (not is_whole || guard.size + bits == word_bits p))
+covers p (standing.Node base radix takes) (CNode other bits guard) = base == other && (radix == bits && fits_bits takes (guard.size + bits))
 covers p (standing.Thread base) (Tcb other) = base == other
 covers p what cap = false
 
@@ -68,6 +71,10 @@ abbrev pub names_of : Option Caller → ℕ → Bool
 names_of None set = false
 names_of (Some k) set = is_among k.names.items set
 
+abbrev pub nodes_of : Option Caller → ℕ → Bool
+nodes_of None set = false
+nodes_of (Some k) set = is_among k.nodes.items set
+
 abbrev pub fills_of : Option Caller → ℕ → Bool
 fills_of None set = false
 fills_of (Some k) set = is_among k.fills.items set
@@ -78,6 +85,7 @@ flow_listed p memory all callers trusted = record {
   may = may_stand p all;
   trusted = is_among trusted;
   names = λ c. names_of (caller_of callers c);
+  nodes = λ c. nodes_of (caller_of callers c);
   fills = λ c. fills_of (caller_of callers c);
 }
 
@@ -103,7 +111,7 @@ lie_where test memory first (Some last) =
 -- the slots of what a standing stands for
 abbrev pub slots_lie : ProfileName → List PartMemory → List ℕ → Standing → Bool
 slots_lie p memory sets (standing.Region base bits) = lie_where (is_among sets) memory base (last_in base bits)
-slots_lie p memory sets (standing.Node base radix is_whole) = lie_where (is_among sets) memory base (last_in base (slot_bits p + radix))
+slots_lie p memory sets (standing.Node base radix takes) = lie_where (is_among sets) memory base (last_in base (slot_bits p + radix))
 slots_lie p memory sets what = true
 
 -- what stands in some sets has its slots in others
@@ -111,17 +119,23 @@ abbrev pub lead_to : ProfileName → List PartMemory → List MayStand → List 
 lead_to p memory all from to = list_all (λ (s : MayStand). not (is_among from s.set) || slots_lie p memory to s.what) all
 
 -- a CNode by which words end
-abbrev pub is_ending : Standing → Bool
-is_ending (standing.Region base bits) = false
-is_ending (standing.Node base radix is_whole) = is_whole
-is_ending what = true
+abbrev pub is_ending : ProfileName → Standing → Bool
+is_ending p (standing.Region base bits) = false
+is_ending p (standing.Node base radix takes) = takes == word_bits p
+is_ending p what = true
 
-abbrev pub are_ending : List MayStand → ℕ → Bool
-are_ending all set = list_all (λ (s : MayStand). not (s.set == set) || is_ending s.what) all
+abbrev pub are_ending : ProfileName → List MayStand → ℕ → Bool
+are_ending p all set = list_all (λ (s : MayStand). not (s.set == set) || is_ending p s.what) all
+
+-- a CNode by which words may end
+abbrev pub may_end : ProfileName → Standing → Bool
+may_end p (standing.Region base bits) = true
+may_end p (standing.Node base radix takes) = fits_bits takes (word_bits p)
+may_end p what = false
 
 -- what a copy may make of it: a CNode's guard is set anew
 abbrev pub opened : Standing → Standing
-opened (standing.Node base radix is_whole) = standing.Node base radix false
+opened (standing.Node base radix takes) = standing.Node base radix 0
 opened what = what
 
 -- it stands for all that another stands for
@@ -130,7 +144,7 @@ is_over (standing.Untyped base bits) (standing.Untyped other few) = base == othe
 is_over (standing.Region base bits) (standing.Untyped other few) = within base bits other few
 is_over (standing.Region base bits) (standing.Region other few) = within base bits other few
 is_over (standing.Endpoint base most rights) (standing.Endpoint other badge few) = base == other && (fits_badge most badge && has_rights rights few)
-is_over (standing.Node base radix is_whole) (standing.Node other bits whole) = base == other && (radix == bits && (not is_whole || whole))
+is_over (standing.Node base radix takes) (standing.Node other bits some) = base == other && (radix == bits && fits_bits takes some)
 is_over (standing.Thread base) (standing.Thread other) = base == other
 is_over what other = false
 
@@ -156,7 +170,7 @@ is_made all sets (Some what) = all_have all sets what
 
 abbrev pub has_slots : Standing → Bool
 has_slots (standing.Region base bits) = true
-has_slots (standing.Node base radix is_whole) = true
+has_slots (standing.Node base radix takes) = true
 has_slots what = false
 
 -- what stands in the sets that are filled stands in each of them, and so do the regions in the sets that are named
@@ -166,10 +180,10 @@ are_put all k = list_all (λ (s : MayStand). not (is_among k.fills.items s.set) 
 abbrev pub are_made : List MayStand → Caller → Bool
 are_made all k = list_all (λ (s : MayStand). not (is_among k.names.items s.set) || is_made all k.fills.items (made_of s.what)) all
 
--- each CNode in the sets that are named may be a root in a set
+-- each CNode whose capability words may lead to may be a root in a set
 abbrev pub roots_stand : List MayStand → Caller → ℕ → Bool
 roots_stand all k set =
-    list_all (λ (s : MayStand). not (is_among k.names.items s.set && has_slots s.what) || has_over all set (opened s.what)) all
+    list_all (λ (s : MayStand). not (is_among k.nodes.items s.set && has_slots s.what) || has_over all set (opened s.what)) all
 
 -- and is one of each thread that stands there
 abbrev pub threads_get : List PartMemory → List MayStand → Caller → Standing → Bool
@@ -180,13 +194,18 @@ threads_get memory all k what = true
 abbrev pub roots_set : List PartMemory → List MayStand → Caller → Bool
 roots_set memory all k = list_all (λ (s : MayStand). not (is_among k.names.items s.set) || threads_get memory all k s.what) all
 
+-- words go on from what stands in the sets in which they end
+abbrev pub goes_on : ProfileName → List PartMemory → List MayStand → Caller → Bool
+goes_on p memory all k = lead_to p memory all k.names.items k.names.items && lead_to p memory all k.names.items k.nodes.items
+
 abbrev pub is_caller_settled : ProfileName → List PartMemory → List MayStand → Caller → Bool
 is_caller_settled p memory all k =
     list_all (λ (s : MayStand). not (s.set == k.set) || slots_lie p memory k.names.items s.what) all
-    && ((are_ending all k.set || lead_to p memory all k.names.items k.names.items)
-    && (lead_to p memory all k.names.items k.fills.items
+    && (list_all (λ (s : MayStand). not (s.set == k.set && may_end p s.what) || slots_lie p memory k.nodes.items s.what) all
+    && ((are_ending p all k.set || goes_on p memory all k)
+    && (lead_to p memory all k.nodes.items k.fills.items
     && (lead_to p memory all k.fills.items k.fills.items
-    && (are_put all k && (are_made all k && roots_set memory all k)))))
+    && (are_put all k && (are_made all k && roots_set memory all k))))))
 
 abbrev pub is_set_settled : ProfileName → List PartMemory → List MayStand → Option Caller → Bool
 is_set_settled p memory all None = false

@@ -59,6 +59,23 @@ fn names_in(flows: &Flows, thread: u64) -> &[u64]
     names_by(flows.callers.as_slice(), set)
 }
 
+fn nodes_by(callers: &[Caller], set: u64) -> &[u64]
+    ensures { result.now ≡ spec.nodes_by (listed.caller_of callers.entry.now set) }
+{
+    let Some(caller) = caller_of(callers, set) else {
+        return &[];
+    };
+    caller.nodes.as_slice()
+}
+
+/// The sets in which the words of a thread may end at a CNode's capability.
+fn nodes_in(flows: &Flows, thread: u64) -> &[u64]
+    ensures { result.now ≡ spec.nodes_in flows.entry.now thread }
+{
+    let set = set_of(flows, thread);
+    nodes_by(flows.callers.as_slice(), set)
+}
+
 fn has_right(right: Rights, rights: Rights) -> bool
     ensures { result ≡ has_right_of right.0 rights }
 {
@@ -235,11 +252,11 @@ fn names_no_thread<P: Profile>(names: &[u64], all: &[MayStand], to: u64) -> bool
     all.iter().all(|s| !(names.contains(&s.set) && covers::<P>(s.what, Cap::Tcb { base: to })))
 }
 
-fn names_no_node(names: &[u64], all: &[MayStand]) -> bool
-    ensures { result ≡ spec.names_no_node names.now all.now }
+fn names_no_node(nodes: &[u64], all: &[MayStand]) -> bool
+    ensures { result ≡ spec.names_no_node nodes.now all.now }
 {
     all.iter()
-        .all(|s| !(names.contains(&s.set) && has_slots(s.what)))
+        .all(|s| !(nodes.contains(&s.set) && has_slots(s.what)))
 }
 
 /// Whether a thread's set is settled, and no word of it leads to another thread's control block.
@@ -254,10 +271,10 @@ fn holds_none<P: Profile>(flows: &Flows, from: u64, to: u64) -> bool
 /// Whether a thread's set is settled, and no word of it leads to a CNode's capability.
 fn fills_none<P: Profile>(flows: &Flows, from: u64) -> bool
     ensures settled { result ≡ true → listed.is_set_settled P.profile flows.now.memory.items flows.now.standing.items (listed.caller_of flows.now.callers.items (listed.set_at flows.now.memory.items from)) ≡ true }
-    ensures none { result ≡ true → spec.names_no_node (spec.names_in flows.now from) flows.now.standing.items ≡ true }
+    ensures none { result ≡ true → spec.names_no_node (spec.nodes_in flows.now from) flows.now.standing.items ≡ true }
 {
     is_thread_settled::<P>(flows, from)
-        && names_no_node(names_in(flows, from), flows.standing.as_slice())
+        && names_no_node(nodes_in(flows, from), flows.standing.as_slice())
 }
 
 fn are_alike(some: &[u64], others: &[u64]) -> bool

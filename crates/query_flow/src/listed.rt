@@ -1,5 +1,5 @@
 //! Flows as lists, and the tests that one is settled.
-ghost use Rattle.std.specs.Prelude.{◌≡◌, ◌==◌, ◌||◌, not, true, option_copied, IfOk};
+ghost use Rattle.std.specs.Prelude.{◌≡◌, ◌==◌, ◌||◌, ◌&&◌, not, true, option_copied, IfOk};
 ghost use Rattle.std.specs.List.{list_any, list_all};
 ghost use Rattle.slot_core.specs.Calls.{derivation_view};
 ghost use Rattle.cap_core.specs.Objects.{is_null as null};
@@ -33,11 +33,11 @@ pub enum Standing {
         badge: Badge,
         rights: Rights,
     },
-    /// Capabilities to a CNode; where `is_whole`, with guards by which it takes all bits of a word.
+    /// Capabilities to a CNode whose guard and radix take so many bits, or any number where it is 0.
     Node {
         base: u64,
         radix: u64,
-        is_whole: bool,
+        takes: u64,
     },
     /// The capability to a thread.
     Thread {
@@ -52,11 +52,13 @@ pub struct MayStand {
     pub what: Standing,
 }
 
-/// The threads whose root slots lie in a set: in which sets their words may end, and which sets they may fill and read.
+/// The threads whose root slots lie in a set: in which sets their words may end, in which at a CNode's capability, and which sets they
+/// may fill and read.
 #[derive(Drop)]
 pub struct Caller {
     pub set: u64,
     pub names: Vec<u64>,
+    pub nodes: Vec<u64>,
     pub fills: Vec<u64>,
 }
 
@@ -101,6 +103,13 @@ fn fits_badge(most: Badge, badge: Badge) -> bool
     ensures { result ≡ spec.fits_badge most badge }
 {
     most.0 == badge.0 || most.0 == 0
+}
+
+/// Whether so many bits are those that are taken, or any may be.
+fn fits_bits(most: u64, takes: u64) -> bool
+    ensures { result ≡ spec.fits_bits most takes }
+{
+    most == takes || most == 0
 }
 
 /// Whether a stretch has none of some addresses.
@@ -172,21 +181,50 @@ fn begins<P: Profile>(memory: &[PartMemory], all: &[MayStand], caller: &Caller) 
     all.iter().all(|s| s.set != caller.set || slots_lie::<P>(memory, names, s.what))
 }
 
+/// Whether a CNode that it stands for may take all bits of a word.
+pub fn may_end<P: Profile>(what: Standing) -> bool
+    ensures { result ≡ spec.may_end P.profile what }
+{
+    match what {
+        Standing::Region { .. } => true,
+        Standing::Node { takes, .. } => fits_bits(takes, P::WORD_BITS as u64),
+        _ => false,
+    }
+}
+
+/// Whether the roots of a caller that may take all bits of a word have their slots where its words may end at CNodes' capabilities.
+fn ends_at_once<P: Profile>(memory: &[PartMemory], all: &[MayStand], caller: &Caller) -> bool
+    ensures { result ≡ list_all (λ s. not (s.set == caller.now.set && spec.may_end P.profile s.what) || spec.slots_lie P.profile memory.now caller.now.nodes.items s.what) all.now }
+{
+    let nodes = caller.nodes.as_slice();
+    all.iter().all(|s| {
+        !(s.set == caller.set && may_end::<P>(s.what)) || slots_lie::<P>(memory, nodes, s.what)
+    })
+}
+
 /// Whether it is a CNode by which words end, or has no slots.
-fn is_ending(what: Standing) -> bool
-    ensures { result ≡ spec.is_ending what }
+fn is_ending<P: Profile>(what: Standing) -> bool
+    ensures { result ≡ spec.is_ending P.profile what }
 {
     match what {
         Standing::Region { .. } => false,
-        Standing::Node { is_whole, .. } => is_whole,
+        Standing::Node { takes, .. } => takes == P::WORD_BITS as u64,
         _ => true,
     }
 }
 
-pub fn are_ending(all: &[MayStand], set: u64) -> bool
-    ensures { result ≡ spec.are_ending all.now set }
+pub fn are_ending<P: Profile>(all: &[MayStand], set: u64) -> bool
+    ensures { result ≡ spec.are_ending P.profile all.now set }
 {
-    all.iter().all(|s| s.set != set || is_ending(s.what))
+    all.iter().all(|s| s.set != set || is_ending::<P>(s.what))
+}
+
+/// Whether words go on from what stands in the sets in which they end.
+fn goes_on<P: Profile>(memory: &[PartMemory], all: &[MayStand], caller: &Caller) -> bool
+    ensures { result ≡ spec.goes_on P.profile memory.now all.now caller.now }
+{
+    let (names, nodes) = (caller.names.as_slice(), caller.nodes.as_slice());
+    lead_to::<P>(memory, all, names, names) && lead_to::<P>(memory, all, names, nodes)
 }
 
 /// What a copy may make of it.
@@ -197,7 +235,7 @@ pub fn opened(what: Standing) -> Standing
         Standing::Node { base, radix, .. } => Standing::Node {
             base,
             radix,
-            is_whole: false,
+            takes: 0,
         },
         _ => what,
     }
@@ -242,17 +280,13 @@ fn is_over(most: Standing, what: Standing) -> bool
             },
         ) => base == other && fits_badge(badge, some) && has_rights(rights, few),
         (
-            Standing::Node {
-                base,
-                radix,
-                is_whole,
-            },
+            Standing::Node { base, radix, takes },
             Standing::Node {
                 base: other,
                 radix: bits,
-                is_whole: whole,
+                takes: some,
             },
-        ) => base == other && radix == bits && (!is_whole || whole),
+        ) => base == other && radix == bits && fits_bits(takes, some),
         (Standing::Untyped { .. }, Standing::Untyped { .. })
         | (Standing::Thread { .. }, Standing::Thread { .. }) => most == what,
         _ => false,
@@ -305,13 +339,13 @@ pub fn has_slots(what: Standing) -> bool
     matches!(what, Standing::Region { .. } | Standing::Node { .. })
 }
 
-/// Whether each CNode in the sets that a caller names may be a root in a set.
+/// Whether each CNode to whose capability a caller's words may lead may be a root in a set.
 fn roots_stand(all: &[MayStand], caller: &Caller, set: u64) -> bool
     ensures { result ≡ spec.roots_stand all.now caller.now set }
 {
-    let names = caller.names.as_slice();
+    let nodes = caller.nodes.as_slice();
     all.iter().all(|s| {
-        !(names.contains(&s.set) && has_slots(s.what)) || has_over(all, set, opened(s.what))
+        !(nodes.contains(&s.set) && has_slots(s.what)) || has_over(all, set, opened(s.what))
     })
 }
 
@@ -352,10 +386,11 @@ fn roots_set(memory: &[PartMemory], all: &[MayStand], caller: &Caller) -> bool
 fn is_caller_settled<P: Profile>(memory: &[PartMemory], all: &[MayStand], caller: &Caller) -> bool
     ensures { result ≡ spec.is_caller_settled P.profile memory.now all.now caller.now }
 {
-    let (names, fills) = (caller.names.as_slice(), caller.fills.as_slice());
+    let (nodes, fills) = (caller.nodes.as_slice(), caller.fills.as_slice());
     begins::<P>(memory, all, caller)
-        && (are_ending(all, caller.set) || lead_to::<P>(memory, all, names, names))
-        && lead_to::<P>(memory, all, names, fills)
+        && ends_at_once::<P>(memory, all, caller)
+        && (are_ending::<P>(all, caller.set) || goes_on::<P>(memory, all, caller))
+        && lead_to::<P>(memory, all, nodes, fills)
         && lead_to::<P>(memory, all, fills, fills)
         && are_put(all, caller)
         && are_made(all, caller)
@@ -465,11 +500,7 @@ pub fn covers<P: Profile>(what: Standing, cap: Cap) -> bool
             },
         ) => { base == other && fits_badge(badge, some) && has_rights(rights, few) }
         (
-            Standing::Node {
-                base,
-                radix,
-                is_whole,
-            },
+            Standing::Node { base, radix, takes },
             Cap::CNode {
                 base: other,
                 radix: bits,
@@ -478,7 +509,7 @@ pub fn covers<P: Profile>(what: Standing, cap: Cap) -> bool
         ) => {
             base == other
                 && radix == bits as u64
-                && (!is_whole || guard.size as u64 + bits as u64 == P::WORD_BITS as u64)
+                && fits_bits(takes, guard.size as u64 + bits as u64)
         }
         (Standing::Thread { base }, Cap::Tcb { base: other }) => base == other,
         _ => false,

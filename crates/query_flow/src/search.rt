@@ -1,7 +1,7 @@
 //! Flows that are looked for. Nothing is promised of them: `is_flow` tests what is found.
 use crate::listed::{
-    Caller, Flows, MayStand, Standing, are_ending, has_all, has_over, has_slots, last_of, misses,
-    opened, set_at,
+    Caller, Flows, MayStand, Standing, are_ending, has_all, has_over, has_slots, last_of, may_end,
+    misses, opened, set_at,
 };
 use cap_core::{Cap, Profile, Range, range_of};
 use ipc_core::Waiters;
@@ -88,6 +88,23 @@ fn add_led_to<P: Profile>(
     Ok(())
 }
 
+/// Adds the sets of the slots of the roots in a set that may take all bits of a word.
+fn add_whole_roots<P: Profile>(
+    memory: &[PartMemory],
+    all: &[MayStand],
+    set: u64,
+    sets: &mut Vec<u64>,
+) -> Result<(), AllocError> {
+    for s in all {
+        if s.set == set && may_end::<P>(s.what) {
+            if let Some(range) = slots_of::<P>(s.what) {
+                add_sets(memory, sets, range)?;
+            }
+        }
+    }
+    Ok(())
+}
+
 /// What the threads whose root slots lie in a set name and fill, by what may stand so far.
 fn caller_in<P: Profile>(
     alloc: Global,
@@ -98,13 +115,21 @@ fn caller_in<P: Profile>(
     let roots = [set];
     let mut names = Vec::new(alloc);
     add_slots::<P>(memory, all, &roots, &mut names)?;
-    if !are_ending(all, set) {
+    let mut nodes = Vec::new(alloc);
+    add_whole_roots::<P>(memory, all, set, &mut nodes)?;
+    if !are_ending::<P>(all, set) {
         add_led_to::<P>(alloc, memory, all, &mut names)?;
+        add_slots::<P>(memory, all, names.as_slice(), &mut nodes)?;
     }
     let mut fills = Vec::new(alloc);
-    add_slots::<P>(memory, all, names.as_slice(), &mut fills)?;
+    add_slots::<P>(memory, all, nodes.as_slice(), &mut fills)?;
     add_led_to::<P>(alloc, memory, all, &mut fills)?;
-    Ok(Caller { set, names, fills })
+    Ok(Caller {
+        set,
+        names,
+        nodes,
+        fills,
+    })
 }
 
 /// Adds that something may stand in each of some sets.
@@ -171,7 +196,7 @@ fn add_roots(
 ) -> Result<(), AllocError> {
     let roots = roots_set_by(alloc, memory, known, caller)?;
     for s in known {
-        if caller.names.as_slice().contains(&s.set) && has_slots(s.what) {
+        if caller.nodes.as_slice().contains(&s.set) && has_slots(s.what) {
             add_to_all(all, roots.as_slice(), opened(s.what))?;
         }
     }
@@ -330,7 +355,7 @@ fn standing_of<P: Profile>(cap: Cap) -> Option<Standing> {
         Cap::CNode { base, radix, guard } => Some(Standing::Node {
             base,
             radix: radix as u64,
-            is_whole: guard.size as u64 + radix as u64 == P::WORD_BITS as u64,
+            takes: guard.size as u64 + radix as u64,
         }),
         Cap::Tcb { base } => Some(Standing::Thread { base }),
     }
