@@ -3,6 +3,7 @@ pub mod Found
 pub mod Passed
 pub mod Changes
 pub mod Runs
+pub mod Idle
 pub mod Told
 pub mod Settled
 pub mod Apart

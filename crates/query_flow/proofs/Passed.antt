@@ -66,7 +66,7 @@ module _ (p : ProfileName) (flow : Flow) (c : ℕ) where
   StaysIn (invocation.CancelBadged service) = ⊤
   StaysIn (invocation.SetSpace new) = StandsAt flow new.tcb new.cap
   StaysIn (invocation.Suspend tcb) = ⊤
-  StaysIn (invocation.Resume tcb) = ⊤
+  StaysIn (invocation.Resume tcb) = (set : ℕ) × ((flow.names c set ≡ true) × (flow.may set (Tcb tcb) ≡ true))
 
   served : (needed : Right) (slot set : ℕ) (cap : Cap) (service : Service) → flow.names c set ≡ true → flow.may set cap ≡ true →
       service_in needed slot cap ≡ Ok service → MayUse flow (right_bit needed) c service.endpoint service.badge
@@ -206,7 +206,12 @@ module _ (p : ProfileName) (flow : Flow) (c : ℕ) where
     invocation_stays (op.SetSpace cap root word) slot done here filled h =
         made_passed StaysIn invocation.SetSpace _ done (λ new is. space_stays slot root word new here is) h
     invocation_stays (op.Suspend cap) slot done here filled h = made_passed StaysIn invocation.Suspend _ done (λ tcb is. tt) h
-    invocation_stays (op.Resume cap) slot done here filled h = made_passed StaysIn invocation.Resume _ done (λ tcb is. tt) h
+    invocation_stays (op.Resume cap) slot done here filled h =
+        made_passed StaysIn invocation.Resume _ done
+        (λ tcb is. (
+          flow.set_of slot,
+          (here, subst (λ (it : Cap). flow.may (flow.set_of slot) it ≡ true) (tcb_named slot (cap_at f slot) tcb is) (held slot)),
+        )) h
 
     pub op_stays : (o : Op) (done : Invocation) → checked_op p f thread o ≡ Ok done → StaysIn done
     op_stays o done h =

@@ -1,11 +1,11 @@
 -- The tests by which a flow excludes that one thread does something to another.
-use Rattle.std.specs.Prelude.{◌≡◌, ℕ, Bool, cond, not, ◌&&◌, ◌||◌, nat_lt, List, [], ◌∷◌, ◌++◌, Option, Some, None, option_map}
+use Rattle.std.specs.Prelude.{◌≡◌, ℕ, Bool, true, false, cond, not, ◌&&◌, ◌||◌, nat_lt, List, [], ◌∷◌, ◌++◌, Option, Some, None, option_map}
 use Rattle.std.specs.List.{list_all, filter_map}
 use Rattle.cap_core.specs.declared.profile.ProfileName.{ProfileName}
 use Rattle.cap_core.specs.declared.capability.Cap.TheVariants.{Tcb}
 use Rattle.cap_core.specs.Rights.{write_bit, read_bit}
 use Rattle.kernel_abstract.specs.declared.call.ThreadState.{ThreadState}
-use Rattle.kernel_abstract.specs.declared.call.ThreadState.TheVariants.{Sending, Receiving}
+use Rattle.kernel_abstract.specs.declared.call.ThreadState.TheVariants.{Inactive, Sending, Receiving}
 use Rattle.kernel_abstract.specs.Decode.{has_right}
 use Rattle.kernel_abstract.specs.Shown.{Shown, state_at}
 use Rattle.query_parts.specs.Listed.{last_in}
@@ -15,6 +15,7 @@ use Rattle.query_flow.specs.declared.listed.MayStand.{MayStand}
 use Rattle.query_flow.specs.declared.listed.Caller.{Caller}
 use Rattle.query_flow.specs.declared.listed.Flows.{Flows}
 use Rattle.query_flow.specs.declared.excluded.Spot.{Spot}
+use Rattle.query_flow.specs.declared.excluded.Bound.{Bound}
 use Rattle.query_flow.specs.Listed.{is_among, set_at, covers, caller_of, has_slots, IsFlow}
 
 -- ---- what a thread names
@@ -82,8 +83,8 @@ are_apart some others = list_all (λ a. list_all (is_apart a) others) some
 
 -- ---- neither thread is trusted; and nothing that the one may send to the other may receive on
 
-abbrev pub are_free : Flows → ℕ → ℕ → Bool
-are_free flows from to = not (is_among flows.trusted.items from || is_among flows.trusted.items to)
+abbrev pub are_free : List ℕ → ℕ → ℕ → Bool
+are_free trusted from to = not (is_among trusted from || is_among trusted to)
 
 abbrev pub are_kept : Flows → Shown → List ℕ → ℕ → ℕ → Bool
 are_kept flows v by from to =
@@ -97,7 +98,38 @@ names_no_thread p names all to = list_all (λ (s : MayStand). not (is_among name
 abbrev pub names_no_node : List ℕ → List MayStand → Bool
 names_no_node nodes all = list_all (λ (s : MayStand). not (is_among nodes s.set && has_slots s.what)) all
 
--- flows that pass the test, with these threads trusted
-pub record IsTested (p : ProfileName) (trusted : List ℕ) (v : Shown) (flows : Flows) : Type 0 where
-  pub trusted_is : flows.trusted.items ≡ trusted
-  pub flow : IsFlow p flows v
+-- ---- threads that never make a call: suspended, and no word of a thread that makes calls leads to their control blocks
+
+abbrev pub is_inactive : Option ThreadState → Bool
+is_inactive (Some Inactive) = true
+is_inactive state = false
+
+abbrev pub none_names : ProfileName → Flows → ℕ → Bool
+none_names p flows thread = list_all (λ (k : Caller). names_no_thread p k.names.items flows.standing.items thread) flows.callers.items
+
+abbrev pub stays_idle : ProfileName → Flows → Shown → ℕ → Bool
+stays_idle p flows v thread = is_inactive (state_at v thread) && none_names p flows thread
+
+abbrev pub stay_idle : ProfileName → Flows → Shown → List ℕ → Bool
+stay_idle p flows v idle = list_all (stays_idle p flows v) idle
+
+-- one of both never makes a call; or neither is trusted, and nothing that the one may send to the other may receive on
+abbrev pub either_idle : List ℕ → ℕ → ℕ → Bool
+either_idle idle from to = is_among idle from || is_among idle to
+
+abbrev pub are_silent : List ℕ → Bound → Shown → List ℕ → ℕ → ℕ → Bool
+are_silent trusted bound v by from to =
+    either_idle bound.idle.items from to || (are_free trusted from to && are_kept bound.flows v by from to)
+
+-- the flows take no other threads for trusted than these and those that never make a call
+abbrev pub is_one_of : List ℕ → List ℕ → ℕ → Bool
+is_one_of trusted idle thread = is_among trusted thread || is_among idle thread
+
+abbrev pub are_known : List ℕ → Bound → Bool
+are_known trusted bound = list_all (is_one_of trusted bound.idle.items) bound.flows.trusted.items
+
+-- flows that pass the tests, with these threads trusted
+pub record IsTested (p : ProfileName) (trusted : List ℕ) (v : Shown) (bound : Bound) : Type 0 where
+  pub known : are_known trusted bound ≡ true
+  pub idle : stay_idle p bound.flows v bound.idle.items ≡ true
+  pub flow : IsFlow p bound.flows v

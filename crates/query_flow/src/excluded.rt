@@ -10,7 +10,7 @@ use crate::listed::{
     Caller, Flows, MayStand, Standing, caller_of, covers, has_slots, is_flow, is_thread_settled,
     last_of, set_at,
 };
-use crate::search::flow_of;
+use crate::search::bound_of;
 use cap_core::{Cap, Profile, Range, Rights};
 use ipc_core::Waiters;
 use kernel_core::{Kernel, ThreadState};
@@ -25,6 +25,13 @@ const MOST_SLOTS: usize = 512;
 pub struct Spot {
     pub first: u64,
     pub last: u64,
+}
+
+/// Flows, with the threads that never make a call.
+#[derive(Drop)]
+pub struct Bound {
+    pub flows: Flows,
+    pub idle: Vec<u64>,
 }
 
 fn one_at(address: u64) -> Spot
@@ -218,10 +225,9 @@ fn are_apart(spots: &[Spot], others: &[Spot]) -> bool
 }
 
 /// Whether neither thread is trusted.
-fn are_free(flows: &Flows, from: u64, to: u64) -> bool
-    ensures { result ≡ spec.are_free flows.now from to }
+fn are_free(trusted: &[u64], from: u64, to: u64) -> bool
+    ensures { result ≡ spec.are_free trusted.now from to }
 {
-    let trusted = flows.trusted.as_slice();
     !(trusted.contains(&from) || trusted.contains(&to))
 }
 
@@ -246,7 +252,7 @@ fn are_kept<P: Profile, S: DerivationStore<P> + Drop, W: Waiters<P> + Drop>(
     Ok(are_apart(sends.as_slice(), receives.as_slice()))
 }
 
-fn names_no_thread<P: Profile>(names: &[u64], all: &[MayStand], to: u64) -> bool
+pub fn names_no_thread<P: Profile>(names: &[u64], all: &[MayStand], to: u64) -> bool
     ensures { result ≡ spec.names_no_thread P.profile names.now all.now to }
 {
     all.iter().all(|s| !(names.contains(&s.set) && covers::<P>(s.what, Cap::Tcb { base: to })))
@@ -277,31 +283,117 @@ fn fills_none<P: Profile>(flows: &Flows, from: u64) -> bool
         && names_no_node(nodes_in(flows, from), flows.standing.as_slice())
 }
 
-fn are_alike(some: &[u64], others: &[u64]) -> bool
-    ensures { result ≡ true → some.now ≡ others.now }
+fn is_inactive(state: Option<ThreadState>) -> bool
+    ensures { result ≡ spec.is_inactive state }
 {
-    some == others
+    matches!(state, Some(ThreadState::Inactive))
 }
 
-/// The flows of a kernel, where those that are found pass the test; none of one with more than `MOST_SLOTS` full slots.
+/// Whether no word of a thread that makes calls leads to a thread's control block.
+fn none_names<P: Profile>(flows: &Flows, thread: u64) -> bool
+    ensures { result ≡ spec.none_names P.profile flows.now thread }
+{
+    let all = flows.standing.as_slice();
+    flows
+        .callers
+        .as_slice()
+        .iter()
+        .all(|k| names_no_thread::<P>(k.names.as_slice(), all, thread))
+}
+
+/// Whether a thread is suspended and nobody can resume it.
+fn stays_idle<P: Profile, S: DerivationStore<P> + Drop, W: Waiters<P> + Drop>(
+    kernel: &Kernel<P, S, W>,
+    flows: &Flows,
+    thread: u64,
+) -> bool
+    ensures { result ≡ spec.stays_idle P.profile flows.now kernel.now thread }
+{
+    is_inactive(kernel.thread_state(thread)) && none_names::<P>(flows, thread)
+}
+
+fn stay_idle<P: Profile, S: DerivationStore<P> + Drop, W: Waiters<P> + Drop>(
+    kernel: &Kernel<P, S, W>,
+    flows: &Flows,
+    idle: &[u64],
+) -> bool
+    ensures { result ≡ spec.stay_idle P.profile flows.now kernel.now idle.now }
+{
+    idle.iter()
+        .all(|thread| stays_idle::<P, S, W>(kernel, flows, *thread))
+}
+
+fn is_one_of(trusted: &[u64], idle: &[u64], thread: u64) -> bool
+    ensures { result ≡ spec.is_one_of trusted.now idle.now thread }
+{
+    trusted.contains(&thread) || idle.contains(&thread)
+}
+
+/// Whether flows take no other threads for trusted than these and those that never make a call.
+fn are_known(trusted: &[u64], bound: &Bound) -> bool
+    ensures { result ≡ spec.are_known trusted.now bound.now }
+{
+    let idle = bound.idle.as_slice();
+    bound
+        .flows
+        .trusted
+        .as_slice()
+        .iter()
+        .all(|thread| is_one_of(trusted, idle, *thread))
+}
+
+/// The flows of a kernel with the threads that never make a call, but one, where those that are found pass the tests; none of one with
+/// more than `MOST_SLOTS` full slots.
 #[tactic(auto, using(crate::proofs::Ruled::is_tested))]
 fn tested_flow<P: Profile, S: DerivationStore<P> + Drop, W: Waiters<P> + Drop>(
     alloc: Global,
     kernel: &Kernel<P, S, W>,
     trusted: &[u64],
-) -> Result<Option<Flows>, AllocError>
+    but: Option<u64>,
+) -> Result<Option<Bound>, AllocError>
     ensures { IfOk result (λ found. IfSome found (spec.IsTested P.profile trusted.now kernel.now)) }
 {
     if kernel.derivations(alloc)?.len() > MOST_SLOTS {
         return Ok(None);
     }
-    let flows = flow_of::<P, S, W>(alloc, kernel, trusted)?;
-    let is = is_flow::<P, S, W>(alloc, kernel, &flows)?;
-    if is && are_alike(flows.trusted.as_slice(), trusted) {
-        Ok(Some(flows))
+    let bound = bound_of::<P, S, W>(alloc, kernel, trusted, but)?;
+    let is = is_flow::<P, S, W>(alloc, kernel, &bound.flows)?;
+    if is
+        && are_known(trusted, &bound)
+        && stay_idle::<P, S, W>(kernel, &bound.flows, bound.idle.as_slice())
+    {
+        Ok(Some(bound))
     } else {
         Ok(None)
     }
+}
+
+fn is_idle(bound: &Bound, thread: u64) -> bool
+    ensures { result ≡ listed.is_among bound.now.idle.items thread }
+{
+    bound.idle.as_slice().contains(&thread)
+}
+
+fn either_idle(bound: &Bound, from: u64, to: u64) -> bool
+    ensures { result ≡ spec.either_idle bound.now.idle.items from to }
+{
+    is_idle(bound, from) || is_idle(bound, to)
+}
+
+/// Whether one of both threads never makes a call; or neither is trusted, and nothing that the one may send to the other may receive on.
+fn are_silent<P: Profile, S: DerivationStore<P> + Drop, W: Waiters<P> + Drop>(
+    alloc: Global,
+    kernel: &Kernel<P, S, W>,
+    trusted: &[u64],
+    bound: &Bound,
+    by: &[u64],
+    from: u64,
+    to: u64,
+) -> Result<bool, AllocError>
+    ensures { IfOk result (λ are. are ≡ spec.are_silent trusted.now bound.now kernel.now by.now from to) }
+{
+    let kept = are_kept::<P, S, W>(alloc, kernel, &bound.flows, by, from, to)?;
+    Ok(either_idle(bound, from, to) || are_free(trusted, from, to) && kept)
 }
 
 /// Whether flows exclude that a message of the thread `from` is ever delivered to the thread `to`, but by the endpoints that are named:
@@ -321,12 +413,9 @@ pub fn passes_none<P: Profile, S: DerivationStore<P> + Drop, W: Waiters<P> + Dro
 ) -> Result<bool, AllocError>
     ensures { IfOk result (λ is. is ≡ true → PassesNoneEver P.profile trusted.now kernel.now by.now from to) }
 {
-    match tested_flow::<P, S, W>(alloc, kernel, trusted)? {
+    match tested_flow::<P, S, W>(alloc, kernel, trusted, None)? {
         None => Ok(false),
-        Some(flows) => {
-            let kept = are_kept::<P, S, W>(alloc, kernel, &flows, by, from, to)?;
-            Ok(are_free(&flows, from, to) && kept)
-        }
+        Some(bound) => are_silent::<P, S, W>(alloc, kernel, trusted, &bound, by, from, to),
     }
 }
 
@@ -348,11 +437,11 @@ pub fn keeps_apart<P: Profile, S: DerivationStore<P> + Drop, W: Waiters<P> + Dro
     ensures passes { IfOk result (λ is. is ≡ true → PassesNoneEver P.profile trusted.now kernel.now by.now from to) }
     ensures names { IfOk result (λ is. is ≡ true → NamesNoneEver P.profile trusted.now kernel.now from to) }
 {
-    match tested_flow::<P, S, W>(alloc, kernel, trusted)? {
+    match tested_flow::<P, S, W>(alloc, kernel, trusted, Some(from))? {
         None => Ok(false),
-        Some(flows) => {
-            let kept = are_kept::<P, S, W>(alloc, kernel, &flows, by, from, to)?;
-            Ok(are_free(&flows, from, to) && kept && holds_none::<P>(&flows, from, to))
+        Some(bound) => {
+            let are = are_silent::<P, S, W>(alloc, kernel, trusted, &bound, by, from, to)?;
+            Ok(are && holds_none::<P>(&bound.flows, from, to))
         }
     }
 }
@@ -372,9 +461,9 @@ pub fn names_none<P: Profile, S: DerivationStore<P> + Drop, W: Waiters<P> + Drop
 ) -> Result<bool, AllocError>
     ensures { IfOk result (λ is. is ≡ true → NamesNoneEver P.profile trusted.now kernel.now from to) }
 {
-    match tested_flow::<P, S, W>(alloc, kernel, trusted)? {
+    match tested_flow::<P, S, W>(alloc, kernel, trusted, Some(from))? {
         None => Ok(false),
-        Some(flows) => Ok(holds_none::<P>(&flows, from, to)),
+        Some(bound) => Ok(holds_none::<P>(&bound.flows, from, to)),
     }
 }
 
@@ -391,8 +480,13 @@ pub fn changes_none<P: Profile, S: DerivationStore<P> + Drop, W: Waiters<P> + Dr
 ) -> Result<bool, AllocError>
     ensures { IfOk result (λ is. is ≡ true → ChangesNoneEver P.profile trusted.now kernel.now from) }
 {
-    match tested_flow::<P, S, W>(alloc, kernel, trusted)? {
+    match tested_flow::<P, S, W>(alloc, kernel, trusted, None)? {
         None => Ok(false),
-        Some(flows) => Ok(fills_none::<P>(&flows, from)),
+        Some(bound) => {
+            if is_idle(&bound, from) {
+                return Ok(true);
+            }
+            Ok(fills_none::<P>(&bound.flows, from))
+        }
     }
 }

@@ -1,11 +1,12 @@
 //! Flows that are looked for. Nothing is promised of them: `is_flow` tests what is found.
+use crate::excluded::{Bound, names_no_thread};
 use crate::listed::{
     Caller, Flows, MayStand, Standing, are_ending, has_all, has_over, has_slots, last_of, may_end,
     misses, opened, set_at,
 };
 use cap_core::{Cap, Profile, Range, range_of};
 use ipc_core::Waiters;
-use kernel_core::Kernel;
+use kernel_core::{Kernel, ThreadState};
 use query_parts::PartMemory;
 use slot_core::{Derivation, DerivationStore};
 use std::alloc::{AllocError, Global};
@@ -442,4 +443,95 @@ pub fn flow_of<P: Profile, S: DerivationStore<P> + Drop, W: Waiters<P> + Drop>(
         flows = flows_in::<P>(alloc, derivations, regions.as_slice(), trusted)?;
     }
     Ok(flows)
+}
+
+/// Whether a word of a thread that makes calls leads to a thread's control block.
+fn is_named<P: Profile>(flows: &Flows, thread: u64) -> bool {
+    let all = flows.standing.as_slice();
+    for caller in flows.callers.as_slice() {
+        if !names_no_thread::<P>(caller.names.as_slice(), all, thread) {
+            return true;
+        }
+    }
+    false
+}
+
+fn is_suspended<P: Profile, S: DerivationStore<P> + Drop, W: Waiters<P> + Drop>(
+    kernel: &Kernel<P, S, W>,
+    trusted: &[u64],
+    thread: u64,
+) -> bool {
+    let is = matches!(kernel.thread_state(thread), Some(ThreadState::Inactive));
+    is && !trusted.contains(&thread)
+}
+
+/// The suspended threads but those that are trusted, and but one.
+fn suspended_of<P: Profile, S: DerivationStore<P> + Drop, W: Waiters<P> + Drop>(
+    alloc: Global,
+    kernel: &Kernel<P, S, W>,
+    trusted: &[u64],
+    but: Option<u64>,
+) -> Result<Vec<u64>, AllocError> {
+    let mut threads = Vec::new(alloc);
+    let derivations = kernel.derivations(alloc)?;
+    for d in derivations.as_slice() {
+        if let Cap::Tcb { base } = d.cap {
+            if but != Some(base) && is_suspended::<P, S, W>(kernel, trusted, base) {
+                add_number(&mut threads, base)?;
+            }
+        }
+    }
+    Ok(threads)
+}
+
+/// Those of some threads to whose control blocks no word leads of a thread that makes calls.
+fn unnamed_of<P: Profile>(
+    alloc: Global,
+    flows: &Flows,
+    threads: &[u64],
+) -> Result<Vec<u64>, AllocError> {
+    let mut unnamed = Vec::new(alloc);
+    for thread in threads {
+        if !is_named::<P>(flows, *thread) {
+            unnamed.push(*thread)?;
+        }
+    }
+    Ok(unnamed)
+}
+
+/// The flows of a kernel in which suspended threads make no calls, but those that threads that make calls can resume. One thread is named
+/// whose words are looked at though it is suspended.
+///
+/// # Errors
+///
+/// Memory was refused.
+pub fn bound_of<P: Profile, S: DerivationStore<P> + Drop, W: Waiters<P> + Drop>(
+    alloc: Global,
+    kernel: &Kernel<P, S, W>,
+    trusted: &[u64],
+    but: Option<u64>,
+) -> Result<Bound, AllocError> {
+    let mut idle = suspended_of::<P, S, W>(alloc, kernel, trusted, but)?;
+    for _round in 0..MOST_ROUNDS {
+        let mut quiet = copied(alloc, trusted)?;
+        quiet.extend_from_slice(idle.as_slice())?;
+        let flows = flow_of::<P, S, W>(alloc, kernel, quiet.as_slice())?;
+        let left = unnamed_of::<P>(alloc, &flows, idle.as_slice())?;
+        if left.len() < idle.len() {
+            idle = left;
+        } else {
+            if let Some(thread) = but {
+                if is_suspended::<P, S, W>(kernel, trusted, thread)
+                    && !is_named::<P>(&flows, thread)
+                {
+                    idle.push(thread)?;
+                }
+            }
+            return Ok(Bound { flows, idle });
+        }
+    }
+    Ok(Bound {
+        flows: flow_of::<P, S, W>(alloc, kernel, trusted)?,
+        idle: Vec::new(alloc),
+    })
 }
