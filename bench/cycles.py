@@ -30,9 +30,9 @@ def program(name):
     return HERE / name / "out" / "target" / "release" / name
 
 
-def printed(name, *libraries):
+def printed(name):
     """Builds a program of bench/ and gives what it prints."""
-    return subprocess.run([HERE / "run.sh", name, *libraries], check=True, stdout=subprocess.PIPE, text=True).stdout
+    return subprocess.run([HERE / "run.sh", name], check=True, stdout=subprocess.PIPE, text=True).stdout
 
 
 def printed_times(text):
@@ -94,8 +94,8 @@ def revoke_rows(text):
 
 
 def rows():
-    yield from printed_rows(printed("store_cycle", "bench_store"))
-    yield from printed_rows(printed("ping_pong", "bench_queue"))
-    yield from printed_rows(printed("kernel_cycle", "bench_kernel", "bench_replies"))
+    yield from printed_rows(printed("store_cycle"))
+    yield from printed_rows(printed("ping_pong"))
+    yield from printed_rows(printed("kernel_cycle"))
     yield from step_rows()
-    yield from revoke_rows(printed("revoke_cycle", "bench_revoke"))
+    yield from revoke_rows(printed("revoke_cycle"))

@@ -14,11 +14,6 @@ const REPEATS: u32 = 20;
 extern "C" {
     // The allocator takes no bytes, so nothing is passed for it.
     fn kernel_cycle_run(rounds: u16) -> bool;
-}
-
-#[link(name = "bench_replies", kind = "static")]
-extern "C" {
-    // As above.
     fn kernel_replies_run(rounds: u16) -> bool;
 }
 

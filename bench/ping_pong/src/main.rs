@@ -9,7 +9,7 @@ use std::time::Instant;
 const ROUNDS: u64 = 1_000_000;
 const REPEATS: u32 = 200;
 
-#[link(name = "bench_queue", kind = "static")]
+#[link(name = "bench_kernel", kind = "static")]
 #[link(name = "libc_c", kind = "static")]
 extern "C" {
     // The allocator takes no bytes, so nothing is passed for it.

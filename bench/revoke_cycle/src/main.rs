@@ -13,7 +13,7 @@ const SIZES: [u32; 4] = [16, 256, 4096, 16384];
 /// The names of the forests: all copies children of one, and each copy the child of the one before it.
 const FORESTS: [(&str, bool); 2] = [("wide", false), ("deep", true)];
 
-#[link(name = "bench_revoke", kind = "static")]
+#[link(name = "bench_kernel", kind = "static")]
 #[link(name = "libc_c", kind = "static")]
 extern "C" {
     // The allocator takes no bytes, so nothing is passed for it.

@@ -12,7 +12,7 @@ const REPEATS: u32 = 200;
 /// The capabilities that a round derives and removes.
 const COUNT: u64 = 64;
 
-#[link(name = "bench_store", kind = "static")]
+#[link(name = "bench_kernel", kind = "static")]
 #[link(name = "libc_c", kind = "static")]
 extern "C" {
     // The allocator takes no bytes, so nothing is passed for it.

@@ -1,32 +1,12 @@
-//! Rounds of calls of a kernel over the linked forms, to be measured.
+//! What is measured of a kernel over the linked forms, and of these forms by themselves: messages to and fro (`queue`), derivations
+//! and removals (`store`), rounds of all operations with each reply dropped (`steps`) and with the replies kept (`replies`), and
+//! revocations (`revoke`).
 #![tactic(auto)]
 
-use bench_rounds::{LinkedKernel, booted, is_accepted, round_of};
-use kernel_core::Call;
-use std::alloc::Global;
-
-/// Boots a kernel and goes through so many rounds, each of which undoes what it makes; whether every call of every round was
-/// accepted.
-#[unsafe(no_mangle)]
-pub extern "C" fn kernel_cycle_run(alloc: Global, rounds: u16) -> bool {
-    match booted(alloc) {
-        Some(mut kernel) => run(&mut kernel, rounds),
-        None => false,
-    }
-}
-
-fn run(kernel: &mut LinkedKernel, rounds: u16) -> bool {
-    let mut all = true;
-    for round in 0..rounds {
-        all = accepts_all(kernel, &round_of(round)) && all;
-    }
-    all
-}
-
-fn accepts_all(kernel: &mut LinkedKernel, calls: &[Call]) -> bool {
-    let mut all = true;
-    for call in calls {
-        all = is_accepted(kernel.step(*call)) && all;
-    }
-    all
-}
+mod machine;
+mod queue;
+mod replies;
+mod revoke;
+mod rounds;
+mod steps;
+mod store;

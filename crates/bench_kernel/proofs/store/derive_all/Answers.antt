@@ -1,9 +1,9 @@
 use Rattle.std.proofs.Common.{◌+◌, suc, inr, ap, arith}
 use Rattle.cap_core.specs.Objects.{badge_of}
 use Rattle.kernel_forest.specs.Derivation.{names_same}
-use Rattle.bench_store.specs.Cycle.{bench_endpoint}
-use Rattle.bench_store.proofs.Family.{first_full, next_empty, first_holds, family_typed}
-use Rattle.bench_store.proofs.derive_all.Goals as goal
+use Rattle.bench_kernel.specs.Cycle.{bench_endpoint}
+use Rattle.bench_kernel.proofs.Family.{first_full, next_empty, first_holds, family_typed}
+use Rattle.bench_kernel.proofs.store.derive_all.Goals as goal
 
 pub derive-requires-clause-source : goal.derive-requires-clause-source
 derive-requires-clause-source g c = rw (c.requires.source, c.loop-i.invariant.forest) (first_full c.loop-i.i)

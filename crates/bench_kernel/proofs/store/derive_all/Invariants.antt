@@ -1,6 +1,6 @@
 use Rattle.std.proofs.Common.{◌≡◌}
-use Rattle.bench_store.specs.Cycle.{bench_memory_bits, family}
-use Rattle.bench_store.proofs.derive_all.Given as goal
+use Rattle.bench_kernel.specs.Cycle.{bench_memory_bits, family}
+use Rattle.bench_kernel.proofs.store.derive_all.Given as goal
 
 abbrev pub invariant-loop-i : goal.invariant-loop-i
 invariant-loop-i g l = record {

@@ -1,6 +1,4 @@
 //! Messages to and fro between two threads over waiting threads as queues inside tables, to be measured.
-#![tactic(auto)]
-
 ghost use Rattle.std.specs.Prelude.{◌≡◌};
 ghost use Rattle.ipc_core.specs.Waits.{no_waits};
 

@@ -1,9 +1,9 @@
 use Rattle.std.proofs.Common.{◌≡◌, ℕ, suc, ◌+◌, ◌-◌, true, sym, subst, ap, ◌∙◌, arith}
 use Rattle.kernel_forest.specs.Derivation.{emptied}
 use Rattle.kernel_forest.specs.Entries.{is_full}
-use Rattle.bench_store.specs.Cycle.{at, family}
-use Rattle.bench_store.proofs.Family.{last_full, last_out}
-use Rattle.bench_store.proofs.remove_all.Goals as goal
+use Rattle.bench_kernel.specs.Cycle.{at, family}
+use Rattle.bench_kernel.proofs.Family.{last_full, last_out}
+use Rattle.bench_kernel.proofs.store.remove_all.Goals as goal
 
 pub overflow_add-left : goal.overflow_add-left
 overflow_add-left g c = omega (arith, c.loop-left.invariant.few)

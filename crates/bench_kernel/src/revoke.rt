@@ -1,15 +1,12 @@
 //! Revocations of a kernel over the linked forms, to be measured.
-#![tactic(auto)]
-
 ghost use Rattle.std.specs.Prelude.{◌<◌};
 
-use cap_core::{Rights, Wide};
-use ipc_core::LinkedWaiters;
-use kernel_core::{BootPlan, Call, Kernel, Op, Reply};
-use slot_core::LinkedStore;
+use crate::machine::{LinkedKernel, RevokeMachine};
+use cap_core::Rights;
+use kernel_core::{BootPlan, Call, Op, Reply};
 use std::alloc::Global;
 
-type LinkedKernel = Kernel<Wide, LinkedStore<Wide>, LinkedWaiters<Wide>>;
+type Measured = LinkedKernel<RevokeMachine>;
 
 const MEMORY_BITS: u32 = 20;
 
@@ -54,20 +51,20 @@ pub extern "C" fn revoke_cycle_run(alloc: Global, slots: u32, deep: bool, revoke
     }
 }
 
-fn booted(alloc: Global) -> Option<LinkedKernel> {
+fn booted(alloc: Global) -> Option<Measured> {
     let mut untypeds = Vec::new(alloc);
     untypeds.push((524288, 19)).ok()?;
     untypeds.push((16384, 12)).ok()?;
-    let plan = BootPlan::new::<Wide>(MEMORY_BITS, ROOT_RADIX, 2, 1, untypeds).ok()?;
-    LinkedKernel::boot(alloc, &plan).ok()
+    let plan = BootPlan::new::<RevokeMachine>(MEMORY_BITS, ROOT_RADIX, 2, 1, untypeds).ok()?;
+    Measured::boot(alloc, &plan).ok()
 }
 
 /// Makes the CNode and the badged capability.
-fn prepares(kernel: &mut LinkedKernel) -> bool {
+fn prepares(kernel: &mut Measured) -> bool {
     accepts(kernel, new_cnode()) && accepts(kernel, mint())
 }
 
-fn run(kernel: &mut LinkedKernel, slots: u32, deep: bool, revokes: bool) -> bool
+fn run(kernel: &mut Measured, slots: u32, deep: bool, revokes: bool) -> bool
     requires { 0 < slots }
 {
     let source = if deep { SMALL_UNTYPED } else { BADGED };
@@ -89,7 +86,7 @@ fn run(kernel: &mut LinkedKernel, slots: u32, deep: bool, revokes: bool) -> bool
 /// without.
 #[inline(never)]
 fn fills(
-    kernel: &mut LinkedKernel,
+    kernel: &mut Measured,
     first: u32,
     end: u32,
     source: u64,
@@ -104,7 +101,7 @@ fn fills(
     all
 }
 
-fn accepts(kernel: &mut LinkedKernel, op: Op) -> bool {
+fn accepts(kernel: &mut Measured, op: Op) -> bool {
     match kernel.step(Call { thread: THREAD, op }) {
         Reply::Refused(_) => false,
         _ => true,

@@ -1,16 +1,10 @@
-//! A round of all operations over the linked forms: what `bench_kernel` and `bench_replies` measure, each in a library of its own.
-#![tactic(auto)]
-
+//! A round of all operations over the linked forms: what `steps` and `replies` measure, each over a machine of its own.
 ghost use Rattle.std.specs.Prelude.{◌<◌, ◌^◌};
 
-use cap_core::{Message, Rights, Wide};
-use ipc_core::LinkedWaiters;
-use kernel_core::{BootPlan, Call, Kernel, Op, Reply};
-use slot_core::LinkedStore;
+use crate::machine::{LinkedKernel, WideOf};
+use cap_core::{Message, Rights};
+use kernel_core::{BootPlan, Call, Op, Reply};
 use std::alloc::Global;
-
-/// The kernel that is measured.
-pub type LinkedKernel = Kernel<Wide, LinkedStore<Wide>, LinkedWaiters<Wide>>;
 
 const MEMORY_BITS: u32 = 20;
 
@@ -46,11 +40,11 @@ const DEPTH: u64 = 64;
 pub const CALLS: usize = 20;
 
 /// A kernel that has just booted, or `None` where memory was wanted and not there.
-pub fn booted(alloc: Global) -> Option<LinkedKernel> {
+pub fn booted<const SUBJECT: u8>(alloc: Global) -> Option<LinkedKernel<WideOf<SUBJECT>>> {
     let mut untypeds = Vec::new(alloc);
     untypeds.push((524288, 19)).ok()?;
-    let plan = BootPlan::new::<Wide>(MEMORY_BITS, ROOT_RADIX, 2, 1, untypeds).ok()?;
-    LinkedKernel::boot(alloc, &plan).ok()
+    let plan = BootPlan::new::<WideOf<SUBJECT>>(MEMORY_BITS, ROOT_RADIX, 2, 1, untypeds).ok()?;
+    LinkedKernel::<WideOf<SUBJECT>>::boot(alloc, &plan).ok()
 }
 
 /// Whether a call was accepted.

@@ -1,6 +1,6 @@
 use Rattle.std.proofs.Common.{◌≡◌, ◌≤◌}
-use Rattle.bench_store.specs.Cycle.{bench_memory_bits, family}
-use Rattle.bench_store.proofs.remove_all.Given as goal
+use Rattle.bench_kernel.specs.Cycle.{bench_memory_bits, family}
+use Rattle.bench_kernel.proofs.store.remove_all.Given as goal
 
 abbrev pub invariant-loop-left : goal.invariant-loop-left
 invariant-loop-left g l = record {

@@ -11,7 +11,7 @@ use Rattle.kernel_forest.specs.Disjoint.{IsDisjoint}
 use Rattle.kernel_forest.proofs.Trees.Forests.{each-contained}
 use Rattle.kernel_forest.proofs.Slots.Edits.{each-derived, full-derived, cap-derived_other}
 use Rattle.kernel_forest.proofs.Disjoint.Disjointness.{disjoint-none, disjoint-rooted, disjoint-derived}
-use Rattle.bench_store.specs.Cycle.{bench_endpoint, at, family}
+use Rattle.bench_kernel.specs.Cycle.{bench_endpoint, at, family}
 
 other_place : (i j : ℕ) → i ≢ j → (at i == at j) ≡ false
 other_place i j ne = grind (arith, nat_tests)

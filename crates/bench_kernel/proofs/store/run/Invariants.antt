@@ -1,8 +1,8 @@
 use Rattle.std.proofs.Common.{◌≡◌, ◌≤◌}
 use Rattle.cap_core.specs.declared.profile.ProfileName.TheVariants.{Wide}
 use Rattle.kernel_forest.specs.Marked.{forest_of}
-use Rattle.bench_store.specs.Cycle.{bench_memory_bits, whole}
-use Rattle.bench_store.proofs.run.Given as goal
+use Rattle.bench_kernel.specs.Cycle.{bench_memory_bits, whole}
+use Rattle.bench_kernel.proofs.store.run.Given as goal
 
 abbrev pub invariant-loop-i : goal.invariant-loop-i
 invariant-loop-i l = record {

@@ -1,7 +1,6 @@
 //! Rounds of calls of a kernel over the linked forms, with the replies kept, to be measured.
-#![tactic(auto)]
-
-use bench_rounds::{CALLS, LinkedKernel, booted, is_accepted, round_of};
+use crate::machine::{LinkedKernel, RepliesMachine};
+use crate::rounds::{CALLS, booted, is_accepted, round_of};
 use kernel_core::Reply;
 use std::alloc::Global;
 
@@ -15,7 +14,7 @@ pub extern "C" fn kernel_replies_run(alloc: Global, rounds: u16) -> bool {
     }
 }
 
-fn run(kernel: &mut LinkedKernel, replies: &mut Vec<Reply>, rounds: u16) -> bool {
+fn run(kernel: &mut LinkedKernel<RepliesMachine>, replies: &mut Vec<Reply>, rounds: u16) -> bool {
     let mut all = true;
     for round in 0..rounds {
         replies.clear();

@@ -1,11 +1,9 @@
 //! A round of derivations and removals over the linked form of a capability store, to be measured.
-#![tactic(auto)]
-
 ghost use Rattle.std.specs.Prelude.{◌≡◌, ◌<◌};
 ghost use Rattle.cap_core.specs.declared.profile.ProfileName.TheVariants.{Wide as wide};
 ghost use Rattle.kernel_forest.specs.Forest.{none};
 ghost use Rattle.slot_core.specs.Places.{address_of};
-ghost use Rattle.bench_store.specs.Cycle.{bench_memory_bits, bench_endpoint as endpoint_cap, at, whole, family};
+ghost use Rattle.bench_kernel.specs.Cycle.{bench_memory_bits, bench_endpoint as endpoint_cap, at, whole, family};
 
 use cap_core::{Badge, Cap, Rights, Wide};
 use slot_core::{CapStore, LinkedStore, MakeStore, Slot};

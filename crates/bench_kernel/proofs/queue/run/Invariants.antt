@@ -2,7 +2,7 @@ use Rattle.std.proofs.Common.{◌≡◌, ◌≤◌}
 use Rattle.cap_core.specs.declared.profile.ProfileName.TheVariants.{Wide}
 use Rattle.ipc_core.specs.Waits.{no_waits}
 use Rattle.ipc_core.specs.Representation.Linked.{waits_in}
-use Rattle.bench_queue.proofs.run.Given as goal
+use Rattle.bench_kernel.proofs.queue.run.Given as goal
 
 abbrev pub invariant-loop-round : goal.invariant-loop-round
 invariant-loop-round l =
