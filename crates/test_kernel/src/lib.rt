@@ -1,27 +1,10 @@
-//! Tests of the kernel: plans, boot, sends and receives, the calls that make, copy and move capabilities, those by which
-//! objects end and threads wait no more, and why calls are refused; what threads can name; and what calls come to in every
-//! order.
+//! Tests of the parts of a kernel in both forms and both profiles (`parts`), of the kernel and what is asked of it (`kernel`), and of
+//! shared kernels (`shared`).
 #![tactic(auto)]
 
 #[cfg(test)]
-mod boot;
+mod kernel;
 #[cfg(test)]
-mod capabilities;
+mod parts;
 #[cfg(test)]
-mod case;
-#[cfg(test)]
-mod endings;
-#[cfg(test)]
-mod messages;
-#[cfg(test)]
-mod orders_of_calls;
-#[cfg(test)]
-mod plan;
-#[cfg(test)]
-mod played;
-#[cfg(test)]
-mod refusals;
-#[cfg(test)]
-mod reuse;
-#[cfg(test)]
-mod three_cnodes;
+mod shared;
