@@ -17,7 +17,7 @@ unfolding replies_to
 length_replies_to p setup =
     replies_length p (boot p setup.plan) (set_up_calls setup) ∙ length-map setup.calls (λ (c : CallView). c.call)
 
-counted_verdict : (p : ProfileName) (setup : SetupView) (count : Option ExpectationCount) → HasCounts p setup count
+pub counted_verdict : (p : ProfileName) (setup : SetupView) (count : Option ExpectationCount) → HasCounts p setup count
     → verdict_in count ≡ verdict_of setup.calls (replies_to p setup)
 counted_verdict p setup None has = absurd has
 counted_verdict p setup (Some count) has = ap₂ verdict_on has.0 has.1

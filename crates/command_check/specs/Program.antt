@@ -1,16 +1,18 @@
 -- What the program writes for the bytes that it reads, and its verdict.
-use Rattle.std.specs.Prelude.{◌≡◌, ℕ, ◌==◌, cond, List, map, Option, Some, None, Result, Ok, Err}
+use Rattle.std.specs.Prelude.{◌≡◌, ℕ, ◌==◌, cond, Bool, true, List, map, Option, Some, None, Result, Ok, Err}
 use Rattle.cap_core.specs.declared.profile.ProfileName.{ProfileName}
 use Rattle.kernel_abstract.specs.declared.call.Call.{Call}
 use Rattle.kernel_abstract.specs.declared.call.Reply.{Reply}
 use Rattle.kernel_abstract.specs.Boot.{boot}
 use Rattle.kernel_abstract.specs.State.{State, shown}
 use Rattle.kernel_abstract.specs.Step.{replies_of, state_after}
+use Rattle.setup_values.specs.Names.{Names}
 use Rattle.setup_format.specs.Views.{SetupView, CallView}
 use Rattle.setup_format.specs.Faults.{Fault}
 use Rattle.setup_format.specs.Setups.{setup_of_bytes}
 use Rattle.setup_format.specs.Refusal.{refusal_line}
-use Rattle.setup_report.specs.Report.{report_of, met_count, expectation_count}
+use Rattle.setup_report.specs.Naming.{Texts, plain, report_texts}
+use Rattle.setup_report.specs.Report.{report_of, report_told, met_count, expectation_count}
 use Rattle.setup_report.specs.declared.calls.ExpectationCount.{ExpectationCount}
 use Rattle.command_check.specs.declared.run.CountedText.{CountedText}
 use Rattle.command_core.specs.declared.fault.Verdict.{Verdict}
@@ -50,9 +52,23 @@ HasCounts p setup None = ⊥
 HasCounts p setup (Some count) =
     (count.met ≡ met_count setup.calls (replies_to p setup)) × (count.expected ≡ expectation_count setup.calls (replies_to p setup))
 
+-- what is written of a run, with objects and slots as `texts` tells them, and these counts
+abbrev pub IsTextTold : Texts → ProfileName → SetupView → CountedText → Type 0
+IsTextTold texts p setup made =
+    (made.text.items ≡ report_told texts p setup.calls (replies_to p setup) (shown (end_state p setup))) × HasCounts p setup made.count
+
+-- the same by addresses
 abbrev pub IsTextIn : ProfileName → SetupView → CountedText → Type 0
-IsTextIn p setup made =
-    (made.text.items ≡ report_of p setup.calls (replies_to p setup) (shown (end_state p setup))) × HasCounts p setup made.count
+IsTextIn p setup made = IsTextTold plain p setup made
+
+-- the texts of a set-up's report: addresses, or the names of its objects in the state after its calls
+abbrev pub texts_after : Bool → ProfileName → Names → SetupView → Texts
+texts_after by_name p names setup = report_texts by_name p names setup.plan (shown (end_state p setup))
+
+-- the report of a set-up's run by the names of its objects
+abbrev pub named_report : ProfileName → Names → SetupView → List ℕ
+named_report p names setup =
+    report_told (texts_after true p names setup) p setup.calls (replies_to p setup) (shown (end_state p setup))
 
 -- what is written of a set-up: that of its run in the profile that it names, or the line by which it is refused, with no count
 abbrev pub IsTextOfSetup : Result SetupView Fault → CountedText → Type 0

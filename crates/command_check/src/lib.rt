@@ -17,5 +17,5 @@ pub use command_core::{
 };
 pub use migrating::{Migrator, table_text};
 pub use notes::{add_unmet, notes_on, unmet_calls};
-pub use run::{CountedText, counted_text_of, refused, run_calls, text_of, verdict_on};
+pub use run::{CountedText, counted_text_of, refused, run_calls, run_setup, text_of, verdict_on};
 pub use state::{OnState, StateCommand};

@@ -6,7 +6,7 @@ ghost use Rattle.command_check.specs.Notes as spec;
 use command_core::{CallNote, Notes};
 use kernel_core::Reply;
 use setup_format::{Setup, asks};
-use setup_report::{ExpectationCount, ReplyText};
+use setup_report::{ExpectationCount, Naming, ReplyText};
 use std::alloc::{AllocError, Global};
 
 /// Adds the number of a call, where it was refused and nothing was expected of it.
@@ -72,7 +72,8 @@ pub fn add_unmet(
     let Some(expected) = expected else {
         return Ok(());
     };
-    let shown = ReplyText(reply).to_string(alloc)?;
+    let naming = &Naming::plain();
+    let shown = ReplyText { naming, reply }.to_string(alloc)?;
     if !asks(expected) && !is_met(shown.as_str(), expected) {
         let text = format!(in alloc; "{shown}, and not {expected}")?;
         unmet.push(CallNote { call, text })?;

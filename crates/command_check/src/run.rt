@@ -6,7 +6,8 @@ ghost use Rattle.kernel_abstract.specs.State.{shown};
 ghost use Rattle.setup_format.specs.Refusal.{setup_fault_text};
 ghost use Rattle.setup_format.specs.Setups.{setup_of_bytes};
 ghost use Rattle.command_check.specs.Notes.{unexpected_from, unexpected_in};
-ghost use Rattle.command_check.specs.Program.{IsTextIn, IsTextOfSetup, program, replies_to, end_state, verdict_in, verdict_on as verdict_of_counts};
+ghost use Rattle.setup_values.specs.Names.{names_view};
+ghost use Rattle.command_check.specs.Program.{IsTextTold, IsTextOfSetup, program, replies_to, end_state, texts_after, verdict_in, verdict_on as verdict_of_counts};
 
 use crate::notes::notes_on;
 use cap_core::{Narrow, Profile, ProfileName, Wide};
@@ -14,7 +15,8 @@ use command_core::{Answer, Notes, Verdict};
 use ipc_core::MakeWaiters;
 use kernel_core::{BootPlan, Kernel, Reply};
 use setup_format::{Setup, SetupFault, read_setup};
-use setup_report::{ExpectationCount, counted_report};
+use setup_report::{ExpectationCount, Naming, counted_report};
+use setup_values::Name;
 use slot_core::{DerivationStore, MakeStore};
 use std::alloc::{AllocError, Global};
 
@@ -37,6 +39,21 @@ impl CountedText {
         match self.count {
             Some(count) => verdict_on(count),
             None => Verdict::Refused,
+        }
+    }
+
+    /// The text with its verdict, and what standard error tells.
+    pub fn answer(self) -> Answer
+        ensures text { result.text ≡ self.text }
+        ensures verdict { result.verdict ≡ verdict_in self.count }
+        ensures notes { result.notes ≡ self.notes }
+    {
+        let verdict = self.verdict();
+        let CountedText { text, notes, .. } = self;
+        Answer {
+            text,
+            verdict,
+            notes,
         }
     }
 }
@@ -75,20 +92,23 @@ pub fn run_calls<P: Profile, S: MakeStore<P>, W: MakeWaiters<P>>(
     Ok((kernel, replies))
 }
 
-/// Runs the set-up in a profile, and reports on it.
+/// Runs the set-up in a profile, and reports on it by addresses, or by names.
 #[inline(never)]
 #[tactic(auto, using(crate::proofs::Runs::length_replies_to))]
-fn run_setup<P: Profile, S: MakeStore<P> + DerivationStore<P>, W: MakeWaiters<P>>(
+pub fn run_setup<P: Profile, S: MakeStore<P> + DerivationStore<P>, W: MakeWaiters<P>>(
     alloc: Global,
+    by_name: bool,
+    names: &[Name],
     setup: &Setup,
 ) -> Result<CountedText, AllocError>
     requires { IsPlan P.profile setup.now.plan }
-    ensures text { IfOk result (IsTextIn P.profile setup.now) }
+    ensures text { IfOk result (IsTextTold (texts_after by_name P.profile (names_view names.now) setup.now) P.profile setup.now) }
     ensures refused { IfOk result (λ made. made.notes.refused.items ≡ unexpected_from 1 setup.now.calls (replies_to P.profile setup.now)) }
 {
     let (kernel, made) = run_calls::<P, S, W>(alloc, setup)?;
     let replies = made.as_slice();
-    let (text, count) = counted_report(alloc, setup, replies, &kernel)?;
+    let naming = Naming::in_report::<P, S, W>(alloc, by_name, names, setup.plan(), &kernel)?;
+    let (text, count) = counted_report(alloc, &naming, setup, replies, &kernel)?;
     let notes = notes_on(alloc, setup, replies, count)?;
     Ok(CountedText {
         text,
@@ -144,8 +164,8 @@ pub fn counted_text_of<
 {
     match read_setup(alloc, bytes) {
         Ok(setup) => match setup.profile() {
-            ProfileName::Wide => run_setup::<Wide, S, W>(alloc, &setup),
-            ProfileName::Narrow => run_setup::<Narrow, T, V>(alloc, &setup),
+            ProfileName::Wide => run_setup::<Wide, S, W>(alloc, false, &[], &setup),
+            ProfileName::Narrow => run_setup::<Narrow, T, V>(alloc, false, &[], &setup),
         },
         Err(SetupFault::Memory) => Err(AllocError),
         Err(fault) => Ok(CountedText {
@@ -171,11 +191,5 @@ pub fn text_of<
     ensures refused { IfOk result (λ made. made.notes.refused.items ≡ unexpected_in (setup_of_bytes bytes.now)) }
 {
     let made = counted_text_of::<S, W, T, V>(alloc, bytes)?;
-    let verdict = made.verdict();
-    let CountedText { text, notes, .. } = made;
-    Ok(Answer {
-        text,
-        verdict,
-        notes,
-    })
+    Ok(made.answer())
 }

@@ -1,13 +1,14 @@
-//! The check of one file, strict or not.
+//! The check of one file, strict or not, told by addresses or by names.
 ghost use Rattle.std.specs.Prelude.{◌≡◌};
 ghost use Rattle.command_files.specs.Strict as spec;
 
-use cap_core::{Narrow, Wide};
-use command_check::text_of;
+use cap_core::{Narrow, Profile, Wide};
+use command_check::{Command, run_setup, text_of};
 use command_core::{Answer, Engine, RunFault, Verdict};
-use ipc_core::LinkedWaiters;
-use slot_core::LinkedStore;
-use std::alloc::Global;
+use ipc_core::{LinkedWaiters, MakeWaiters};
+use setup_format::ReadSetup;
+use slot_core::{DerivationStore, LinkedStore, MakeStore};
+use std::alloc::{AllocError, Global};
 
 /// The verdict, by the numbers of the calls that were refused and of which nothing was expected. A strict check counts such a call as
 /// one whose expectation is not met.
@@ -61,5 +62,28 @@ impl Engine for FileCheck {
             Ok(answer) => Ok(judged(self.strict, answer)),
             Err(_) => Err(RunFault::Memory),
         }
+    }
+}
+
+/// The same with names in place of addresses: objects and slots that have a name in the state after the calls are told by it.
+#[derive(Clone, Copy, Drop)]
+pub struct NamedCheck {
+    /// As `FileCheck` has it.
+    pub strict: bool,
+}
+
+impl Command for NamedCheck {
+    ghost use Rattle.command_files.specs.Strict.{IsNamedCheck};
+
+    ghost answers = { λ check. IsNamedCheck check.strict };
+
+    fn answer<P: Profile, S: MakeStore<P> + DerivationStore<P>, W: MakeWaiters<P>>(
+        &self,
+        alloc: Global,
+        read: ReadSetup,
+    ) -> Result<Answer, AllocError> {
+        let names = read.names.as_slice();
+        let made = run_setup::<P, S, W>(alloc, true, names, &read.setup)?;
+        Ok(judged(self.strict, made.answer()))
     }
 }

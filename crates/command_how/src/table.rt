@@ -4,7 +4,7 @@ use command_why_words::{KeyWord, KeyWords, key_words};
 use kernel_core::{Call, Op, Reply};
 use setup_format::limits::NEWEST_FORMAT;
 use setup_format::op_name;
-use setup_report::ReplyText;
+use setup_report::{Naming, ReplyText};
 use setup_values::{Name, thread_name};
 use std::alloc::{AllocError, Global};
 use toml::{Table, Value};
@@ -62,7 +62,8 @@ fn found_call<P: Profile>(
             put(alloc, &mut table, pair.key, value)?;
         }
     }
-    let reply = ReplyText(reply);
+    let naming = &Naming::plain();
+    let reply = ReplyText { naming, reply };
     let expect = format!(in alloc; "{reply}")?;
     put(alloc, &mut table, "expect", Value::String(expect))?;
     Ok(Value::Table(table))

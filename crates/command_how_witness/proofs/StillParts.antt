@@ -36,7 +36,7 @@ use Rattle.query_parts.specs.Least.{LieIn}
 use Rattle.query_parts.proofs.Bounded.{entries_told}
 use Rattle.query_parts.proofs.Lists.{from_mapped, in_mapped, and_true}
 use Rattle.query_parts.proofs.Tested.{range_owned}
-use Rattle.setup_report.specs.declared.naming.NamedObject.{NamedObject}
+use Rattle.setup_report.specs.declared.live.NamedObject.{NamedObject}
 use Rattle.setup_report.specs.State.{Derived, is_in, named, named_by, threads}
 use Rattle.setup_report.proofs.Addresses.Rising.{any_rising}
 use Rattle.command_parts.specs.Ever.{AreRightParts}

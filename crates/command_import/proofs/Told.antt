@@ -14,6 +14,7 @@ use Rattle.cap_core.specs.declared.capability.Cap.TheVariants as cap
 use Rattle.cap_core.specs.declared.capability.Kind.{Kind}
 use Rattle.cap_core.specs.Rights.{all_rights}
 use Rattle.cap_core.specs.declared.capability.Kind.TheVariants.{Untyped, Endpoint, CNode, Tcb}
+use Rattle.setup_report.specs.Naming.{plain}
 use Rattle.setup_report.specs.Text.{cap_text, rights_text}
 use Rattle.setup_report_laws.specs.Laws.{Stops, is_digit}
 use Rattle.setup_report_laws.proofs.Parts.{Pass, told_apart, number_digits}
@@ -150,13 +151,13 @@ endpoint_line : (badge : ℕ) (rights : Rights) → Pass no_end (endpoint_behind
 endpoint_line badge rights =
     pass_right no_end (decimal 0) (endpoint_behind badge rights)
     (pass_right no_end (codes "endpoint ") (decimal 0 ++ endpoint_behind badge rights)
-    (all_pass no_end (cap_text (endpoint_at_0 badge rights)) (capability_line (endpoint_at_0 badge rights))))
+    (all_pass no_end (cap_text plain (endpoint_at_0 badge rights)) (capability_line (endpoint_at_0 badge rights))))
 
 cnode_line : (radix : ℕ) (guard : Guard) → Pass no_end (cnode_behind radix guard)
 cnode_line radix guard =
     pass_right no_end (decimal 0) (cnode_behind radix guard)
     (pass_right no_end (codes "cnode ") (decimal 0 ++ cnode_behind radix guard)
-    (all_pass no_end (cap_text (cnode_at_0 radix guard)) (capability_line (cnode_at_0 radix guard))))
+    (all_pass no_end (cap_text plain (cnode_at_0 radix guard)) (capability_line (cnode_at_0 radix guard))))
 
 is_row : (told : ToldLine) → IsWellNamed told → IsRow (row_of told)
 is_row (HoldsUntyped place name bits) h = (

@@ -7,7 +7,7 @@ use crate::mark::{Mark, mark_of};
 use kernel_boot::BootPlan;
 use kernel_core::{Call, Reply};
 use setup_format::{Setup, asks};
-use setup_report::ReplyText;
+use setup_report::{Naming, ReplyText};
 use std::alloc::{AllocError, Global};
 
 /// Whether two plans boot the same.
@@ -74,7 +74,8 @@ fn asked(question: &str, reply: Reply, text: &str) -> usize
 fn is_short(alloc: Global, question: &str, answer: &str, reply: Reply) -> Result<bool, AllocError>
     ensures { IfOk result (λ short. short ≡ spec.is_short question.now answer.now reply) }
 {
-    let text = ReplyText(reply).to_string(alloc)?;
+    let naming = &Naming::plain();
+    let text = ReplyText { naming, reply }.to_string(alloc)?;
     Ok(spaces(answer) < asked(question, reply, text.as_str()))
 }
 

@@ -5,7 +5,7 @@ ghost use Rattle.command_marks.specs.Marks as spec;
 
 use kernel_core::{Call, Reply};
 use setup_format::asks;
-use setup_report::add_call;
+use setup_report::{Naming, add_call};
 use std::alloc::{AllocError, Global};
 
 /// What is told of a call: whether its reply is as expected, and nothing else of it.
@@ -51,7 +51,15 @@ pub(crate) fn mark_of(
         return Ok(Mark::Nothing);
     };
     let mut line = String::new(alloc);
-    let count = add_call(alloc, &mut line, number, call, expected, reply)?;
+    let count = add_call(
+        alloc,
+        &mut line,
+        &Naming::plain(),
+        number,
+        call,
+        expected,
+        reply,
+    )?;
     Ok(mark_by(count.met == 1, asks(text)))
 }
 

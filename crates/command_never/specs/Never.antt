@@ -11,7 +11,7 @@ use Rattle.command_never_text.specs.declared.never.Never.TheVariants.{Excluded, 
 use Rattle.kernel_abstract.specs.Plan.{Plan}
 use Rattle.setup_objects.specs.declared.meant.ObjectKind.TheVariants.{Thread, Endpoint}
 use Rattle.setup_objects.specs.Meant.{object_meant, are_meant}
-use Rattle.setup_naming.specs.Naming.{Texts, texts_of}
+use Rattle.setup_report.specs.Naming.{Texts, texts_of}
 use Rattle.command_parts.specs.Behind.{refused_behind}
 use Rattle.command_parts.specs.Threads.{Trusted, trusted_by, are_trusted, objects_named}
 use Rattle.command_never_text.specs.Open.{IsNeverOf}

@@ -9,7 +9,7 @@ use Rattle.query_parts.specs.Listed.{part_at}
 use Rattle.query_parts.specs.Ever.{AreConfinedEver}
 use Rattle.setup_format.specs.Views.{SetupView}
 use Rattle.setup_report.specs.State.{threads}
-use Rattle.setup_naming.specs.Naming.{Texts}
+use Rattle.setup_report.specs.Naming.{Texts}
 use Rattle.command_parts.specs.Telling.{part_texts}
 use Rattle.command_never_text.specs.declared.never.Never.{Never}
 use Rattle.command_never_text.specs.declared.never.Never.TheVariants.{Excluded, ExcludedByFlow, Possible, Decided}

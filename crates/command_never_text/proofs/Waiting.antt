@@ -17,7 +17,7 @@ use Rattle.kernel_abstract.proofs.Lists.Tables.{get_table}
 use Rattle.kernel_abstract.proofs.Cancelling.Waiting.{senders_told, receivers_told}
 use Rattle.kernel_abstract.proofs.Reached.Invariant.{SendIsOpen, ReceiveIsOpen}
 use Rattle.kernel_abstract.proofs.Reached.Simulation.{reached_inv}
-use Rattle.setup_report.specs.declared.naming.NamedObject.{NamedObject}
+use Rattle.setup_report.specs.declared.live.NamedObject.{NamedObject}
 use Rattle.setup_report.specs.State.{is_in, named, named_by, threads}
 use Rattle.setup_report.proofs.Addresses.Rising.{any_rising}
 use Rattle.command_never_text.specs.declared.waits.Wait.{Wait}

@@ -12,9 +12,9 @@ use Rattle.query_reach.specs.Chain.{IsShortest}
 use Rattle.query_parts.specs.declared.listed.PartMemory.{PartMemory}
 use Rattle.query_parts.specs.declared.listed.PartUse.{PartUse}
 use Rattle.query_parts.specs.Listed.{part_at}
-use Rattle.setup_naming.specs.declared.objects.Object.{Object}
-use Rattle.setup_naming.specs.Naming.{Texts}
-use Rattle.setup_naming.specs.Held.{held_slot_text}
+use Rattle.setup_report.specs.declared.objects.Object.{Object}
+use Rattle.setup_report.specs.Naming.{Texts}
+use Rattle.setup_report.specs.Text.{held_slot_text}
 use Rattle.setup_report.specs.Report.{terminated}
 use Rattle.command_never_text.specs.declared.waits.Wait.{Wait}
 use Rattle.command_never_text.specs.Waits.{waits}

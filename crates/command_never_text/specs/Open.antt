@@ -17,7 +17,7 @@ use Rattle.command_never_text.specs.declared.never.Never.{Never}
 use Rattle.command_never_text.specs.declared.never.Never.TheVariants.{Excluded, ExcludedByFlow, Possible, Decided}
 use Rattle.setup_format.specs.Views.{SetupView}
 use Rattle.setup_report.specs.State.{is_in, endpoints, threads}
-use Rattle.setup_naming.specs.Naming.{Texts}
+use Rattle.setup_report.specs.Naming.{Texts}
 use Rattle.command_parts.specs.declared.telling.PartTold.{PartTold}
 use Rattle.command_parts.specs.Telling.{PartTexts, part_texts, part_told_as}
 use Rattle.command_parts.specs.Text.{any_badge_text, none_text, endpoint_told, head_lines, sel4_lines, takes_between}

@@ -14,7 +14,7 @@ use cap_core::Profile;
 use command_parts::PartNaming;
 use query_parts::PartMemory;
 use query_reach::{FullSlot, Target, shortest_chain};
-use setup_naming::Object;
+use setup_report::Object;
 use std::alloc::{AllocError, Global};
 use std::fmt::Write;
 

@@ -9,7 +9,7 @@ use Rattle.kernel_abstract.specs.Shown.{Shown, tcb_base, threads_of}
 use Rattle.query_parts.specs.Order.{is_addressed}
 use Rattle.query_parts.proofs.Addressed.{live_addressed}
 use Rattle.query_parts.proofs.Bounded.{entries_told}
-use Rattle.setup_report.specs.declared.naming.NamedObject.{NamedObject}
+use Rattle.setup_report.specs.declared.live.NamedObject.{NamedObject}
 use Rattle.setup_report.specs.State.{Derived, is_in, named, threads}
 use Rattle.setup_report.proofs.Addresses.Named.{filter_map_viewed}
 use Rattle.setup_report.proofs.Addresses.Rising.{all_rising}

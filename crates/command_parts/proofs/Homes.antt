@@ -3,7 +3,7 @@ use Rattle.std.proofs.Common.{◌≡◌, ℕ, Bool, true, false, cond, ◌==◌,
 use Rattle.std.specs.List.{cons_option, filter_map}
 use Rattle.query_parts.specs.declared.listed.PartMemory.{PartMemory}
 use Rattle.query_parts.specs.Listed.{part_at}
-use Rattle.setup_naming.specs.Naming.{Texts}
+use Rattle.setup_report.specs.Naming.{Texts}
 use Rattle.command_parts.specs.declared.telling.Home.{Home}
 use Rattle.command_parts.specs.Takes.{is_part}
 use Rattle.command_parts.specs.Telling.{PartTexts, home_of, part_texts, threads_at_home, threads_in, threads_or_number}

@@ -9,7 +9,7 @@ use Rattle.query_parts.specs.Ever.{AreConfinedEver}
 use Rattle.query_parts.specs.Least.{AreLeast}
 use Rattle.setup_format.specs.Views.{SetupView}
 use Rattle.setup_report.specs.State.{threads}
-use Rattle.setup_naming.specs.Naming.{Texts}
+use Rattle.setup_report.specs.Naming.{Texts}
 use Rattle.command_parts.specs.Threads.{callers}
 use Rattle.command_parts.specs.Telling.{part_texts}
 use Rattle.command_parts.specs.Text.{ever_text}

@@ -6,7 +6,7 @@ use Rattle.cap_core.specs.declared.capability.Cap.{Cap}
 use Rattle.cap_core.specs.declared.capability.Cap.TheVariants.{Endpoint, CNode}
 use Rattle.query_parts.specs.declared.listed.PartUse.{PartUse}
 use Rattle.query_parts.specs.Order.{comes_before}
-use Rattle.setup_report.specs.declared.naming.NamedObject.{NamedObject}
+use Rattle.setup_report.specs.declared.live.NamedObject.{NamedObject}
 use Rattle.setup_report.specs.State.{base_named}
 use Rattle.command_parts.specs.declared.takes.PartSlot.{PartSlot}
 use Rattle.command_parts.specs.Takes.{is_part}

@@ -4,7 +4,7 @@ use Rattle.std.specs.List.{flat_map}
 use Rattle.std.specs.Fmt.{decimal}
 use Rattle.query_parts.specs.declared.listed.PartMemory.{PartMemory}
 use Rattle.query_parts.specs.Listed.{part_at}
-use Rattle.setup_naming.specs.Naming.{Texts, naming_view}
+use Rattle.setup_report.specs.Naming.{Texts, naming_view}
 use Rattle.command_parts.specs.declared.telling.Home.{Home}
 use Rattle.command_parts.specs.declared.telling.PartNaming.{PartNaming}
 use Rattle.command_parts.specs.declared.telling.PartTold.{PartTold}

@@ -21,8 +21,8 @@ use Rattle.setup_report.specs.Text.{rights_text}
 use Rattle.setup_report.specs.Report.{terminated, threads_at}
 use Rattle.command_parts.specs.declared.takes.PartSlot.{PartSlot}
 use Rattle.command_parts.specs.declared.takes.Take.{Take}
-use Rattle.setup_naming.specs.declared.objects.Object.{Object}
-use Rattle.setup_naming.specs.Naming.{Texts}
+use Rattle.setup_report.specs.declared.objects.Object.{Object}
+use Rattle.setup_report.specs.Naming.{Texts}
 use Rattle.command_parts.specs.Messages.{passes_alone, uses_held}
 use Rattle.command_parts.specs.Telling.{PartTexts}
 use Rattle.command_parts.specs.Takes.{part_slots, taken_by, takes, taking}

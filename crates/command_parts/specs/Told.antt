@@ -6,7 +6,7 @@ use Rattle.kernel_abstract.specs.State.{State, shown}
 use Rattle.setup_values.specs.Names.{Names}
 use Rattle.setup_format.specs.Views.{SetupView}
 use Rattle.setup_objects.specs.declared.meant.ObjectKind.TheVariants.{Thread}
-use Rattle.setup_naming.specs.Naming.{Texts, texts_of}
+use Rattle.setup_report.specs.Naming.{Texts, texts_of}
 use Rattle.command_parts.specs.Threads.{Trusted, are_trusted, objects_named}
 use Rattle.command_parts.specs.Behind.{refused_behind}
 use Rattle.command_parts.specs.Ever.{IsPartsText}

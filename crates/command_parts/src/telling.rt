@@ -1,14 +1,14 @@
 //! How a text of parts tells threads, endpoints and parts.
 ghost use Rattle.std.specs.Prelude.{◌≡◌, ◌++◌, ℕ, [], IfOk, OnOk, Some, cond, string_bytes};
 ghost use Rattle.std.specs.List.{flat_map, filter_map};
-ghost use Rattle.setup_naming.specs.Naming.{naming_view, told_as};
-ghost use Rattle.setup_naming.specs.Held.{held_slot_text};
-ghost use Rattle.setup_naming.specs.declared.objects.Object.TheVariants as objects;
+ghost use Rattle.setup_report.specs.Naming.{naming_view, told_as};
+ghost use Rattle.setup_report.specs.Text.{held_slot_text};
+ghost use Rattle.setup_report.specs.declared.objects.Object.TheVariants as objects;
 ghost use Rattle.command_parts.specs.Telling as spec;
 
 use cap_core::Cap;
 use query_parts::{PartMemory, part_at};
-use setup_naming::{HeldSlot, Naming, Object, Told};
+use setup_report::{HeldSlot, Naming, Object, Told};
 use std::alloc::{AllocError, Global};
 use std::fmt;
 use std::fmt::Write;

@@ -2,7 +2,7 @@
 ghost use Rattle.std.specs.Prelude.{◌≡◌, ◌++◌, ℕ, IfErr, IfOk, OnOk, length, string_bytes};
 ghost use Rattle.std.specs.List.{flat_map};
 ghost use Rattle.kernel_abstract.specs.Memory.{IsInMemory};
-ghost use Rattle.setup_naming.specs.Naming.{naming_view};
+ghost use Rattle.setup_report.specs.Naming.{naming_view};
 ghost use Rattle.setup_report.specs.State as state;
 ghost use Rattle.command_parts.specs.Takes.{takes as spec_takes};
 ghost use Rattle.command_parts.specs.Telling.{part_naming_view, part_texts};
@@ -21,8 +21,7 @@ use cap_core::Profile;
 use ipc_core::Waiters;
 use kernel_core::Kernel;
 use query_parts::{Parts, PartsFault, parts_around};
-use setup_naming::Naming;
-use setup_report::{StateRows, state_rows, waiting_threads};
+use setup_report::{Naming, StateRows, state_rows, waiting_threads};
 use slot_core::{CapStore, DerivationStore};
 use std::alloc::{AllocError, Global};
 use std::fmt::Write;

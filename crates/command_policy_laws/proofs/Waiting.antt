@@ -26,7 +26,7 @@ use Rattle.kernel_abstract.specs.State.{State, shown, thread_view}
 use Rattle.kernel_abstract.specs.Waiting.{AreStatesAndLists, offer_at, offer_where, state_in}
 use Rattle.kernel_abstract.proofs.Lists.Tables.{get_table}
 use Rattle.query_parts.proofs.Lists.{in_mapped}
-use Rattle.setup_report.specs.declared.naming.NamedObject.{NamedObject}
+use Rattle.setup_report.specs.declared.live.NamedObject.{NamedObject}
 use Rattle.setup_report.specs.State.{is_in, named, named_by, threads}
 use Rattle.setup_report.proofs.Addresses.Rising.{any_rising}
 use Rattle.command_policy_breaches.specs.declared.policy.Waiting.{Waiting}

@@ -5,7 +5,7 @@ ghost use Rattle.command_policy_text.specs.Calls as spec;
 
 use kernel_core::{Call, Reply};
 use setup_format::{Setup, op_name};
-use setup_report::ReplyText;
+use setup_report::{Naming, ReplyText};
 use std::alloc::{AllocError, Global};
 
 /// Whether a text is the expected one, or begins with it followed by a space.
@@ -36,7 +36,8 @@ fn answer_line(
     ensures { IfOk result (λ s. string_bytes s ≡ spec.refused_call_text number call.now reply) }
 {
     let op = op_name(&call.op).text();
-    let answer = ReplyText(reply);
+    let naming = &Naming::plain();
+    let answer = ReplyText { naming, reply };
     format!(in alloc; "breach call {number} {op}: {answer}")
 }
 
@@ -56,7 +57,8 @@ fn unmet_line(
 fn is_reply_met(alloc: Global, reply: Reply, expected: &str) -> Result<bool, AllocError>
     ensures { IfOk result (λ met. met ≡ text.begins_as (text.reply_text reply) expected.now) }
 {
-    let answer = ReplyText(reply).to_string(alloc)?;
+    let naming = &Naming::plain();
+    let answer = ReplyText { naming, reply }.to_string(alloc)?;
     Ok(is_met(answer.as_str(), expected))
 }
 

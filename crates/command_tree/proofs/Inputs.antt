@@ -33,7 +33,7 @@ use Rattle.command_tree.specs.declared.form.Form.TheVariants.{Lines}
 use Rattle.command_check.specs.Commands.{IsSetUpAnswer, IsAnswerAfter, IsAnswerTo, IsStateAnswer}
 use Rattle.setup_format.proofs.Grammar.Parts.{parts}
 use Rattle.setup_report.proofs.Runs.{derivations_shown}
-use Rattle.setup_naming.specs.Naming.{by_addresses}
+use Rattle.setup_report.specs.Naming.{by_addresses}
 use Rattle.command_tree.specs.Tree.{forest_text}
 use Rattle.command_tree.specs.Trees.{IsTree}
 use Rattle.command_tree.specs.Laws.{AreSetUpNames, held_in, held_when_read}

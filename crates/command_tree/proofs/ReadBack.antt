@@ -27,7 +27,7 @@ use Rattle.setup_values.specs.Names.{Names}
 use Rattle.setup_values.specs.Told.{profile_text, named_text, name_of, has_value}
 use Rattle.setup_format.specs.Views.{SetupView}
 use Rattle.setup_report.specs.Text.{cap_text}
-use Rattle.setup_naming.specs.Naming.{by_addresses}
+use Rattle.setup_report.specs.Naming.{by_addresses, plain}
 use Rattle.setup_report_laws.specs.Laws.{Stops, is_digit, IsOneLine, IsWithinWords}
 use Rattle.setup_report_laws.proofs.Parts.{Pass, told_apart, number_digits, numbers_apart}
 use Rattle.setup_report_laws.proofs.Capabilities.{capabilities_apart}
@@ -56,22 +56,22 @@ named_behind : (base : ℕ) (name : Option (List ℕ)) → codes "tcb " ++ named
 named_behind base None = sym (append-nil (codes "tcb " ++ decimal base))
 named_behind base (Some name) = refl
 
-cap_is : (names : Names) (cap : Cap) → tree_cap_text (by_addresses names) cap ≡ cap_text cap ++ tree_name_text (thread_named names cap)
+cap_is : (names : Names) (cap : Cap) → tree_cap_text (by_addresses names) cap ≡ cap_text plain cap ++ tree_name_text (thread_named names cap)
 cap_is names (Tcb base) = named_behind base (name_of names base)
-cap_is names Null = sym (append-nil (cap_text Null))
-cap_is names (Untyped base bits free) = sym (append-nil (cap_text (Untyped base bits free)))
-cap_is names (Endpoint base badge rights) = sym (append-nil (cap_text (Endpoint base badge rights)))
-cap_is names (CNode base radix guard) = sym (append-nil (cap_text (CNode base radix guard)))
+cap_is names Null = sym (append-nil (cap_text plain Null))
+cap_is names (Untyped base bits free) = sym (append-nil (cap_text plain (Untyped base bits free)))
+cap_is names (Endpoint base badge rights) = sym (append-nil (cap_text plain (Endpoint base badge rights)))
+cap_is names (CNode base radix guard) = sym (append-nil (cap_text plain (CNode base radix guard)))
 
 abbrev tree_slot_text : Names → Entry → List ℕ
-tree_slot_text names e = decimal e.slot ++ (codes " " ++ (cap_text e.cap ++ tree_name_text (thread_named names e.cap)))
+tree_slot_text names e = decimal e.slot ++ (codes " " ++ (cap_text plain e.cap ++ tree_name_text (thread_named names e.cap)))
 
 -- what a line tells of a full slot: its address and its capability
 abbrev ToldSlot : Type 0
 ToldSlot = ℕ × List ℕ
 
 abbrev told_slot : Entry → ToldSlot
-told_slot e = (e.slot, cap_text e.cap)
+told_slot e = (e.slot, cap_text plain e.cap)
 
 abbrev told_forest : Forest Entry → Forest ToldSlot
 told_forest f = renamed told_slot f
@@ -145,8 +145,8 @@ body_line : (names : Names) (x : Entry × List ℕ) → AreLines names → IsOne
 body_line names x h =
     let name = tree_name_text (thread_named names x.0.cap) in
     both_lines (indent x.1) (tree_slot_text names x.0) (indent_line x.1)
-    (number_and x.0.slot (codes " " ++ (cap_text x.0.cap ++ name))
-    (both_lines (cap_text x.0.cap) name (capability_line x.0.cap) (name_line (thread_named names x.0.cap) (thread_line names x.0.cap h))))
+    (number_and x.0.slot (codes " " ++ (cap_text plain x.0.cap ++ name))
+    (both_lines (cap_text plain x.0.cap) name (capability_line x.0.cap) (name_line (thread_named names x.0.cap) (thread_line names x.0.cap h))))
 
 head_line : (setup : SetupView) (made : ℕ) → IsOneLine (head_text setup made)
 head_line setup made =
@@ -189,7 +189,7 @@ digits_stop (byte ∷ text) rest h some = digit_is_no_space byte h.0
 
 slot_stops : (names : Names) (e : Entry) → e.slot < 2 ^ 64 → Stops is_space (tree_slot_text names e)
 slot_stops names e short =
-    digits_stop (decimal e.slot) (codes " " ++ (cap_text e.cap ++ tree_name_text (thread_named names e.cap))) (number_digits e.slot) (decimal_nonempty e.slot short)
+    digits_stop (decimal e.slot) (codes " " ++ (cap_text plain e.cap ++ tree_name_text (thread_named names e.cap))) (number_digits e.slot) (decimal_nonempty e.slot short)
 
 name_stops : (name : Option (List ℕ)) → Stops is_digit (tree_name_text name)
 name_stops None = tt
@@ -204,8 +204,8 @@ same_view names others x y h k same =
     let spaces : (indent x.1 ≡ indent y.1) × (tree_slot_text names x.0 ≡ tree_slot_text others y.0) =
     told_apart is_space (indent x.1) (indent y.1) (tree_slot_text names x.0) (tree_slot_text others y.0) (indent_spaces x.1) (indent_spaces y.1) (slot_stops names x.0 h) (slot_stops others y.0 k) same in
     let deep : length x.1 ≡ length y.1 = omega (arith, ap length spaces.0, indent_length x.1, indent_length y.1) in
-    let mine = cap_text x.0.cap ++ tree_name_text (thread_named names x.0.cap) in
-    let theirs = cap_text y.0.cap ++ tree_name_text (thread_named others y.0.cap) in
+    let mine = cap_text plain x.0.cap ++ tree_name_text (thread_named names x.0.cap) in
+    let theirs = cap_text plain y.0.cap ++ tree_name_text (thread_named others y.0.cap) in
     let numbers = numbers_apart x.0.slot y.0.slot (codes " " ++ mine) (codes " " ++ theirs) refl refl spaces.1 in
     let caps = capabilities_apart x.0.cap y.0.cap (tree_name_text (thread_named names x.0.cap)) (tree_name_text (thread_named others y.0.cap))
     (name_stops (thread_named names x.0.cap)) (name_stops (thread_named others y.0.cap)) (append_cancel_left (codes " ") mine theirs numbers.1) in

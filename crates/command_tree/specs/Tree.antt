@@ -12,8 +12,8 @@ use Rattle.setup_values.specs.Told.{profile_text}
 use Rattle.setup_format.specs.Views.{SetupView}
 use Rattle.setup_report.specs.Report.{terminated}
 use Rattle.setup_report.specs.State.{Derived}
-use Rattle.setup_naming.specs.Naming.{Texts}
-use Rattle.setup_naming.specs.Held.{cap_told}
+use Rattle.setup_report.specs.Naming.{Texts}
+use Rattle.setup_report.specs.Text.{cap_text}
 use Rattle.command_tree.specs.declared.form.Form.{Form}
 use Rattle.command_tree.specs.declared.form.Form.TheVariants.{Lines, Dot}
 
@@ -30,10 +30,10 @@ indent above = flat_map (λ (slot : ℕ). codes "  ") above
 -- a capability; a thread is told as the one that a line is about
 abbrev pub tree_cap_text : Texts → Cap → List ℕ
 tree_cap_text texts (Tcb base) = codes "tcb " ++ texts.about base
-tree_cap_text texts Null = cap_told texts Null
-tree_cap_text texts (Untyped base bits free) = cap_told texts (Untyped base bits free)
-tree_cap_text texts (Endpoint base badge rights) = cap_told texts (Endpoint base badge rights)
-tree_cap_text texts (CNode base radix guard) = cap_told texts (CNode base radix guard)
+tree_cap_text texts Null = cap_text texts Null
+tree_cap_text texts (Untyped base bits free) = cap_text texts (Untyped base bits free)
+tree_cap_text texts (Endpoint base badge rights) = cap_text texts (Endpoint base badge rights)
+tree_cap_text texts (CNode base radix guard) = cap_text texts (CNode base radix guard)
 
 -- a slot, and what it holds
 abbrev pub tree_slot_words : Texts → ℕ → Cap → List ℕ

@@ -4,7 +4,7 @@ use Rattle.cap_core.specs.declared.profile.ProfileName.{ProfileName}
 use Rattle.kernel_abstract.specs.State.{State, shown}
 use Rattle.setup_values.specs.Names.{Names}
 use Rattle.setup_format.specs.Views.{SetupView}
-use Rattle.setup_naming.specs.Naming.{texts_of}
+use Rattle.setup_report.specs.Naming.{texts_of}
 use Rattle.command_tree.specs.declared.form.Form.{Form}
 use Rattle.command_tree.specs.Tree.{text_in}
 use Rattle.command_core.specs.declared.fault.Verdict.{Verdict}

@@ -6,8 +6,7 @@ use command_check::Command;
 use command_core::{Answer, Verdict};
 use ipc_core::MakeWaiters;
 use setup_format::ReadSetup;
-use setup_naming::Naming;
-use setup_report::{calls_made, kernel_after};
+use setup_report::{Naming, calls_made, kernel_after};
 use slot_core::{DerivationStore, MakeStore};
 use std::alloc::{AllocError, Global};
 

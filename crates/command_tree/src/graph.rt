@@ -2,12 +2,12 @@
 ghost use Rattle.std.specs.Prelude.{◌≡◌, ◌++◌, OnOk, string_bytes};
 ghost use Rattle.std.specs.List.{flat_map};
 ghost use Rattle.slot_core.specs.Calls.{derivation_view};
-ghost use Rattle.setup_naming.specs.Naming.{naming_view};
+ghost use Rattle.setup_report.specs.Naming.{naming_view};
 ghost use Rattle.command_tree.specs.Tree as spec;
 
 use crate::slot::{parent_address, slot_text};
 use cap_core::Profile;
-use setup_naming::Naming;
+use setup_report::Naming;
 use slot_core::Derivation;
 use std::alloc::AllocError;
 use std::fmt::Write;

@@ -4,7 +4,7 @@ ghost use Rattle.cap_core.specs.declared.profile.ProfileName.{ProfileName};
 ghost use Rattle.kernel_abstract.specs.Reached.{IsReached};
 ghost use Rattle.kernel_abstract.specs.State.{State};
 ghost use Rattle.setup_values.specs.Names.{Names};
-ghost use Rattle.setup_naming.specs.Naming.{by_addresses};
+ghost use Rattle.setup_report.specs.Naming.{by_addresses};
 ghost use Rattle.setup_format.specs.Setups.{read_of_bytes};
 ghost use Rattle.setup_format.specs.Views.{SetupView};
 ghost use Rattle.command_check.specs.Commands.{IsAnswerTo, IsStateAnswer};

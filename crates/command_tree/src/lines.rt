@@ -4,14 +4,14 @@ ghost use Rattle.std.specs.List.{IsDistinct};
 ghost use Rattle.kernel_forest.specs.Forest.{Forest};
 ghost use Rattle.kernel_forest.specs.Entries.{Entry, slots, derivations_of};
 ghost use Rattle.slot_core.specs.Calls.{derivation_view};
-ghost use Rattle.setup_naming.specs.Naming.{naming_view};
+ghost use Rattle.setup_report.specs.Naming.{naming_view};
 ghost use Rattle.command_tree.specs.Tree as spec;
 ghost use Rattle.command_tree.specs.Private.Path.{kept, path_below};
 
 use crate::path::keep_to;
 use crate::slot::{parent_address, slot_text};
 use cap_core::Profile;
-use setup_naming::Naming;
+use setup_report::Naming;
 use slot_core::Derivation;
 use std::alloc::{AllocError, Global};
 use std::fmt::Write;

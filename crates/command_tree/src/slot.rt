@@ -1,11 +1,11 @@
 //! A full slot as it is told.
 ghost use Rattle.std.specs.Prelude.{◌≡◌, Some};
 ghost use Rattle.slot_core.specs.Calls.{derivation_view};
-ghost use Rattle.setup_naming.specs.Naming.{naming_view};
+ghost use Rattle.setup_report.specs.Naming.{naming_view};
 ghost use Rattle.command_tree.specs.Tree as spec;
 
 use cap_core::{Cap, Profile};
-use setup_naming::{HeldCap, Naming};
+use setup_report::{CapText, Naming};
 use slot_core::Derivation;
 use std::fmt;
 
@@ -31,7 +31,7 @@ impl fmt::Display for SlotText<'_> {
                 write!(f, "{slot} tcb {thread}")
             }
             _ => {
-                let held = HeldCap { naming, cap };
+                let held = CapText { naming, cap };
                 write!(f, "{slot} {held}")
             }
         }

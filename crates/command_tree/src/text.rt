@@ -1,6 +1,6 @@
 //! The derivation forest of a kernel as text, in either form.
 ghost use Rattle.std.specs.Prelude.{◌≡◌, IfOk};
-ghost use Rattle.setup_naming.specs.Naming.{naming_view};
+ghost use Rattle.setup_report.specs.Naming.{naming_view};
 ghost use Rattle.command_tree.specs.Tree as spec;
 
 use crate::form::Form;
@@ -11,7 +11,7 @@ use cap_core::Profile;
 use ipc_core::MakeWaiters;
 use kernel_core::Kernel;
 use setup_format::Setup;
-use setup_naming::Naming;
+use setup_report::Naming;
 use slot_core::{DerivationStore, MakeStore};
 use std::alloc::{AllocError, Global};
 use std::fmt::Write;

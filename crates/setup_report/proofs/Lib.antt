@@ -2,3 +2,4 @@ pub mod Addresses
 pub mod Sequences
 pub mod Runs
 pub mod Joined
+pub mod ByNames

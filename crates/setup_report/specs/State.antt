@@ -10,7 +10,7 @@ use Rattle.cap_core.specs.declared.capability.Cap.{Cap}
 use Rattle.cap_core.specs.declared.capability.Cap.TheVariants.{Null, Untyped, Endpoint, CNode, Tcb}
 use Rattle.kernel_forest.specs.Entries.{Entry, derivations_of}
 use Rattle.kernel_abstract.specs.Shown.{Shown, tcb_base, endpoint_base}
-use Rattle.setup_report.specs.declared.naming.NamedObject.{NamedObject}
+use Rattle.setup_report.specs.declared.live.NamedObject.{NamedObject}
 
 -- ---- addresses
 

@@ -1,4 +1,4 @@
--- The text of each part of a report. Numbers are decimal.
+-- The text of each part of a report: objects, slots and threads as `texts` tells them. Numbers are decimal.
 use Rattle.std.specs.Prelude.{codes, ℕ, List, [], ◌++◌, take, Bool, ◌==◌, ◌||◌, if◌then◌else◌, bit_and, nat_eq, Option, Some, None}
 use Rattle.std.specs.List.{flat_map, starts_with}
 use Rattle.std.specs.Fmt.{decimal}
@@ -17,6 +17,8 @@ use Rattle.kernel_abstract.specs.declared.call.ThreadState.TheVariants.{Ready, I
 use Rattle.kernel_abstract.specs.declared.call.Inbox.{Inbox}
 use Rattle.setup_values.specs.Operations.{op_text}
 use Rattle.setup_format.specs.Operations.{op_name}
+use Rattle.setup_report.specs.declared.objects.Object.{Object}
+use Rattle.setup_report.specs.Naming.{Texts, plain}
 
 -- ---- capabilities and messages
 
@@ -37,16 +39,20 @@ numbers_text numbers = flat_map (λ n. codes " " ++ decimal n) numbers
 abbrev pub message_text : Message → List ℕ
 message_text m = codes "label " ++ (decimal m.label ++ (codes " words" ++ numbers_text (take m.count m.words)))
 
--- a capability as text
-abbrev pub cap_text : Cap → List ℕ
-cap_text Null = codes "null"
-cap_text (Untyped base bits free) =
-    codes "untyped " ++ (decimal base ++ (codes " bits " ++ (decimal bits ++ (codes " free " ++ decimal free))))
-cap_text (Endpoint base badge rights) =
-    codes "endpoint " ++ (decimal base ++ (codes " badge " ++ (decimal badge.0 ++ (codes " rights " ++ rights_text rights))))
-cap_text (CNode base radix guard) =
-    codes "cnode " ++ (decimal base ++ (codes " radix " ++ (decimal radix ++ (codes " guard " ++ (decimal guard.value ++ (codes " size " ++ decimal guard.size))))))
-cap_text (Tcb base) = codes "tcb " ++ decimal base
+-- a capability, with the text of its object
+abbrev pub cap_text : Texts → Cap → List ℕ
+cap_text texts Null = codes "null"
+cap_text texts (Untyped base bits free) =
+    codes "untyped " ++ (texts.object (Object.Region base bits) ++ (codes " bits " ++ (decimal bits ++ (codes " free " ++ decimal free))))
+cap_text texts (Endpoint base badge rights) =
+    codes "endpoint " ++ (texts.object (Object.Endpoint base) ++ (codes " badge " ++ (decimal badge.0 ++ (codes " rights " ++ rights_text rights))))
+cap_text texts (CNode base radix guard) =
+    codes "cnode " ++ (texts.object (Object.CNode base) ++ (codes " radix " ++ (decimal radix ++ (codes " guard " ++ (decimal guard.value ++ (codes " size " ++ decimal guard.size))))))
+cap_text texts (Tcb base) = codes "tcb " ++ texts.object (Object.Thread base)
+
+-- a slot, with what it holds
+abbrev pub held_slot_text : Texts → ℕ → Cap → List ℕ
+held_slot_text texts slot cap = texts.slot slot ++ (codes " " ++ cap_text texts cap)
 
 -- ---- calls and replies
 
@@ -55,18 +61,24 @@ abbrev pub refusal_text : Refusal → List ℕ
 refusal_text r = decimal (refusal_code r) ++ (if refusal_kind r == 0 then [] else codes "/" ++ decimal (refusal_kind r))
 
 -- a reply as text
+abbrev pub reply_told : Texts → Reply → List ℕ
+reply_told texts Done = codes "done"
+reply_told texts Waiting = codes "waiting"
+reply_told texts Dropped = codes "dropped"
+reply_told texts Empty = codes "empty"
+reply_told texts (Refused refusal) = codes "refused " ++ refusal_text refusal
+reply_told texts (Delivered endpoint from to badge message) =
+    codes "delivered " ++ (texts.object (Object.Endpoint endpoint) ++ (codes " from " ++ (texts.object (Object.Thread from) ++ (codes " to " ++ (texts.object (Object.Thread to)
+    ++ (codes " badge " ++ (decimal badge.0 ++ (codes " " ++ message_text message))))))))
+
+-- a reply as text, by addresses: what an expectation is compared with
 abbrev pub reply_text : Reply → List ℕ
-reply_text Done = codes "done"
-reply_text Waiting = codes "waiting"
-reply_text Dropped = codes "dropped"
-reply_text Empty = codes "empty"
-reply_text (Refused refusal) = codes "refused " ++ refusal_text refusal
-reply_text (Delivered endpoint from to badge message) =
-    codes "delivered " ++ (decimal endpoint ++ (codes " from " ++ (decimal from ++ (codes " to " ++ (decimal to ++ (codes " badge " ++ (decimal badge.0 ++ (codes " " ++ message_text message))))))))
+reply_text reply = reply_told plain reply
 
 -- the thread that makes a call, the operation, and what it is answered
-abbrev pub answered_text : Call → Reply → List ℕ
-answered_text call reply = decimal call.thread ++ (codes " " ++ (op_text (op_name call.op) ++ (codes ": " ++ reply_text reply)))
+abbrev pub answered_text : Texts → Call → Reply → List ℕ
+answered_text texts call reply =
+    texts.object (Object.Thread call.thread) ++ (codes " " ++ (op_text (op_name call.op) ++ (codes ": " ++ reply_told texts reply)))
 
 -- a text equals the expected one, or begins with it followed by a space
 abbrev pub begins_as : List ℕ → List ℕ → Bool
@@ -81,11 +93,19 @@ expectation_text (Some expected) text =
 -- ---- threads
 
 -- what a thread does, as text
-abbrev pub state_text : ThreadState → List ℕ
-state_text Ready = codes "ready"
-state_text Inactive = codes "inactive"
-state_text (Sending endpoint) = codes "sending " ++ decimal endpoint
-state_text (Receiving endpoint) = codes "receiving " ++ decimal endpoint
+abbrev pub state_text : Texts → ThreadState → List ℕ
+state_text texts Ready = codes "ready"
+state_text texts Inactive = codes "inactive"
+state_text texts (Sending endpoint) = codes "sending " ++ texts.object (Object.Endpoint endpoint)
+state_text texts (Receiving endpoint) = codes "receiving " ++ texts.object (Object.Endpoint endpoint)
+
+-- a thread after a space
+abbrev pub next_thread_text : Texts → ℕ → List ℕ
+next_thread_text texts thread = codes " " ++ texts.object (Object.Thread thread)
+
+-- each of some threads after a space
+abbrev pub threads_text : Texts → List ℕ → List ℕ
+threads_text texts threads = flat_map (next_thread_text texts) threads
 
 -- the last message that was delivered to a thread, where there is one
 abbrev pub inbox_text : Option Inbox → List ℕ

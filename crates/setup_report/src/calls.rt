@@ -1,10 +1,12 @@
 //! The calls of a set-up with their replies, a line for each, and how many of their expectations are met.
 ghost use Rattle.std.specs.Prelude.{◌≡◌, ◌++◌, ◌+◌, ◌<◌, length, IfOk, OnOk, string_bytes, option_copied};
+ghost use Rattle.setup_report.specs.Naming.{naming_view};
 ghost use Rattle.setup_report.specs.Text as text;
 ghost use Rattle.setup_report.specs.Report as spec;
 ghost use Rattle.setup_report.specs.Private.Expectations.{text_of_expectation, met_of_expectation, expected_of_expectation};
 
 use crate::lines::ExpectationText;
+use crate::naming::Naming;
 use crate::text::{AnsweredText, ReplyText};
 use kernel_core::{Call, Reply};
 use setup_format::Setup;
@@ -45,7 +47,8 @@ fn compared(
     let Some(expected) = expected else {
         return Ok(ExpectationText::None);
     };
-    let shown = ReplyText(reply).to_string(alloc)?;
+    let naming = &Naming::plain();
+    let shown = ReplyText { naming, reply }.to_string(alloc)?;
     if is_met(shown.as_str(), expected) {
         Ok(ExpectationText::Met)
     } else {
@@ -73,7 +76,8 @@ fn count(expectation: ExpectationText<'_>) -> ExpectationCount
     }
 }
 
-/// Adds the line of a call, with its number from 1 on and its reply, and counts its expectation.
+/// Adds the line of a call, with its number from 1 on and its reply, as a naming tells them, and counts its expectation, which
+/// is compared with the reply by addresses.
 ///
 /// # Errors
 ///
@@ -81,18 +85,23 @@ fn count(expectation: ExpectationText<'_>) -> ExpectationCount
 pub fn add_call(
     alloc: Global,
     out: &mut String,
+    naming: &Naming<'_>,
     number: usize,
     call: &Call,
     expected: Option<&str>,
     reply: Reply,
 ) -> Result<ExpectationCount, AllocError>
     ensures line { OnOk result (string_bytes out.new ≡ string_bytes out.old
-        ++ spec.terminated (spec.call_text number call.now reply (option_copied expected.entry))) }
+        ++ spec.terminated (spec.call_text (naming_view naming.now) number call.now reply (option_copied expected.entry))) }
     ensures met { IfOk result (λ e. e.met ≡ spec.one_met (option_copied expected.entry) (text.reply_text reply)) }
     ensures expected { IfOk result (λ e. e.expected ≡ spec.one_expected (option_copied expected.entry)) }
 {
     let expectation = compared(alloc, expected, reply)?;
-    let answered = AnsweredText { call, reply };
+    let answered = AnsweredText {
+        naming,
+        call,
+        reply,
+    };
     writeln!(out, "{number} {answered}{expectation}")?;
     Ok(count(expectation))
 }
@@ -101,19 +110,20 @@ pub fn add_call(
 pub fn add_calls(
     alloc: Global,
     out: &mut String,
+    naming: &Naming<'_>,
     setup: &Setup,
     replies: &[Reply],
 ) -> Result<ExpectationCount, AllocError>
     requires { length replies.now ≡ length setup.now.calls }
     ensures lines { OnOk result (string_bytes out.new ≡ string_bytes out.old
-        ++ spec.call_lines 1 setup.now.calls replies.now) }
+        ++ spec.call_lines (naming_view naming.now) 1 setup.now.calls replies.now) }
     ensures met { IfOk result (λ e. e.met ≡ spec.met_count setup.now.calls replies.now) }
     ensures expected { IfOk result (λ e. e.expected ≡ spec.expectation_count setup.now.calls replies.now) }
 {
     let mut met = 0;
     let mut expected = 0;
     for (i, call) in setup.calls().iter().enumerate() {
-        let one = add_call(alloc, out, i + 1, call, setup.expect(i), replies[i])?;
+        let one = add_call(alloc, out, naming, i + 1, call, setup.expect(i), replies[i])?;
         met += one.met;
         expected += one.expected;
     }

@@ -1,11 +1,14 @@
-//! What a kernel shows of its memory, a line for each thing that is there.
+//! What a kernel shows of its memory, a line for each thing that is there, as a naming tells it.
 ghost use Rattle.std.specs.Prelude.{◌≡◌, ◌++◌, OnOk, IfOk, flat_map, string_bytes};
 ghost use Rattle.slot_core.specs.Calls.{derivation_view};
 ghost use Rattle.kernel_abstract.specs.Shown.{waiting_at};
+ghost use Rattle.setup_report.specs.Naming.{naming_view};
 ghost use Rattle.setup_report.specs.Report as spec;
 ghost use Rattle.setup_report.specs.Private.Roles.{is_sending};
 
 use crate::lines::{EndpointLine, SlotLine, ThreadLine};
+use crate::naming::Naming;
+use crate::objects::Object;
 use crate::state::state_rows;
 use cap_core::Profile;
 use ipc_core::Waiters;
@@ -17,16 +20,18 @@ use std::fmt::Write;
 
 fn add_thread<P: Profile, S: CapStore<P> + Drop, W: Waiters<P> + Drop>(
     out: &mut String,
+    naming: &Naming<'_>,
     address: u64,
     kernel: &Kernel<P, S, W>,
 ) -> Result<(), AllocError>
     ensures { OnOk result (string_bytes out.new ≡ string_bytes out.old
-        ++ spec.thread_line kernel.now address) }
+        ++ spec.thread_line (naming_view naming.now) kernel.now address) }
 {
     match kernel.thread_state(address) {
         None => Ok(()),
         Some(state) => {
             let line = ThreadLine {
+                naming,
                 address,
                 state,
                 inbox: kernel.inbox(address),
@@ -39,28 +44,31 @@ fn add_thread<P: Profile, S: CapStore<P> + Drop, W: Waiters<P> + Drop>(
 /// Adds a line for each of some threads.
 fn add_threads<P: Profile, S: CapStore<P> + Drop, W: Waiters<P> + Drop>(
     out: &mut String,
+    naming: &Naming<'_>,
     threads: &BTreeSet<u64>,
     kernel: &Kernel<P, S, W>,
 ) -> Result<(), AllocError>
     ensures { OnOk result (string_bytes out.new ≡ string_bytes out.old
-        ++ flat_map (spec.thread_line kernel.now) threads.now.keys) }
+        ++ flat_map (spec.thread_line (naming_view naming.now) kernel.now) threads.now.keys) }
 {
     for thread in threads {
-        add_thread::<P, S, W>(out, *thread, kernel)?;
+        add_thread::<P, S, W>(out, naming, *thread, kernel)?;
     }
     Ok(())
 }
 
 fn add_slot<P: Profile, S: CapStore<P> + Drop, W: Waiters<P> + Drop>(
     out: &mut String,
+    naming: &Naming<'_>,
     derivation: &Derivation,
     kernel: &Kernel<P, S, W>,
 ) -> Result<(), AllocError>
     ensures { OnOk result (string_bytes out.new ≡ string_bytes out.old
-        ++ spec.slot_line kernel.now (derivation_view P.profile derivation.now)) }
+        ++ spec.slot_line (naming_view naming.now) kernel.now (derivation_view P.profile derivation.now)) }
 {
     let address = derivation.slot.address::<P>();
     let line = SlotLine {
+        naming,
         address,
         cap: derivation.cap,
         has_children: kernel.has_children(address),
@@ -71,14 +79,15 @@ fn add_slot<P: Profile, S: CapStore<P> + Drop, W: Waiters<P> + Drop>(
 /// Adds a line for each of some full slots.
 fn add_slots<P: Profile, S: CapStore<P> + Drop, W: Waiters<P> + Drop>(
     out: &mut String,
+    naming: &Naming<'_>,
     slots: &[Derivation],
     kernel: &Kernel<P, S, W>,
 ) -> Result<(), AllocError>
     ensures { OnOk result (string_bytes out.new ≡ string_bytes out.old
-        ++ flat_map (λ d. spec.slot_line kernel.now (derivation_view P.profile d)) slots.now) }
+        ++ flat_map (λ d. spec.slot_line (naming_view naming.now) kernel.now (derivation_view P.profile d)) slots.now) }
 {
     for slot in slots {
-        add_slot::<P, S, W>(out, slot, kernel)?;
+        add_slot::<P, S, W>(out, naming, slot, kernel)?;
     }
     Ok(())
 }
@@ -126,14 +135,16 @@ pub fn first_sends<P: Profile, S: CapStore<P> + Drop, W: Waiters<P> + Drop>(
 fn add_endpoint<P: Profile, S: CapStore<P> + Drop, W: Waiters<P> + Drop>(
     alloc: Global,
     out: &mut String,
+    naming: &Naming<'_>,
     address: u64,
     kernel: &Kernel<P, S, W>,
 ) -> Result<(), AllocError>
     ensures { OnOk result (string_bytes out.new ≡ string_bytes out.old
-        ++ spec.endpoint_line kernel.now address) }
+        ++ spec.endpoint_line (naming_view naming.now) kernel.now address) }
 {
     let threads = waiting_threads::<P, S, W>(alloc, address, kernel)?;
     let line = EndpointLine {
+        naming: &*naming,
         address,
         sending: first_sends::<P, S, W>(address, kernel),
         threads: threads.as_slice(),
@@ -145,23 +156,26 @@ fn add_endpoint<P: Profile, S: CapStore<P> + Drop, W: Waiters<P> + Drop>(
 fn add_endpoints<P: Profile, S: CapStore<P> + Drop, W: Waiters<P> + Drop>(
     alloc: Global,
     out: &mut String,
+    naming: &Naming<'_>,
     endpoints: &BTreeSet<u64>,
     kernel: &Kernel<P, S, W>,
 ) -> Result<(), AllocError>
     ensures { OnOk result (string_bytes out.new ≡ string_bytes out.old
-        ++ flat_map (spec.endpoint_line kernel.now) endpoints.now.keys) }
+        ++ flat_map (spec.endpoint_line (naming_view naming.now) kernel.now) endpoints.now.keys) }
 {
     for endpoint in endpoints {
-        add_endpoint::<P, S, W>(alloc, out, *endpoint, kernel)?;
+        add_endpoint::<P, S, W>(alloc, out, naming, *endpoint, kernel)?;
     }
     Ok(())
 }
 
 /// Adds a line for each of some CNodes that only slots of their own name.
-fn add_selfheld(out: &mut String, nodes: &[u64]) -> Result<(), AllocError>
-    ensures { OnOk result (string_bytes out.new ≡ string_bytes out.old ++ flat_map spec.selfheld_line nodes.now) }
+fn add_selfheld(out: &mut String, naming: &Naming<'_>, nodes: &[u64]) -> Result<(), AllocError>
+    ensures { OnOk result (string_bytes out.new ≡ string_bytes out.old
+        ++ flat_map (spec.selfheld_line (naming_view naming.now)) nodes.now) }
 {
-    for node in nodes {
+    for address in nodes {
+        let node = naming.object(Object::CNode(*address));
         writeln!(out, "selfheld {node}")?;
     }
     Ok(())
@@ -176,14 +190,16 @@ fn add_selfheld(out: &mut String, nodes: &[u64]) -> Result<(), AllocError>
 pub fn add_state<P: Profile, S: DerivationStore<P> + Drop, W: Waiters<P> + Drop>(
     alloc: Global,
     out: &mut String,
+    naming: &Naming<'_>,
     kernel: &Kernel<P, S, W>,
 ) -> Result<(), AllocError>
-    ensures { OnOk result (string_bytes out.new ≡ string_bytes out.old ++ spec.state_lines P.profile kernel.now) }
+    ensures { OnOk result (string_bytes out.new ≡ string_bytes out.old
+        ++ spec.state_lines (naming_view naming.now) P.profile kernel.now) }
 {
     let rows = state_rows::<P, S, W>(alloc, kernel)?;
-    add_threads::<P, S, W>(out, &rows.threads, kernel)?;
-    add_endpoints::<P, S, W>(alloc, out, &rows.endpoints, kernel)?;
-    add_slots::<P, S, W>(out, rows.slots.as_slice(), kernel)?;
-    add_selfheld(out, rows.selfheld.as_slice())?;
+    add_threads::<P, S, W>(out, naming, &rows.threads, kernel)?;
+    add_endpoints::<P, S, W>(alloc, out, naming, &rows.endpoints, kernel)?;
+    add_slots::<P, S, W>(out, naming, rows.slots.as_slice(), kernel)?;
+    add_selfheld(out, naming, rows.selfheld.as_slice())?;
     Ok(())
 }

@@ -1,104 +1,179 @@
-//! The objects that slots name.
-ghost use Rattle.std.specs.Prelude.{◌≡◌, ◌^◌, IfOk, map, nat_lt};
-ghost use Rattle.std.specs.BTreeSet.{difference};
-ghost use Rattle.std.specs.Ordering.{nat_cmp};
-ghost use Rattle.slot_core.specs.Calls.{derivation_view};
-ghost use Rattle.setup_report.specs.State as spec;
+//! How texts tell objects, slots and threads: by addresses, or by names.
+ghost use Rattle.std.specs.Prelude.{◌≡◌, IfOk, Some};
+ghost use Rattle.kernel_abstract.specs.Plan.{IsPlan};
+ghost use Rattle.setup_values.specs.Names.{names_view};
+ghost use Rattle.setup_report.specs.Naming as spec;
 
-use cap_core::{Cap, Profile};
-use slot_core::Derivation;
+use crate::known::ObjectNames;
+use crate::objects::{Object, boot_rows, live_nodes};
+use cap_core::Profile;
+use ipc_core::MakeWaiters;
+use kernel_core::{BootPlan, Kernel};
+use setup_values::{Name, ThreadName, thread_name};
+use slot_core::{DerivationStore, MakeStore};
 use std::alloc::{AllocError, Global};
-use std::collections::BTreeSet;
+use std::fmt;
 
-/// Which objects a slot is asked for that its capability may name.
+/// How addresses are told.
+#[derive(Drop)]
+pub enum Naming<'a> {
+    /// As numbers, a thread that a line is about also by its name.
+    Addresses(&'a [Name]),
+    /// By the name of the object that is there, where it has one.
+    Named(ObjectNames<'a>),
+}
+
+/// An address, as it is told.
 #[derive(Clone, Copy)]
-pub enum NamedObject {
-    /// A thread.
-    Thread,
-    /// An endpoint.
-    Endpoint,
-    /// A CNode that has the slot itself.
-    OwnNode,
-    /// A CNode that does not have the slot.
-    OtherNode,
+pub enum Told<'a> {
+    /// As a number.
+    Number(u64),
+    /// As a number with a name behind it, where there is one.
+    Thread(ThreadName<'a>),
+    /// By the name of the object.
+    Name(&'a str),
+    /// The slot of the CSpace of a thread of that name.
+    Space(&'a str),
+    /// The slot with that index of a CNode of that name.
+    Index(&'a str, u64),
 }
 
-#[tactic(auto, using(crate::proofs::Addresses::Slots::word_below))]
-fn is_below_power(word: u64, bits: u32) -> bool
-    ensures { result ≡ nat_lt word (2 ^ bits) }
-{
-    if bits >= u64::BITS {
-        return true;
-    }
-    word < 1u64 << bits
-}
+impl fmt::Display for Told<'_> {
+    ghost output = { λ t. Some (spec.told_as t) };
 
-fn is_slot_of<P: Profile>(base: u64, radix: u32, slot: u64) -> bool
-    ensures { result ≡ spec.is_slot_of P.profile base radix slot }
-{
-    slot >= base && is_below_power((slot - base) >> P::SLOT_BITS, radix)
-}
-
-/// The base of the object that the capability in a slot, at its address in bytes, names, where that is asked for.
-pub fn base_named<P: Profile>(naming: NamedObject, slot: u64, cap: Cap) -> Option<u64>
-    ensures { result ≡ spec.base_named P.profile naming slot cap }
-{
-    match (naming, cap) {
-        (NamedObject::Thread, Cap::Tcb { base }) => Some(base),
-        (NamedObject::Endpoint, Cap::Endpoint { base, .. }) => Some(base),
-        (NamedObject::OwnNode, Cap::CNode { base, radix, .. }) => {
-            if is_slot_of::<P>(base, radix, slot) {
-                Some(base)
-            } else {
-                None
-            }
+    fn fmt<W: fmt::Write>(&self, f: &mut fmt::Formatter<W>) -> fmt::Result {
+        match self {
+            Told::Number(number) => write!(f, "{number}"),
+            Told::Thread(thread) => write!(f, "{thread}"),
+            Told::Name(name) => write!(f, "@{name}"),
+            Told::Space(name) => write!(f, "@{name}.cspace"),
+            Told::Index(name, index) => write!(f, "@{name}[{index}]"),
         }
-        (NamedObject::OtherNode, Cap::CNode { base, radix, .. }) => {
-            if is_slot_of::<P>(base, radix, slot) {
-                None
-            } else {
-                Some(base)
-            }
+    }
+}
+
+/// An object, by its name where it has one.
+fn object_told<'a>(known: &'a ObjectNames<'a>, object: Object) -> Told<'a>
+    ensures { spec.told_as result ≡ spec.object_told (spec.name_by known.entry.now) object }
+{
+    match known.name_of(object) {
+        None => Told::Number(object.base()),
+        Some(name) => Told::Name(name),
+    }
+}
+
+/// The slot of a thread's CSpace, by the thread's name where it has one.
+fn space_told<'a>(known: &'a ObjectNames<'a>, slot: u64) -> Told<'a>
+    ensures { spec.told_as result ≡ spec.space_or_number slot (spec.name_by known.entry.now (Object.Thread slot)) }
+{
+    match known.name_of(Object::Thread(slot)) {
+        None => Told::Number(slot),
+        Some(name) => Told::Space(name),
+    }
+}
+
+/// A slot, by the name of the CNode or of the thread that has it.
+fn slot_told<'a>(known: &'a ObjectNames<'a>, slot: u64) -> Told<'a>
+    ensures { spec.told_as result ≡ (spec.naming_view (Naming.Named known.entry.now)).slot slot }
+{
+    let Some(node) = known.node_around(slot) else {
+        return space_told(known, slot);
+    };
+    match known.name_of(Object::CNode(node.base)) {
+        None => Told::Number(slot),
+        Some(name) => Told::Index(name, slot.saturating_sub(node.base) >> known.slot_bits),
+    }
+}
+
+impl<'a> Naming<'a> {
+    /// Addresses alone.
+    pub fn plain() -> Naming<'a>
+        ensures { spec.naming_view result ≡ spec.plain }
+    {
+        Naming::Addresses(&[])
+    }
+
+    /// How a kernel's state is told: by the names of its objects, or by addresses.
+    ///
+    /// # Errors
+    ///
+    /// Memory was refused.
+    pub fn of<P: Profile, S: MakeStore<P> + DerivationStore<P>, W: MakeWaiters<P>>(
+        alloc: Global,
+        by_name: bool,
+        names: &'a [Name],
+        plan: &BootPlan,
+        kernel: &Kernel<P, S, W>,
+    ) -> Result<Naming<'a>, AllocError>
+        requires { IsPlan P.profile plan.now }
+        ensures { IfOk result (λ naming. spec.naming_view naming ≡ spec.texts_of by_name P.profile (names_view names.now) plan.now kernel.now) }
+    {
+        if !by_name {
+            return Ok(Naming::Addresses(names));
         }
-        _ => None,
+        let boot = boot_rows::<P, S, W>(alloc, plan)?;
+        let rows = kernel.derivations(alloc)?;
+        let nodes = live_nodes(alloc, rows.as_slice())?;
+        let known = ObjectNames::new::<P>(names, plan, boot, nodes);
+        Ok(Naming::Named(known))
     }
-}
 
-/// The objects that full slots name with their capabilities. They are collected first: of all at once a set is made in a
-/// small part of the time that inserting them one by one takes.
-pub fn named<P: Profile>(
-    alloc: Global,
-    naming: NamedObject,
-    list: &[Derivation],
-) -> Result<BTreeSet<u64>, AllocError>
-    ensures { IfOk result (λ s. s.keys ≡ spec.rising (spec.named P.profile naming (map (derivation_view P.profile) list.now))) }
-{
-    list.iter()
-        .filter_map(|d| base_named::<P>(naming, d.slot.address::<P>(), d.cap))
-        .collect(alloc)
-}
-
-/// The addresses of a set that are not of another one, in their order.
-fn only_in(
-    alloc: Global,
-    own: &BTreeSet<u64>,
-    others: &BTreeSet<u64>,
-) -> Result<Vec<u64>, AllocError>
-    ensures { IfOk result (λ v. v.items ≡ difference nat_cmp own.now others.now) }
-{
-    let mut only = Vec::new(alloc);
-    for address in own.difference(others) {
-        only.push(*address)?;
+    /// How a report tells a kernel's state: by addresses alone, or by the names of its objects.
+    ///
+    /// # Errors
+    ///
+    /// Memory was refused.
+    pub fn in_report<P: Profile, S: MakeStore<P> + DerivationStore<P>, W: MakeWaiters<P>>(
+        alloc: Global,
+        by_name: bool,
+        names: &'a [Name],
+        plan: &BootPlan,
+        kernel: &Kernel<P, S, W>,
+    ) -> Result<Naming<'a>, AllocError>
+        requires { IsPlan P.profile plan.now }
+        ensures { IfOk result (λ naming. spec.naming_view naming ≡ spec.report_texts by_name P.profile (names_view names.now) plan.now kernel.now) }
+    {
+        if by_name {
+            Naming::of::<P, S, W>(alloc, true, names, plan, kernel)
+        } else {
+            Ok(Naming::plain())
+        }
     }
-    Ok(only)
-}
 
-/// The CNodes that slots of their own name and no other slots, by rising address.
-pub fn selfheld<P: Profile>(alloc: Global, list: &[Derivation]) -> Result<Vec<u64>, AllocError>
-    ensures { IfOk result (λ v. v.items
-        ≡ spec.rising (spec.holding_themselves P.profile (map (derivation_view P.profile) list.now))) }
-{
-    let own = named::<P>(alloc, NamedObject::OwnNode, list)?;
-    let others = named::<P>(alloc, NamedObject::OtherNode, list)?;
-    only_in(alloc, &own, &others)
+    /// Whether names stand in place of addresses.
+    pub fn is_by_name(&self) -> bool
+        ensures { result ≡ (spec.naming_view self.now).by_name }
+    {
+        matches!(self, Naming::Named(_))
+    }
+
+    /// The thread that a line is about.
+    pub fn about(&self, address: u64) -> Told<'_>
+        ensures { spec.told_as result ≡ (spec.naming_view self.entry.now).about address }
+    {
+        match self {
+            Naming::Addresses(names) => Told::Thread(thread_name(names, address)),
+            Naming::Named(known) => object_told(known, Object::Thread(address)),
+        }
+    }
+
+    /// Another object.
+    pub fn object(&self, object: Object) -> Told<'_>
+        ensures { spec.told_as result ≡ (spec.naming_view self.entry.now).object object }
+    {
+        match self {
+            Naming::Addresses(_) => Told::Number(object.base()),
+            Naming::Named(known) => object_told(known, object),
+        }
+    }
+
+    /// A slot.
+    pub fn slot(&self, address: u64) -> Told<'_>
+        ensures { spec.told_as result ≡ (spec.naming_view self.entry.now).slot address }
+    {
+        match self {
+            Naming::Addresses(_) => Told::Number(address),
+            Naming::Named(known) => slot_told(known, address),
+        }
+    }
 }

@@ -5,7 +5,7 @@ ghost use Rattle.slot_core.specs.Calls.{derivation_view};
 ghost use Rattle.setup_report.specs.State as spec;
 ghost use Rattle.setup_report.specs.Private.Rows.{slot_address};
 
-use crate::naming::{NamedObject, named, selfheld};
+use crate::live::{NamedObject, named, selfheld};
 use cap_core::Profile;
 use ipc_core::Waiters;
 use kernel_core::Kernel;

@@ -1,7 +1,10 @@
-//! The text of capabilities, messages, calls, replies and threads.
+//! The text of capabilities, messages, calls, replies and threads. Objects and slots stand as a naming tells them.
 ghost use Rattle.std.specs.Prelude.{◌≡◌, Some, take};
+ghost use Rattle.setup_report.specs.Naming.{naming_view};
 ghost use Rattle.setup_report.specs.Text as text;
 
+use crate::naming::Naming;
+use crate::objects::Object;
 use bitflags::Flags;
 use cap_core::limits::MAX_MESSAGE_WORDS;
 use cap_core::{Cap, Message, Refusal, Rights};
@@ -74,33 +77,61 @@ impl fmt::Display for MessageText {
 
 /// A capability. Full slots hold no `Null`.
 #[derive(Clone, Copy)]
-pub struct CapText(pub Cap);
+pub struct CapText<'a> {
+    pub naming: &'a Naming<'a>,
+    pub cap: Cap,
+}
 
-impl fmt::Display for CapText {
-    ghost output = { λ c. Some (text.cap_text c.0) };
+impl fmt::Display for CapText<'_> {
+    ghost output = { λ h. Some (text.cap_text (naming_view h.naming.now) h.cap) };
 
     fn fmt<W: fmt::Write>(&self, f: &mut fmt::Formatter<W>) -> fmt::Result {
-        match self.0 {
+        match self.cap {
             Cap::Null => write!(f, "null"),
             Cap::Untyped { base, bits, free } => {
-                write!(f, "untyped {base} bits {bits} free {free}")
+                let region = self.naming.object(Object::Region(base, u64::from(bits)));
+                write!(f, "untyped {region} bits {bits} free {free}")
             }
             Cap::Endpoint {
                 base,
                 badge,
                 rights,
             } => {
+                let endpoint = self.naming.object(Object::Endpoint(base));
                 let badge = badge.0;
                 let rights = RightsText(rights);
-                write!(f, "endpoint {base} badge {badge} rights {rights}")
+                write!(f, "endpoint {endpoint} badge {badge} rights {rights}")
             }
             Cap::CNode { base, radix, guard } => {
+                let node = self.naming.object(Object::CNode(base));
                 let value = guard.value;
                 let size = guard.size;
-                write!(f, "cnode {base} radix {radix} guard {value} size {size}")
+                write!(f, "cnode {node} radix {radix} guard {value} size {size}")
             }
-            Cap::Tcb { base } => write!(f, "tcb {base}"),
+            Cap::Tcb { base } => {
+                let thread = self.naming.object(Object::Thread(base));
+                write!(f, "tcb {thread}")
+            }
         }
+    }
+}
+
+/// A slot, with what it holds.
+#[derive(Clone, Copy)]
+pub struct HeldSlot<'a> {
+    pub naming: &'a Naming<'a>,
+    pub slot: u64,
+    pub cap: Cap,
+}
+
+impl fmt::Display for HeldSlot<'_> {
+    ghost output = { λ h. Some (text.held_slot_text (naming_view h.naming.now) h.slot h.cap) };
+
+    fn fmt<W: fmt::Write>(&self, f: &mut fmt::Formatter<W>) -> fmt::Result {
+        let (naming, cap) = (self.naming, self.cap);
+        let slot = naming.slot(self.slot);
+        let held = CapText { naming, cap };
+        write!(f, "{slot} {held}")
     }
 }
 
@@ -124,13 +155,16 @@ impl fmt::Display for RefusalText {
 
 /// What a call is answered.
 #[derive(Clone, Copy)]
-pub struct ReplyText(pub Reply);
+pub struct ReplyText<'a> {
+    pub naming: &'a Naming<'a>,
+    pub reply: Reply,
+}
 
-impl fmt::Display for ReplyText {
-    ghost output = { λ r. Some (text.reply_text r.0) };
+impl fmt::Display for ReplyText<'_> {
+    ghost output = { λ r. Some (text.reply_told (naming_view r.naming.now) r.reply) };
 
     fn fmt<W: fmt::Write>(&self, f: &mut fmt::Formatter<W>) -> fmt::Result {
-        match self.0 {
+        match self.reply {
             Reply::Done => write!(f, "done"),
             Reply::Waiting => write!(f, "waiting"),
             Reply::Dropped => write!(f, "dropped"),
@@ -146,6 +180,9 @@ impl fmt::Display for ReplyText {
                 badge,
                 message,
             } => {
+                let endpoint = self.naming.object(Object::Endpoint(endpoint));
+                let from = self.naming.object(Object::Thread(from));
+                let to = self.naming.object(Object::Thread(to));
                 let badge = badge.0;
                 let message = MessageText(message);
                 write!(
@@ -160,35 +197,85 @@ impl fmt::Display for ReplyText {
 /// A call that was made: the thread that makes it, the operation, and what it is answered.
 #[derive(Clone, Copy)]
 pub struct AnsweredText<'a> {
+    pub naming: &'a Naming<'a>,
     pub call: &'a Call,
     pub reply: Reply,
 }
 
 impl fmt::Display for AnsweredText<'_> {
-    ghost output = { λ a. Some (text.answered_text a.call.now a.reply) };
+    ghost output = { λ a. Some (text.answered_text (naming_view a.naming.now) a.call.now a.reply) };
 
     fn fmt<W: fmt::Write>(&self, f: &mut fmt::Formatter<W>) -> fmt::Result {
-        let thread = self.call.thread;
+        let (naming, reply) = (self.naming, self.reply);
+        let thread = naming.object(Object::Thread(self.call.thread));
         let op = op_name(&self.call.op).text();
-        let reply = ReplyText(self.reply);
+        let reply = ReplyText { naming, reply };
         write!(f, "{thread} {op}: {reply}")
     }
 }
 
 /// What a thread does.
 #[derive(Clone, Copy)]
-pub struct StateText(pub ThreadState);
+pub struct StateText<'a> {
+    pub naming: &'a Naming<'a>,
+    pub state: ThreadState,
+}
 
-impl fmt::Display for StateText {
-    ghost output = { λ s. Some (text.state_text s.0) };
+impl fmt::Display for StateText<'_> {
+    ghost output = { λ d. Some (text.state_text (naming_view d.naming.now) d.state) };
 
     fn fmt<W: fmt::Write>(&self, f: &mut fmt::Formatter<W>) -> fmt::Result {
-        match self.0 {
+        match self.state {
             ThreadState::Ready => write!(f, "ready"),
             ThreadState::Inactive => write!(f, "inactive"),
-            ThreadState::Sending(endpoint) => write!(f, "sending {endpoint}"),
-            ThreadState::Receiving(endpoint) => write!(f, "receiving {endpoint}"),
+            ThreadState::Sending(address) => {
+                let endpoint = self.naming.object(Object::Endpoint(address));
+                write!(f, "sending {endpoint}")
+            }
+            ThreadState::Receiving(address) => {
+                let endpoint = self.naming.object(Object::Endpoint(address));
+                write!(f, "receiving {endpoint}")
+            }
         }
+    }
+}
+
+/// A thread after a space.
+#[derive(Clone, Copy)]
+struct NextThreadText<'a, 'n> {
+    naming: &'a Naming<'n>,
+    thread: u64,
+}
+
+impl fmt::Display for NextThreadText<'_, '_> {
+    ghost output = { λ t. Some (text.next_thread_text (naming_view t.naming.now) t.thread) };
+
+    fn fmt<W: fmt::Write>(&self, f: &mut fmt::Formatter<W>) -> fmt::Result {
+        let thread = self.naming.object(Object::Thread(self.thread));
+        write!(f, " {thread}")
+    }
+}
+
+/// Each of some threads after a space.
+#[derive(Clone, Copy)]
+pub struct ThreadsText<'a, 'n> {
+    pub naming: &'a Naming<'n>,
+    pub threads: &'a [u64],
+}
+
+impl fmt::Display for ThreadsText<'_, '_> {
+    ghost output = { λ t. Some (text.threads_text (naming_view t.naming.now) t.threads.now) };
+
+    fn fmt<W: fmt::Write>(&self, f: &mut fmt::Formatter<W>) -> fmt::Result {
+        for address in self.threads {
+            let naming = self.naming;
+            let next = NextThreadText {
+                naming,
+                thread: *address,
+            };
+            write!(f, "{next}")?;
+        }
+        Ok(())
     }
 }
 

@@ -9,6 +9,7 @@ use Rattle.cap_core.specs.declared.capability.Badge.{Badge}
 use Rattle.cap_core.specs.declared.capability.Guard.{Guard}
 use Rattle.cap_core.specs.declared.capability.Cap.{Cap}
 use Rattle.cap_core.specs.declared.capability.Cap.TheVariants.{Null, Untyped, Endpoint, CNode, Tcb}
+use Rattle.setup_report.specs.Naming.{plain}
 use Rattle.setup_report.specs.Text.{cap_text, rights_text, right_text}
 use Rattle.setup_report_laws.specs.Laws.{Stops, is_digit}
 use Rattle.setup_report_laws.proofs.Parts.{numbers_apart, same_length}
@@ -84,31 +85,31 @@ first (CNode base radix guard) = 99
 first (Tcb base) = 116
 
 -- the text of a capability, and another text behind it
-pub untyped_text : (base bits free : ℕ) (rest : List ℕ) → cap_text (Untyped base bits free) ++ rest
+pub untyped_text : (base bits free : ℕ) (rest : List ℕ) → cap_text plain (Untyped base bits free) ++ rest
     ≡ codes "untyped " ++ (decimal base ++ (codes " bits " ++ (decimal bits ++ (codes " free " ++ (decimal free ++ rest)))))
 untyped_text base bits free rest = simp append_assoc
 
-pub endpoint_text : (base : ℕ) (badge : Badge) (rights : Rights) (rest : List ℕ) → cap_text (Endpoint base badge rights) ++ rest
+pub endpoint_text : (base : ℕ) (badge : Badge) (rights : Rights) (rest : List ℕ) → cap_text plain (Endpoint base badge rights) ++ rest
     ≡ codes "endpoint " ++ (decimal base ++ (codes " badge " ++ (decimal badge.0 ++ (codes " rights " ++ (rights_text rights ++ rest)))))
 endpoint_text base badge rights rest = simp append_assoc
 
-pub cnode_text : (base radix : ℕ) (guard : Guard) (rest : List ℕ) → cap_text (CNode base radix guard) ++ rest
+pub cnode_text : (base radix : ℕ) (guard : Guard) (rest : List ℕ) → cap_text plain (CNode base radix guard) ++ rest
     ≡ codes "cnode " ++ (decimal base ++ (codes " radix " ++ (decimal radix ++ (codes " guard " ++ (decimal guard.value ++ (codes " size " ++ (decimal guard.size ++ rest)))))))
 cnode_text base radix guard rest = simp append_assoc
 
-pub tcb_text : (base : ℕ) (rest : List ℕ) → cap_text (Tcb base) ++ rest ≡ codes "tcb " ++ (decimal base ++ rest)
+pub tcb_text : (base : ℕ) (rest : List ℕ) → cap_text plain (Tcb base) ++ rest ≡ codes "tcb " ++ (decimal base ++ rest)
 tcb_text base rest = simp append_assoc
 
 -- with nothing behind them
 alone : (text more left right : List ℕ) → text ++ [] ≡ left → more ++ [] ≡ right → left ≡ right → text ≡ more
 alone text more left right e f same = sym (append-nil text) ∙ (e ∙ (same ∙ (sym f ∙ append-nil more)))
 
-pub capabilities_apart : (a b : Cap) (rest more : List ℕ) → Stops is_digit rest → Stops is_digit more → cap_text a ++ rest ≡ cap_text b ++ more → (cap_text a ≡ cap_text b) × (rest ≡ more)
+pub capabilities_apart : (a b : Cap) (rest more : List ℕ) → Stops is_digit rest → Stops is_digit more → cap_text plain a ++ rest ≡ cap_text plain b ++ more → (cap_text plain a ≡ cap_text plain b) × (rest ≡ more)
 capabilities_apart Null Null rest more e f same = (refl, append_cancel_left (codes "null") rest more same)
 capabilities_apart (Untyped base bits free) (Untyped start size used) rest more e f same =
     let fields : List Field = (codes "untyped ", base, start) ∷ (codes " bits ", bits, size) ∷ (codes " free ", free, used) ∷ [] in
     let both : AreAlike fields rest more = fields_apart fields rest more (refl, (refl, (refl, tt))) e f (sym (untyped_text base bits free rest) ∙ (same ∙ untyped_text start size used more)) in
-    (alone (cap_text (Untyped base bits free)) (cap_text (Untyped start size used)) _ _ (untyped_text base bits free []) (untyped_text start size used []) (both.0 []), both.1)
+    (alone (cap_text plain (Untyped base bits free)) (cap_text plain (Untyped start size used)) _ _ (untyped_text base bits free []) (untyped_text start size used []) (both.0 []), both.1)
 capabilities_apart (Endpoint base badge rights) (Endpoint start mark others) rest more e f same =
     let fields : List Field = (codes "endpoint ", base, start) ∷ (codes " badge ", badge.0, mark.0) ∷ [] in
     let behind = λ (r : Rights) (tail : List ℕ). codes " rights " ++ (rights_text r ++ tail) in
@@ -117,16 +118,16 @@ capabilities_apart (Endpoint base badge rights) (Endpoint start mark others) res
     let letters : (rights_text rights ≡ rights_text others) × (rest ≡ more) =
     same_length (rights_text rights) (rights_text others) rest more (rights_length rights ∙ sym (rights_length others))
     (append_cancel_left (codes " rights ") (rights_text rights ++ rest) (rights_text others ++ more) both.1) in (
-      alone (cap_text (Endpoint base badge rights)) (cap_text (Endpoint start mark others)) _ _ (endpoint_text base badge rights []) (endpoint_text start mark others [])
+      alone (cap_text plain (Endpoint base badge rights)) (cap_text plain (Endpoint start mark others)) _ _ (endpoint_text base badge rights []) (endpoint_text start mark others [])
           (both.0 (behind rights []) ∙ (λ i. others_of fields (codes " rights " ++ (letters.0 i ++ [])))),
       letters.1,
     )
 capabilities_apart (CNode base radix guard) (CNode start size other) rest more e f same =
     let fields : List Field = (codes "cnode ", base, start) ∷ (codes " radix ", radix, size) ∷ (codes " guard ", guard.value, other.value) ∷ (codes " size ", guard.size, other.size) ∷ [] in
     let both : AreAlike fields rest more = fields_apart fields rest more (refl, (refl, (refl, (refl, tt)))) e f (sym (cnode_text base radix guard rest) ∙ (same ∙ cnode_text start size other more)) in
-    (alone (cap_text (CNode base radix guard)) (cap_text (CNode start size other)) _ _ (cnode_text base radix guard []) (cnode_text start size other []) (both.0 []), both.1)
+    (alone (cap_text plain (CNode base radix guard)) (cap_text plain (CNode start size other)) _ _ (cnode_text base radix guard []) (cnode_text start size other []) (both.0 []), both.1)
 capabilities_apart (Tcb base) (Tcb start) rest more e f same =
     let fields : List Field = (codes "tcb ", base, start) ∷ [] in
     let both : AreAlike fields rest more = fields_apart fields rest more (refl, tt) e f (sym (tcb_text base rest) ∙ (same ∙ tcb_text start more)) in
-    (alone (cap_text (Tcb base)) (cap_text (Tcb start)) _ _ (tcb_text base []) (tcb_text start []) (both.0 []), both.1)
+    (alone (cap_text plain (Tcb base)) (cap_text plain (Tcb start)) _ _ (tcb_text base []) (tcb_text start []) (both.0 []), both.1)
 capabilities_apart a b rest more e f same = let h : first a ≡ first b = cc in absurd (omega (arith, h))

@@ -8,6 +8,7 @@ use Rattle.std.proofs.lemmas.List.Folds.{list_all-append}
 use Rattle.cap_core.specs.declared.rights.Rights.{Rights}
 use Rattle.cap_core.specs.declared.capability.Cap.{Cap}
 use Rattle.cap_core.specs.declared.capability.Cap.TheVariants.{Null, Untyped, Endpoint, CNode, Tcb}
+use Rattle.setup_report.specs.Naming.{plain}
 use Rattle.setup_report.specs.Text.{cap_text, rights_text, right_text}
 use Rattle.setup_report_laws.specs.Laws.{is_digit, IsOneLine}
 use Rattle.setup_report_laws.proofs.Parts.{Pass, number_digits}
@@ -56,7 +57,7 @@ rights_line rights =
     last true = refl
     last false = refl
 
-pub capability_line : (cap : Cap) → IsOneLine (cap_text cap)
+pub capability_line : (cap : Cap) → IsOneLine (cap_text plain cap)
 capability_line Null = refl
 capability_line (Untyped base bits free) =
     number_and base (codes " bits " ++ (decimal bits ++ (codes " free " ++ decimal free))) (number_and bits (codes " free " ++ decimal free) (number_line free))

@@ -6,6 +6,7 @@ use Rattle.std.proofs.lemmas.List.{append_cancel_left}
 use Rattle.cap_core.specs.declared.rights.Rights.{Rights}
 use Rattle.cap_core.specs.declared.capability.Cap.{Cap}
 use Rattle.cap_core.specs.declared.capability.Cap.TheVariants.{Null, Untyped, Endpoint, CNode, Tcb}
+use Rattle.setup_report.specs.Naming.{plain}
 use Rattle.setup_report.specs.Text.{cap_text, rights_text}
 use Rattle.setup_report_laws.specs.Laws.{IsWithinWords}
 use Rattle.setup_report_laws.proofs.Capabilities.{Field, AreAlike, fields_apart, first, untyped_text, endpoint_text, cnode_text, tcb_text}
@@ -64,7 +65,7 @@ same_rights r s h k same =
 
 -- ---- capabilities
 
-pub capability_told : (a b : Cap) → IsWithinWords a → IsWithinWords b → cap_text a ≡ cap_text b → a ≡ b
+pub capability_told : (a b : Cap) → IsWithinWords a → IsWithinWords b → cap_text plain a ≡ cap_text plain b → a ≡ b
 capability_told Null Null h k same = refl
 capability_told (Untyped base bits free) (Untyped start size used) h k same =
     let fields : List Field = (codes "untyped ", base, start) ∷ (codes " bits ", bits, size) ∷ (codes " free ", free, used) ∷ [] in

@@ -4,6 +4,7 @@ use Rattle.std.specs.List.{list_all}
 use Rattle.cap_core.specs.declared.capability.Cap.{Cap}
 use Rattle.cap_core.specs.declared.capability.Cap.TheVariants.{Null, Untyped, Endpoint, CNode, Tcb}
 use Rattle.cap_core.specs.Rights.{all_rights}
+use Rattle.setup_report.specs.Naming.{plain}
 use Rattle.setup_report.specs.Text.{cap_text}
 
 -- a byte from `0` to `9`
@@ -19,7 +20,7 @@ Stops test (byte ∷ rest) = test byte ≡ false
 -- comes after them
 abbrev pub EndByThemselves : Cap → Cap → Type 0
 EndByThemselves a b =
-    (rest more : List ℕ) → Stops is_digit rest → Stops is_digit more → cap_text a ++ rest ≡ cap_text b ++ more → (cap_text a ≡ cap_text b) × (rest ≡ more)
+    (rest more : List ℕ) → Stops is_digit rest → Stops is_digit more → cap_text plain a ++ rest ≡ cap_text plain b ++ more → (cap_text plain a ≡ cap_text plain b) × (rest ≡ more)
 
 -- no byte of a text is a line feed
 abbrev pub IsOneLine : List ℕ → Type 0

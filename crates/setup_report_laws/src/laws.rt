@@ -5,6 +5,7 @@ ghost use Rattle.cap_core.specs.declared.profile.ProfileName.{ProfileName};
 ghost use Rattle.kernel_forest.specs.Entries.{caps};
 ghost use Rattle.kernel_abstract.specs.Reached.{IsReached};
 ghost use Rattle.kernel_abstract.specs.State.{State};
+ghost use Rattle.setup_report.specs.Naming.{plain};
 ghost use Rattle.setup_report.specs.Text.{cap_text};
 ghost use Rattle.setup_report_laws.specs.Laws.{EndByThemselves, IsOneLine, IsWithinWords};
 
@@ -16,7 +17,7 @@ pub fn texts_of_capabilities_end_by_themselves()
 
 /// The text of a capability has no line feed.
 pub fn capabilities_are_told_in_one_line()
-    ensures { (cap : Cap) → IsOneLine (cap_text cap) }
+    ensures { (cap : Cap) → IsOneLine (cap_text plain cap) }
 {}
 
 /// In each state that a run reaches, each number of a capability has at most 64 bits, and the rights of one of an endpoint
@@ -27,5 +28,5 @@ pub fn capabilities_are_within_words()
 
 /// Of such capabilities the text tells the capability: two of them are the same, if their texts are.
 pub fn texts_tell_capabilities()
-    ensures { (a b : Cap) → IsWithinWords a → IsWithinWords b → cap_text a ≡ cap_text b → a ≡ b }
+    ensures { (a b : Cap) → IsWithinWords a → IsWithinWords b → cap_text plain a ≡ cap_text plain b → a ≡ b }
 {}

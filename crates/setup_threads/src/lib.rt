@@ -2,14 +2,15 @@
 #![tactic(auto)]
 
 ghost use Rattle.std.specs.Prelude.{◌≡◌, ◌++◌, Some, length, IfOk, OnOk, string_bytes};
-ghost use Rattle.setup_threads.specs.SharedReport.{entry_text, entry_lines, shared_report_of};
+ghost use Rattle.setup_report.specs.Naming.{naming_view};
+ghost use Rattle.setup_threads.specs.SharedReport.{entry_text, entry_lines, shared_report_of, shared_report_told};
 
 use cap_core::Profile;
 use ipc_core::Waiters;
 use kernel_core::Kernel;
 use kernel_shared::{Book, Entry, Naming};
 use setup_format::Setup;
-use setup_report::{AnsweredText, add_state};
+use setup_report::{AnsweredText, Naming as ObjectNaming, add_state};
 use slot_core::DerivationStore;
 use std::alloc::{AllocError, Global};
 use std::fmt;
@@ -17,19 +18,21 @@ use std::fmt::Write;
 
 /// An entry of a history, with its place, 1 the first.
 #[derive(Clone, Copy)]
-struct EntryLine<'a> {
+struct EntryLine<'a, 'n> {
+    naming: &'a ObjectNaming<'n>,
     place: usize,
     entry: &'a Entry,
 }
 
-impl fmt::Display for EntryLine<'_> {
-    ghost output = { λ l. Some (entry_text l.place l.entry.now) };
+impl fmt::Display for EntryLine<'_, '_> {
+    ghost output = { λ l. Some (entry_text (naming_view l.naming.now) l.place l.entry.now) };
 
     fn fmt<W: fmt::Write>(&self, f: &mut fmt::Formatter<W>) -> fmt::Result {
         let place = self.place;
         let client = self.entry.client;
         let number = self.entry.number;
         let answered = AnsweredText {
+            naming: self.naming,
             call: &self.entry.call,
             reply: self.entry.reply,
         };
@@ -38,11 +41,16 @@ impl fmt::Display for EntryLine<'_> {
 }
 
 /// Adds a line for each entry of a history.
-fn add_entries(out: &mut String, history: &[Entry]) -> Result<(), AllocError>
-    ensures { OnOk result (string_bytes out.new ≡ string_bytes out.old ++ entry_lines 1 history.now) }
+fn add_entries(
+    out: &mut String,
+    naming: &ObjectNaming<'_>,
+    history: &[Entry],
+) -> Result<(), AllocError>
+    ensures { OnOk result (string_bytes out.new ≡ string_bytes out.old ++ entry_lines (naming_view naming.now) 1 history.now) }
 {
     for (i, entry) in history.iter().enumerate() {
         let line = EntryLine {
+            naming: &*naming,
             place: i + 1,
             entry,
         };
@@ -53,24 +61,25 @@ fn add_entries(out: &mut String, history: &[Entry]) -> Result<(), AllocError>
 
 /// The report of a history and of a kernel behind it, as text: a line for each entry of the history, in its order, with the
 /// client that made the call, the client's number for it and the reply; then what the kernel shows of the memory, as
-/// `setup_report::report` tells it; and how many entries there are, of how many calls of the set-up. Expectations are not looked
+/// `setup_report::report` tells it, but for objects and slots, which stand as a naming tells them; and how many entries there are, of how many calls of the set-up. Expectations are not looked
 /// at.
 ///
 /// # Errors
 ///
 /// Memory was refused.
-#[tactic(auto, unfolding(crate::specs::SharedReport::shared_report_of))]
+#[tactic(auto, unfolding(crate::specs::SharedReport::shared_report_told))]
 pub fn history_report<P: Profile, S: DerivationStore<P> + Drop, W: Waiters<P> + Drop>(
     alloc: Global,
+    naming: &ObjectNaming<'_>,
     setup: &Setup,
     history: &[Entry],
     kernel: &Kernel<P, S, W>,
 ) -> Result<Vec<u8>, AllocError>
-    ensures { IfOk result (λ v. v.items ≡ shared_report_of P.profile (length setup.now.calls) history.now kernel.now) }
+    ensures { IfOk result (λ v. v.items ≡ shared_report_told (naming_view naming.now) P.profile (length setup.now.calls) history.now kernel.now) }
 {
     let mut out = String::new(alloc);
-    add_entries(&mut out, history)?;
-    add_state::<P, S, W>(alloc, &mut out, kernel)?;
+    add_entries(&mut out, naming, history)?;
+    add_state::<P, S, W>(alloc, &mut out, naming, kernel)?;
     let entries = history.len();
     let calls = setup.calls().len();
     writeln!(out, "entries {entries} of {calls}")?;
@@ -90,5 +99,6 @@ pub fn shared_report<N: Naming, P: Profile, S: DerivationStore<P> + Drop, W: Wai
 ) -> Result<Vec<u8>, AllocError>
     ensures { IfOk result (λ v. v.items ≡ shared_report_of P.profile (length setup.now.calls) book.now.history.items book.now.kernel) }
 {
-    history_report(alloc, setup, book.history.as_slice(), &book.kernel)
+    let naming = &ObjectNaming::plain();
+    history_report(alloc, naming, setup, book.history.as_slice(), &book.kernel)
 }

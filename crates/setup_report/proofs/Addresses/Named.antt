@@ -6,7 +6,7 @@ use Rattle.std.specs.Ordering.{nat_cmp}
 use Rattle.std.proofs.lemmas.List.{take_more, map-append}
 use Rattle.std.proofs.lemmas.List.Elements.{filter_map-append}
 use Rattle.cap_core.specs.declared.profile.ProfileName.{ProfileName}
-use Rattle.setup_report.specs.declared.naming.NamedObject.{NamedObject}
+use Rattle.setup_report.specs.declared.live.NamedObject.{NamedObject}
 use Rattle.setup_report.specs.State.{Derived, is_in, rising, named, holding_themselves}
 use Rattle.setup_report.proofs.Addresses.Rising.{rising_push, filter_alike, tied_in, any_rising, filter_rising}
 

@@ -7,6 +7,7 @@ use Rattle.std.proofs.lemmas.Option.{slice_get_within, slice_get_cases, get_or_f
 use Rattle.kernel_abstract.specs.declared.call.Call.{Call}
 use Rattle.kernel_abstract.specs.declared.call.Reply.{Reply}
 use Rattle.setup_format.specs.Views.{CallView}
+use Rattle.setup_report.specs.Naming.{Texts}
 use Rattle.setup_report.specs.Text.{reply_text}
 use Rattle.setup_report.specs.Report.{terminated, call_text, call_lines, is_met, one_met, one_expected, met_count, expectation_count}
 
@@ -37,24 +38,24 @@ pub reply_at : (replies : List Reply) (i : ℕ) (reply : Reply) → slice_get re
 reply_at replies i reply e =
     drop-cons replies i reply (slice_get_within replies i reply e) ∙ ap (λ y. y ∷ drop (suc i) replies) (get_or_from_slice_get replies i reply reply e)
 
-pub lines_more : (calls : List CallView) (replies : List Reply) (i : ℕ) (call : Call) (expected : Option (List ℕ)) (reply : Reply) → IsCallAt calls i call expected → slice_get replies i ≡ Some reply → call_lines (i + 1) (drop i calls) (drop i replies) ≡ terminated (call_text (i + 1) call reply expected) ++ call_lines (i + 1 + 1) (drop (i + 1) calls) (drop (i + 1) replies)
-lines_more calls replies i call expected reply at e =
-    ap (λ cs. call_lines (i + 1) cs (drop i replies)) at.there
-    ∙ ap (λ rs. call_lines (i + 1) (at.view ∷ drop (suc i) calls) rs) (reply_at replies i reply e)
-    ∙ ap (λ c. terminated (call_text (i + 1) c reply at.view.expect) ++ call_lines (i + 1 + 1) (drop (suc i) calls) (drop (suc i) replies)) at.call_is
-    ∙ ap (λ x. terminated (call_text (i + 1) call reply x) ++ call_lines (i + 1 + 1) (drop (suc i) calls) (drop (suc i) replies)) at.expected_is
-    ∙ ap (λ n. terminated (call_text (i + 1) call reply expected) ++ call_lines (i + 1 + 1) (drop n calls) (drop n replies)) (sym (add-one i))
+pub lines_more : (texts : Texts) (calls : List CallView) (replies : List Reply) (i : ℕ) (call : Call) (expected : Option (List ℕ)) (reply : Reply) → IsCallAt calls i call expected → slice_get replies i ≡ Some reply → call_lines texts (i + 1) (drop i calls) (drop i replies) ≡ terminated (call_text texts (i + 1) call reply expected) ++ call_lines texts (i + 1 + 1) (drop (i + 1) calls) (drop (i + 1) replies)
+lines_more texts calls replies i call expected reply at e =
+    ap (λ cs. call_lines texts (i + 1) cs (drop i replies)) at.there
+    ∙ ap (λ rs. call_lines texts (i + 1) (at.view ∷ drop (suc i) calls) rs) (reply_at replies i reply e)
+    ∙ ap (λ c. terminated (call_text texts (i + 1) c reply at.view.expect) ++ call_lines texts (i + 1 + 1) (drop (suc i) calls) (drop (suc i) replies)) at.call_is
+    ∙ ap (λ x. terminated (call_text texts (i + 1) call reply x) ++ call_lines texts (i + 1 + 1) (drop (suc i) calls) (drop (suc i) replies)) at.expected_is
+    ∙ ap (λ n. terminated (call_text texts (i + 1) call reply expected) ++ call_lines texts (i + 1 + 1) (drop n calls) (drop n replies)) (sym (add-one i))
 
 -- one more line is added
-pub added : (calls : List CallView) (replies : List Reply) (i : ℕ) (call : Call) (expected : Option (List ℕ)) (reply : Reply) (total before after : List ℕ) → before ++ call_lines (i + 1) (drop i calls) (drop i replies) ≡ total → option_map (λ (c : CallView). c.call) (slice_get calls i) ≡ Some call → option_map (λ (c : CallView). c.expect) (slice_get calls i) ≡ Some expected → slice_get replies i ≡ Some reply → after ≡ before ++ terminated (call_text (i + 1) call reply expected) → after ++ call_lines (i + 1 + 1) (drop (i + 1) calls) (drop (i + 1) replies) ≡ total
-added calls replies i call expected reply total before after e c x r a =
-    ap (λ t. t ++ call_lines (i + 1 + 1) (drop (i + 1) calls) (drop (i + 1) replies)) a
-    ∙ append_assoc before (terminated (call_text (i + 1) call reply expected)) (call_lines (i + 1 + 1) (drop (i + 1) calls) (drop (i + 1) replies))
-    ∙ ap (λ t. before ++ t) (sym (lines_more calls replies i call expected reply (call_at calls i call expected c x) r))
+pub added : (texts : Texts) (calls : List CallView) (replies : List Reply) (i : ℕ) (call : Call) (expected : Option (List ℕ)) (reply : Reply) (total before after : List ℕ) → before ++ call_lines texts (i + 1) (drop i calls) (drop i replies) ≡ total → option_map (λ (c : CallView). c.call) (slice_get calls i) ≡ Some call → option_map (λ (c : CallView). c.expect) (slice_get calls i) ≡ Some expected → slice_get replies i ≡ Some reply → after ≡ before ++ terminated (call_text texts (i + 1) call reply expected) → after ++ call_lines texts (i + 1 + 1) (drop (i + 1) calls) (drop (i + 1) replies) ≡ total
+added texts calls replies i call expected reply total before after e c x r a =
+    ap (λ t. t ++ call_lines texts (i + 1 + 1) (drop (i + 1) calls) (drop (i + 1) replies)) a
+    ∙ append_assoc before (terminated (call_text texts (i + 1) call reply expected)) (call_lines texts (i + 1 + 1) (drop (i + 1) calls) (drop (i + 1) replies))
+    ∙ ap (λ t. before ++ t) (sym (lines_more texts calls replies i call expected reply (call_at calls i call expected c x) r))
     ∙ e
 
-pub none_left : (calls : List CallView) (replies : List Reply) (i n : ℕ) → length calls ≤ i → call_lines n (drop i calls) (drop i replies) ≡ []
-none_left calls replies i n h = ap (λ cs. call_lines n cs (drop i replies)) (drop_all i calls h)
+pub none_left : (texts : Texts) (calls : List CallView) (replies : List Reply) (i n : ℕ) → length calls ≤ i → call_lines texts n (drop i calls) (drop i replies) ≡ []
+none_left texts calls replies i n h = ap (λ cs. call_lines texts n cs (drop i replies)) (drop_all i calls h)
 
 pub call_here : (calls : List CallView) (items : List Call) (i : ℕ) (d : Call) → items ≡ map (λ (c : CallView). c.call) calls → i < length items → option_map (λ (c : CallView). c.call) (slice_get calls i) ≡ Some (get_or items i d)
 call_here calls items i d e h = sym (slice_get-map (λ (c : CallView). c.call) calls i) ∙ ap (λ xs. slice_get xs i) (sym e) ∙ slice_get-get_or items i d h

@@ -1,7 +1,7 @@
 -- The proof of `chains_within`: the goals that a search leaves open.
 use Rattle.std.proofs.Common.{rules, string_bytes, subst}
 use Rattle.query_reach.specs.declared.chains.chain.Target.{Target}
-use Rattle.setup_naming.specs.declared.objects.Object.{Object}
+use Rattle.setup_report.specs.declared.objects.Object.{Object}
 use Rattle.command_parts.specs.Telling.{part_naming_view}
 use Rattle.command_never_text.specs.Chains.{IsChainText}
 use Rattle.command_never_text.proofs.chain_text.chains_within.Goals as goal

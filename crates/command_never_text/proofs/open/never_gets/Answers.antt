@@ -6,7 +6,7 @@ use Rattle.query_parts.specs.declared.listed.PartMemory.{PartMemory}
 use Rattle.query_parts.specs.declared.listed.PartUse.{PartUse}
 use Rattle.query_parts.specs.declared.parts.PartsFault.{PartsFault}
 use Rattle.setup_report.specs.State.{threads}
-use Rattle.setup_naming.specs.Naming.{naming_view}
+use Rattle.setup_report.specs.Naming.{naming_view}
 use Rattle.command_parts.specs.Telling.{PartTexts, part_naming_view, part_texts}
 use Rattle.command_parts.specs.Ever.{AreRightParts}
 use Rattle.command_parts.proofs.Faults.{err_of}

@@ -1,7 +1,7 @@
 use Rattle.std.proofs.Common.{◌≡◌, ◌++◌, [], map, drop, string_bytes}
 use Rattle.std.specs.List.{flat_map}
 use Rattle.slot_core.specs.Calls.{derivation_view}
-use Rattle.setup_naming.specs.Naming.{naming_view}
+use Rattle.setup_report.specs.Naming.{naming_view}
 use Rattle.command_tree.specs.Tree.{placed_line}
 use Rattle.command_tree.specs.Private.Path.{slots_with_paths}
 use Rattle.command_tree.proofs.lines.add_forest.Given as goal

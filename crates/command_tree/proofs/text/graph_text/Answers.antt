@@ -2,7 +2,7 @@
 use Rattle.std.proofs.Common.{◌++◌, codes, ap, ap₂, ◌∙◌}
 use Rattle.std.specs.List.{flat_map}
 use Rattle.slot_core.specs.Calls.{derivation_view}
-use Rattle.setup_naming.specs.Naming.{naming_view}
+use Rattle.setup_report.specs.Naming.{naming_view}
 use Rattle.setup_report.specs.Report.{terminated}
 use Rattle.setup_report.proofs.Joined.{flat_seen}
 use Rattle.command_tree.specs.Tree.{graph_head, node_lines}

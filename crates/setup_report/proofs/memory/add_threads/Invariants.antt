@@ -1,8 +1,9 @@
 use Rattle.std.proofs.Common.{◌≡◌, ◌++◌, map, string_bytes}
 use Rattle.std.specs.List.{flat_map}
 use Rattle.std.specs.Map.Iter.{deref}
+use Rattle.setup_report.specs.Naming.{naming_view}
 use Rattle.setup_report.specs.Report.{thread_line}
 use Rattle.setup_report.proofs.memory.add_threads.Given as goal
 
 abbrev pub invariant-loop-thread : goal.invariant-loop-thread
-invariant-loop-thread g l = string_bytes l.out ≡ string_bytes l.initial.out ++ flat_map (thread_line l.kernel) (map deref l.yielded)
+invariant-loop-thread g l = string_bytes l.out ≡ string_bytes l.initial.out ++ flat_map (thread_line (naming_view l.naming) l.kernel) (map deref l.yielded)

@@ -7,7 +7,7 @@ use Rattle.setup_values.specs.declared.names.Name.{Name}
 use Rattle.setup_values.specs.Names.{names_view}
 use Rattle.setup_report.specs.Behind.{state_behind}
 use Rattle.command_check.specs.Commands.{IsAnswerAfter}
-use Rattle.setup_naming.specs.Naming.{Texts, naming_view, texts_of}
+use Rattle.setup_report.specs.Naming.{Texts, naming_view, texts_of}
 use Rattle.command_parts.specs.Behind.{refused_behind}
 use Rattle.command_parts.specs.Threads.{trusted_by}
 use Rattle.command_parts.specs.Told.{IsEverOf, IsEver}

@@ -1,7 +1,7 @@
 -- Where the threads live tells the parts.
 use Rattle.std.proofs.Common.{Bool, [], cond, ap, ◌∙◌}
 use Rattle.std.specs.List.{filter_map}
-use Rattle.setup_naming.specs.Naming.{naming_view}
+use Rattle.setup_report.specs.Naming.{naming_view}
 use Rattle.command_parts.specs.Telling.{home_of}
 use Rattle.command_parts.proofs.Homes.{told_at_home}
 use Rattle.command_parts.proofs.telling.PartNaming.new.Goals as goal

@@ -2,7 +2,7 @@
 use Rattle.std.proofs.Common.{◌≡◌, ℕ, List, Option, ap, subst, ◌∙◌}
 use Rattle.kernel_abstract.specs.State.{shown}
 use Rattle.setup_values.specs.Names.{names_view}
-use Rattle.setup_naming.specs.Naming.{naming_view, texts_of}
+use Rattle.setup_report.specs.Naming.{naming_view, texts_of}
 use Rattle.setup_report.specs.Behind.{state_behind}
 use Rattle.command_check.specs.Commands.{IsAnswerAfter}
 use Rattle.command_tree.specs.Tree.{text_in}

@@ -2,7 +2,7 @@ use Rattle.std.proofs.Common.{ap, option_and_then, ◌∙◌}
 use Rattle.slot_core.specs.declared.derivations.Derivation.{Derivation}
 use Rattle.setup_values.specs.Names.{names_view}
 use Rattle.setup_values.specs.Told.{name_of}
-use Rattle.setup_naming.proofs.objects.boot_name.Goals as goal
+use Rattle.setup_report.proofs.objects.boot_name.Goals as goal
 
 pub returns-in-Some : goal.returns-in-Some
 returns-in-Some c =

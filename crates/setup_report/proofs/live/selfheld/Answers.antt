@@ -3,7 +3,7 @@ use Rattle.std.specs.BTreeSet.{difference}
 use Rattle.slot_core.specs.Calls.{derivation_view}
 use Rattle.setup_report.specs.State.{rising, holding_themselves}
 use Rattle.setup_report.proofs.Addresses.Named.{rising_selfheld, where_ok}
-use Rattle.setup_report.proofs.naming.selfheld.Goals as goal
+use Rattle.setup_report.proofs.live.selfheld.Goals as goal
 
 pub returns : goal.returns
 returns g c =

@@ -1,5 +1,5 @@
 -- How texts tell objects, slots and threads: by addresses, or by names.
-use Rattle.std.specs.Prelude.{codes, ℕ, ◌-◌, ◌/◌, ◌^◌, ◌==◌, ◌&&◌, nat_le, nat_lt, Bool, true, false, cond, List, ◌++◌, map, find, Option, Some, None, option_and_then, option_copied}
+use Rattle.std.specs.Prelude.{codes, ℕ, ◌-◌, ◌/◌, ◌^◌, ◌==◌, ◌&&◌, nat_le, nat_lt, Bool, true, false, cond, List, [], ◌++◌, map, find, Option, Some, None, option_and_then, option_copied}
 use Rattle.std.specs.Option.{option_or}
 use Rattle.std.specs.List.{filter_map}
 use Rattle.std.specs.Fmt.{decimal}
@@ -16,13 +16,13 @@ use Rattle.kernel_abstract.specs.State.{shown}
 use Rattle.setup_values.specs.Names.{Names, names_view}
 use Rattle.setup_values.specs.Told.{name_of, thread_name, named_text}
 use Rattle.setup_report.specs.State.{Derived, slot_of}
-use Rattle.setup_naming.specs.declared.objects.Node.{Node}
-use Rattle.setup_naming.specs.declared.objects.Object.{Object}
-use Rattle.setup_naming.specs.declared.known.ObjectNames.{ObjectNames}
-use Rattle.setup_naming.specs.declared.naming.Naming.{Naming}
-use Rattle.setup_naming.specs.declared.naming.Naming.TheVariants.{Addresses, Named}
-use Rattle.setup_naming.specs.declared.naming.Told.{Told}
-use Rattle.setup_naming.specs.declared.naming.Told.TheVariants.{Number, Thread, Name, Space, Index}
+use Rattle.setup_report.specs.declared.objects.Node.{Node}
+use Rattle.setup_report.specs.declared.objects.Object.{Object}
+use Rattle.setup_report.specs.declared.known.ObjectNames.{ObjectNames}
+use Rattle.setup_report.specs.declared.naming.Naming.{Naming}
+use Rattle.setup_report.specs.declared.naming.Naming.TheVariants.{Addresses, Named}
+use Rattle.setup_report.specs.declared.naming.Told.{Told}
+use Rattle.setup_report.specs.declared.naming.Told.TheVariants.{Number, Thread, Name, Space, Index}
 
 -- the text of a thread that a line is about, of another object, and of a slot; and whether names stand in place of addresses
 pub record Texts : Type 0 where
@@ -58,6 +58,10 @@ by_addresses names = record {
   slot = decimal;
   by_name = false;
 }
+
+-- addresses alone
+abbrev pub plain : Texts
+plain = by_addresses []
 
 -- ---- the name of an object
 
@@ -127,6 +131,11 @@ abbrev pub texts_of : Bool → ProfileName → Names → Plan → Shown → Text
 texts_of false p names plan v = by_addresses names
 texts_of true p names plan v =
     by_object_names (object_name names (2 ^ plan.root_radix) (slots_at_boot p plan)) (slot_bits p) (live_nodes (derivations_of v.derivations))
+
+-- the texts of a report: addresses alone, or names
+abbrev pub report_texts : Bool → ProfileName → Names → Plan → Shown → Texts
+report_texts false p names plan v = plain
+report_texts true p names plan v = texts_of true p names plan v
 
 -- ---- what the code has of them
 

@@ -3,9 +3,9 @@ use Rattle.std.proofs.Common.{◌≡◌, Bool, ap, sym, ◌∙◌}
 use Rattle.std.specs.List.{filter_map}
 use Rattle.slot_core.specs.declared.derivations.Derivation.{Derivation}
 use Rattle.setup_values.specs.Names.{names_view}
-use Rattle.setup_naming.specs.Naming.{node_of, texts_of}
-use Rattle.setup_naming.proofs.ByNames.{known_texts}
-use Rattle.setup_naming.proofs.naming.Naming.of.Goals as goal
+use Rattle.setup_report.specs.Naming.{node_of, texts_of}
+use Rattle.setup_report.proofs.ByNames.{known_texts}
+use Rattle.setup_report.proofs.naming.Naming.of.Goals as goal
 
 pub returns-then-not-by_name : goal.returns-then-not-by_name
 returns-then-not-by_name g c =

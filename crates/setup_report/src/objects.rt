@@ -8,7 +8,7 @@ ghost use Rattle.kernel_abstract.specs.State.{shown};
 ghost use Rattle.kernel_forest.specs.Entries.{derivations_of};
 ghost use Rattle.slot_core.specs.Calls.{derivation_view};
 ghost use Rattle.setup_values.specs.Names.{names_view};
-ghost use Rattle.setup_naming.specs.Naming as spec;
+ghost use Rattle.setup_report.specs.Naming as spec;
 
 use crate::known::ObjectNames;
 use cap_core::{Cap, Profile};
@@ -94,7 +94,7 @@ fn address_name(names: &[Name], slots: u64, base: u64) -> Option<&str>
     }
 }
 
-#[tactic(auto, using(setup_report::proofs::Addresses::Slots::word_below))]
+#[tactic(auto, using(crate::proofs::Addresses::Slots::word_below))]
 fn is_below_power(word: u64, bits: u32) -> bool
     ensures { result ≡ nat_lt word (2 ^ bits) }
 {

@@ -17,9 +17,9 @@ use Rattle.setup_values.specs.Names.{Names, names_view}
 use Rattle.setup_values.specs.Told.{name_of}
 use Rattle.setup_values.proofs.LookUp.{find_map}
 use Rattle.setup_report.specs.State.{Derived, slot_of}
-use Rattle.setup_naming.specs.declared.objects.Object.{Object}
-use Rattle.setup_naming.specs.declared.known.ObjectNames.{ObjectNames}
-use Rattle.setup_naming.specs.Naming.{address_name, boot_name, by_object_names, live_nodes, name_by, names_object, node_of, object_base, row_name, slots_at_boot, texts_of}
+use Rattle.setup_report.specs.declared.objects.Object.{Object}
+use Rattle.setup_report.specs.declared.known.ObjectNames.{ObjectNames}
+use Rattle.setup_report.specs.Naming.{address_name, boot_name, by_object_names, live_nodes, name_by, names_object, node_of, object_base, row_name, slots_at_boot, texts_of}
 
 boot_view : List Derivation → List (ℕ × Cap)
 boot_view rows = map (λ (d : Derivation). (d.slot.place, d.cap)) rows

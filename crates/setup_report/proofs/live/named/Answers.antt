@@ -8,7 +8,7 @@ use Rattle.slot_core.specs.Calls.{derivation_view}
 use Rattle.setup_report.specs.State.{named_by, rising}
 use Rattle.setup_report.proofs.Addresses.Named.{filter_map_viewed, where_ok}
 use Rattle.setup_report.proofs.Addresses.Rising.{rising_made}
-use Rattle.setup_report.proofs.naming.named.Goals as goal
+use Rattle.setup_report.proofs.live.named.Goals as goal
 
 pub returns : goal.returns
 returns g c =
