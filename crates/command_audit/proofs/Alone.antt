@@ -27,13 +27,13 @@ use Rattle.kernel_abstract.specs.Shown.{Shown}
 use Rattle.kernel_abstract.specs.State.{State, shown}
 use Rattle.query_revoke.specs.declared.revoked.Revoked.{Revoked}
 use Rattle.query_revoke.specs.Below.{is_below, IsNamedBelow, IsRevokedAlone}
-use Rattle.setup_naming.specs.Naming.{Texts}
+use Rattle.setup_report.specs.Naming.{Texts}
 use Rattle.setup_report.specs.State.{Derived, is_in, rising, slot_of, found, by_address}
 use Rattle.setup_report.specs.Report.{terminated}
 use Rattle.setup_report.proofs.Addresses.Rising.{any_rising, all_rising, rising_same}
 use Rattle.setup_report.proofs.Addresses.Slots.{slots_are}
 use Rattle.command_audit.specs.declared.ends.Asked.{Asked}
-use Rattle.setup_naming.specs.Held.{held_slot_text}
+use Rattle.setup_report.specs.Text.{held_slot_text}
 use Rattle.command_audit.specs.Ends.{is_object_named, ended_capabilities, asked_object, all_asked, regions_at, ended_thread_line, ended_endpoint_line, ended_node_line, region_line, ends_lines}
 use Rattle.command_audit.specs.Revokes.{shown_after_revoke, is_cleared, cleared_count, revoke_lines, lines_of_revoke}
 use Rattle.query_revoke.proofs.Found.{entries_told}

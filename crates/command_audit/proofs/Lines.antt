@@ -6,7 +6,7 @@ use Rattle.query_reach.specs.declared.senders.Channel.{Channel}
 use Rattle.query_reach.specs.ByEndpoint.{leads_to}
 use Rattle.query_reach.specs.Channels.{channels, receivers_without_sender}
 use Rattle.query_reach.proofs.ByEndpoint.{unserved_of}
-use Rattle.setup_naming.specs.Naming.{Texts}
+use Rattle.setup_report.specs.Naming.{Texts}
 use Rattle.command_audit.specs.Channels.{channel_line, receiver_line, unserved_lines, channel_lines}
 
 -- the lines of one endpoint, by its words

@@ -1,5 +1,5 @@
 -- The audit of a set-up: of the state behind so many of its calls, or of a revoke of one slot in that state.
-use Rattle.std.specs.Prelude.{◌≡◌, ℕ, cond, List, [], ◌++◌, Option, Some, None}
+use Rattle.std.specs.Prelude.{◌≡◌, ℕ, cond, List, ◌++◌, Option, Some, None}
 use Rattle.std.specs.List.{flat_map}
 use Rattle.cap_core.specs.declared.profile.ProfileName.{ProfileName}
 use Rattle.cap_core.specs.Objects.{is_null}
@@ -10,7 +10,7 @@ use Rattle.setup_format.specs.Views.{SetupView}
 use Rattle.setup_report.specs.State.{endpoints, slot_rows}
 use Rattle.command_trace_lines.specs.Changes.{changes, lines_of_state}
 use Rattle.command_audit.specs.declared.threads.ThreadSlots.{ThreadSlots}
-use Rattle.setup_naming.specs.Naming.{Texts, by_addresses}
+use Rattle.setup_report.specs.Naming.{Texts}
 use Rattle.command_audit.specs.Text.{audit_head_line}
 use Rattle.command_audit.specs.Threads.{AreAllSlots, opening, slots_lines}
 use Rattle.command_audit.specs.Channels.{endpoint_words_of, channel_lines}
@@ -21,7 +21,7 @@ use Rattle.command_audit.specs.Revokes.{shown_after_revoke, revoke_lines, revoke
 
 abbrev pub whole_text : ProfileName → Names → Texts → List ℕ → SetupView → ℕ → State → List ThreadSlots → List ℕ
 whole_text p names texts trusted setup made A list =
-    audit_head_line setup made None
+    audit_head_line texts setup made None
     ++ (opening names texts trusted
     ++ (flat_map (slots_lines texts (shown A)) list
     ++ (channel_lines texts (flat_map (endpoint_words_of A.derivations) list) (endpoints p (shown A))
@@ -36,25 +36,15 @@ pub record IsWholeAudit (p : ProfileName) (names : Names) (texts : Texts) (trust
 -- ---- one slot: what a revoke of it would do, and all that it would change
 
 -- the lines of a state that a revoke of a slot changes
-abbrev pub slot_changes : ProfileName → State → ℕ → List ℕ
-slot_changes p A slot = changes (lines_of_state p (shown A)) (lines_of_state p (shown_after_revoke p A slot))
+abbrev pub slot_changes : Texts → ProfileName → State → ℕ → List ℕ
+slot_changes texts p A slot = changes (lines_of_state texts p (shown A)) (lines_of_state texts p (shown_after_revoke p A slot))
 
-abbrev pub slot_audit : ProfileName → Names → SetupView → ℕ → ℕ → State → List ℕ
-slot_audit p names setup made slot A =
-    audit_head_line setup made (Some slot)
-    ++ (revoke_lines (by_addresses names) (shown A) (shown_after_revoke p A slot) slot ++ slot_changes p A slot)
+abbrev pub slot_audit : ProfileName → Texts → SetupView → ℕ → ℕ → State → List ℕ
+slot_audit p texts setup made slot A =
+    audit_head_line texts setup made (Some slot)
+    ++ (revoke_lines texts (shown A) (shown_after_revoke p A slot) slot ++ slot_changes texts p A slot)
 
--- ---- of a set-up
-
--- of one slot, where it is full
-abbrev pub slot_answer : ProfileName → Names → SetupView → ℕ → ℕ → State → Option (List ℕ)
-slot_answer p names setup made slot A =
-    cond (is_null (cap_at A.derivations slot)) None (Some (slot_audit p names setup made slot A))
-
--- of the whole state: always a text
-abbrev pub IsWholeAnswer : ProfileName → Names → SetupView → ℕ → State → Option (List ℕ) → Type 0
-IsWholeAnswer p names setup made A answer = (text : List ℕ) × ((answer ≡ Some text) × IsWholeAudit p names (by_addresses names) [] setup made A text)
-
-abbrev pub IsAuditOf : ProfileName → Names → SetupView → ℕ → Option ℕ → State → Option (List ℕ) → Type 0
-IsAuditOf p names setup made None A answer = IsWholeAnswer p names setup made A answer
-IsAuditOf p names setup made (Some slot) A answer = answer ≡ slot_answer p names setup made slot A
+-- nothing, where no full slot is there
+abbrev pub slot_answer : ProfileName → Texts → SetupView → ℕ → ℕ → State → Option (List ℕ)
+slot_answer p texts setup made slot A =
+    cond (is_null (cap_at A.derivations slot)) None (Some (slot_audit p texts setup made slot A))

@@ -7,25 +7,25 @@ use Rattle.setup_format.specs.Views.{ReadView, SetupView}
 use Rattle.setup_objects.specs.declared.meant.ObjectKind.TheVariants.{Thread}
 use Rattle.setup_objects.specs.Meant.{are_meant, objects_meant}
 use Rattle.setup_objects.specs.Slots.{slot_meant}
-use Rattle.command_audit.specs.Audit.{IsAuditOf, IsWholeAudit}
-use Rattle.setup_naming.specs.Naming.{texts_of}
+use Rattle.command_audit.specs.Audit.{IsWholeAudit, slot_answer}
+use Rattle.setup_report.specs.Naming.{texts_of}
 use Rattle.command_check.specs.Commands.{text_or_absent, IsStateAnswer}
 use Rattle.command_core.specs.declared.fault.Verdict.{Verdict}
 use Rattle.command_core.specs.declared.fault.Verdict.TheVariants.{AllMet, Absent}
 
--- the text of an audit; nothing, where no full slot is asked for
-abbrev pub IsAudited : Option ℕ → ProfileName → Names → SetupView → ℕ → State → List ℕ → Verdict → Type 0
-IsAudited slot p names setup made A text verdict =
-    (answer : Option (List ℕ)) × (IsAuditOf p names setup made slot A answer × ((text, verdict) ≡ text_or_absent answer))
+-- the audit of a slot, by addresses or by names; nothing, where the slot is empty
+abbrev pub IsAudited : Bool → ℕ → ProfileName → Names → SetupView → ℕ → State → List ℕ → Verdict → Type 0
+IsAudited by_name slot p names setup made A text verdict =
+    (text, verdict) ≡ text_or_absent (slot_answer p (texts_of by_name p names setup.plan (shown A)) setup made slot A)
 
-abbrev pub IsAuditedAt : Option ℕ → Option ℕ → ProfileName → ReadView → List ℕ → Verdict → Type 0
-IsAuditedAt None after p read text verdict = (text ≡ []) × (verdict ≡ Absent)
-IsAuditedAt (Some slot) after p read text verdict = IsStateAnswer (IsAudited (Some slot)) after p read text verdict
+abbrev pub IsAuditedAt : Bool → Option ℕ → Option ℕ → ProfileName → ReadView → List ℕ → Verdict → Type 0
+IsAuditedAt by_name None after p read text verdict = (text ≡ []) × (verdict ≡ Absent)
+IsAuditedAt by_name (Some slot) after p read text verdict = IsStateAnswer (IsAudited by_name slot) after p read text verdict
 
 -- the audit of the slot that a word stands for; nothing, where it stands for none
-abbrev pub IsSlotAudited : List ℕ → Option ℕ → ProfileName → ReadView → List ℕ → Verdict → Type 0
-IsSlotAudited word after p read text verdict =
-    IsAuditedAt (slot_meant p read.names read.setup.plan word) after p read text verdict
+abbrev pub IsSlotAudited : List ℕ → Bool → Option ℕ → ProfileName → ReadView → List ℕ → Verdict → Type 0
+IsSlotAudited word by_name after p read text verdict =
+    IsAuditedAt by_name (slot_meant p read.names read.setup.plan word) after p read text verdict
 
 -- ---- of a whole state, without the threads that are trusted to make no more calls
 

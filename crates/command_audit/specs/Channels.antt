@@ -10,8 +10,8 @@ use Rattle.query_reach.specs.Endpoints.{endpoint_words}
 use Rattle.query_reach.specs.Channels.{channels, receivers_without_sender}
 use Rattle.setup_report.specs.Report.{terminated}
 use Rattle.command_audit.specs.declared.threads.ThreadSlots.{ThreadSlots}
-use Rattle.setup_naming.specs.declared.objects.Object.{Object}
-use Rattle.setup_naming.specs.Naming.{Texts}
+use Rattle.setup_report.specs.declared.objects.Object.{Object}
+use Rattle.setup_report.specs.Naming.{Texts}
 use Rattle.command_audit.specs.Text.{sender_text}
 
 -- the words of a thread that lead to endpoints' capabilities

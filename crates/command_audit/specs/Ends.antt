@@ -7,9 +7,9 @@ use Rattle.cap_core.specs.declared.capability.Cap.TheVariants.{Untyped, Endpoint
 use Rattle.kernel_forest.specs.Derivation.{names_same}
 use Rattle.setup_report.specs.State.{Derived, rising}
 use Rattle.setup_report.specs.Report.{terminated}
-use Rattle.setup_naming.specs.Naming.{Texts}
+use Rattle.setup_report.specs.Naming.{Texts}
 use Rattle.command_audit.specs.declared.ends.Asked.{Asked}
-use Rattle.setup_naming.specs.declared.objects.Object.{Object}
+use Rattle.setup_report.specs.declared.objects.Object.{Object}
 
 -- some full slot names the object, or the untyped region, of a capability
 abbrev pub is_object_named : Cap → List Derived → Bool

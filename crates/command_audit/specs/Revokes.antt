@@ -12,8 +12,8 @@ use Rattle.kernel_abstract.specs.State.{State, shown}
 use Rattle.kernel_abstract.specs.Step.{objects_ended}
 use Rattle.setup_report.specs.State.{Derived, slot_of, slot_rows}
 use Rattle.setup_report.specs.Report.{terminated}
-use Rattle.setup_naming.specs.Naming.{Texts}
-use Rattle.setup_naming.specs.Held.{held_slot_text}
+use Rattle.setup_report.specs.Naming.{Texts}
+use Rattle.setup_report.specs.Text.{held_slot_text}
 use Rattle.command_audit.specs.declared.threads.ThreadSlots.{ThreadSlots}
 use Rattle.command_audit.specs.Ends.{ended_capabilities, ends_lines}
 use Rattle.command_audit.specs.Threads.{can_name}

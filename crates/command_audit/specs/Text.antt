@@ -6,20 +6,20 @@ use Rattle.setup_values.specs.Told.{profile_text}
 use Rattle.setup_format.specs.Views.{SetupView}
 use Rattle.setup_report.specs.Text.{rights_text}
 use Rattle.setup_report.specs.Report.{terminated}
-use Rattle.setup_naming.specs.declared.objects.Object.{Object}
-use Rattle.setup_naming.specs.Naming.{Texts}
+use Rattle.setup_report.specs.declared.objects.Object.{Object}
+use Rattle.setup_report.specs.Naming.{Texts}
 
 -- ---- the first line: the version of the audit's form, how large the set-up is, how many of its calls are made, and the slot
 -- that is asked for, where one is
 
-abbrev pub slot_asked_text : Option ℕ → List ℕ
-slot_asked_text None = []
-slot_asked_text (Some slot) = codes " slot " ++ decimal slot
+abbrev pub slot_asked_text : Texts → Option ℕ → List ℕ
+slot_asked_text texts None = []
+slot_asked_text texts (Some slot) = codes " slot " ++ texts.slot slot
 
-abbrev pub audit_head_line : SetupView → ℕ → Option ℕ → List ℕ
-audit_head_line setup made slot =
+abbrev pub audit_head_line : Texts → SetupView → ℕ → Option ℕ → List ℕ
+audit_head_line texts setup made slot =
     terminated (codes "audit 1 " ++ (profile_text setup.profile ++ (codes " memory_bits " ++ (decimal setup.plan.memory_bits
-    ++ (codes " calls " ++ (decimal (length setup.calls) ++ (codes " after " ++ (decimal made ++ slot_asked_text slot))))))))
+    ++ (codes " calls " ++ (decimal (length setup.calls) ++ (codes " after " ++ (decimal made ++ slot_asked_text texts slot))))))))
 
 -- ---- the sending end of a channel
 

@@ -19,9 +19,9 @@ use Rattle.setup_report.specs.Report.{terminated}
 use Rattle.command_trace_lines.specs.Lines.{offer_text}
 use Rattle.command_trace_lines.specs.Names.{name_lines}
 use Rattle.command_audit.specs.declared.threads.ThreadSlots.{ThreadSlots}
-use Rattle.setup_naming.specs.declared.objects.Object.{Object}
-use Rattle.setup_naming.specs.Naming.{Texts}
-use Rattle.setup_naming.specs.Held.{held_slot_text, doing_told}
+use Rattle.setup_report.specs.declared.objects.Object.{Object}
+use Rattle.setup_report.specs.Naming.{Texts}
+use Rattle.setup_report.specs.Text.{held_slot_text, state_text}
 
 -- the full slots that a thread can name, by a word, and by an index and a depth alone
 pub record AreSlotsOf (p : ProfileName) (f : Forest Entry) (t : ThreadSlots) : Type 0 where
@@ -53,7 +53,7 @@ opening names texts trusted = naming_lines texts.by_name names ++ flat_map (trus
 -- ---- the lines: what a thread does, and what it sends where it waits to send; then each slot that it can name
 
 abbrev pub named_thread_text : Texts → ℕ → ThreadState → Option Offer → List ℕ
-named_thread_text texts address state offer = codes "thread " ++ (texts.about address ++ (codes " " ++ (doing_told texts state ++ offer_text offer)))
+named_thread_text texts address state offer = codes "thread " ++ (texts.about address ++ (codes " " ++ (state_text texts state ++ offer_text offer)))
 
 abbrev pub named_thread_line : Texts → ℕ → Option ThreadState → Option Offer → List ℕ
 named_thread_line texts address None offer = []

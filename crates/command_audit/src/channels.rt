@@ -4,7 +4,7 @@ ghost use Rattle.kernel_forest.specs.Forest.{Forest};
 ghost use Rattle.kernel_forest.specs.Entries.{Entry};
 ghost use Rattle.query_reach.specs.FullSlots.{AreFullSlots, AreRising};
 ghost use Rattle.query_reach.specs.ByEndpoint.{AreByEndpoint};
-ghost use Rattle.setup_naming.specs.Naming.{naming_view};
+ghost use Rattle.setup_report.specs.Naming.{naming_view};
 ghost use Rattle.command_audit.specs.Channels as spec;
 
 use crate::text::SenderText;
@@ -13,7 +13,7 @@ use query_reach::{
     Channel, EndpointWord, FullSlot, by_endpoint, channels, endpoint_words,
     receivers_without_sender, words_at,
 };
-use setup_naming::{Naming, Object};
+use setup_report::{Naming, Object};
 use std::alloc::{AllocError, Global};
 use std::collections::BTreeSet;
 use std::fmt::Write;

@@ -4,14 +4,14 @@ ghost use Rattle.kernel_forest.specs.Derivation.{names_same as name_one};
 ghost use Rattle.kernel_forest.specs.Entries.{derivations_of};
 ghost use Rattle.slot_core.specs.Calls.{derivation_view};
 ghost use Rattle.setup_report.specs.State.{rising};
-ghost use Rattle.setup_naming.specs.Naming.{naming_view};
+ghost use Rattle.setup_report.specs.Naming.{naming_view};
 ghost use Rattle.command_audit.specs.Ends as spec;
 
 use cap_core::{Cap, Profile, same_object};
 use ipc_core::Waiters;
 use kernel_core::Kernel;
 use query_revoke::NamedObjects;
-use setup_naming::{Naming, Object};
+use setup_report::{Naming, Object};
 use slot_core::{CapStore, Derivation};
 use std::alloc::{AllocError, Global};
 use std::collections::BTreeSet;

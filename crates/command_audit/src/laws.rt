@@ -5,12 +5,13 @@ ghost use Rattle.kernel_abstract.specs.declared.call.Call.{Call};
 ghost use Rattle.kernel_abstract.specs.declared.invocation.Invocation.TheVariants.{Revoke};
 ghost use Rattle.kernel_abstract.specs.Decode.{decoded_call};
 ghost use Rattle.kernel_abstract.specs.State.{State, shown};
+ghost use Rattle.setup_report.specs.Naming.{Texts};
 ghost use Rattle.command_trace_lines.specs.Calls.{call_changes};
 ghost use Rattle.command_audit.specs.Audit.{slot_changes};
 
 /// Where a thread's call passes its checks and is a revoke that names a slot, a trace tells of it the changes that an audit
 /// tells of a revoke of the slot.
 pub fn a_revoke_does_this()
-    ensures { (p : ProfileName) (A : State) (call : Call) (slot : ℕ) → decoded_call p (shown A) call ≡ Ok (Revoke slot)
-        → call_changes p A call ≡ slot_changes p A slot }
+    ensures { (texts : Texts) (p : ProfileName) (A : State) (call : Call) (slot : ℕ) → decoded_call p (shown A) call ≡ Ok (Revoke slot)
+        → call_changes texts p A call ≡ slot_changes texts p A slot }
 {}

@@ -1,9 +1,7 @@
 //! The audit of a set-up: what each thread can name, who can send to whom, and what each revoke would do.
 #![tactic(auto)]
 
-mod audits;
 mod channels;
-mod command;
 mod ends;
 mod head;
 mod laws;
@@ -14,7 +12,6 @@ mod state;
 mod text;
 mod threads;
 
-pub use command::Audit;
 pub use ends::Asked;
 pub use laws::a_revoke_does_this;
 pub use others::StateAudit;

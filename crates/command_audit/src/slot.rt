@@ -1,28 +1,128 @@
-//! The audit of one slot that a word stands for, as the answer of a command.
+//! The audit of one slot that a word stands for, by addresses or by names, as the answer of a command.
+ghost use Rattle.std.specs.Prelude.{◌≡◌, IfOk, option_map};
+ghost use Rattle.kernel_abstract.specs.Plan.{IsPlan};
+ghost use Rattle.kernel_abstract.specs.Reached.{IsReached};
+ghost use Rattle.kernel_abstract.specs.State.{State, shown};
+ghost use Rattle.setup_values.specs.Names.{names_view};
+ghost use Rattle.setup_format.specs.Read.{read_view};
+ghost use Rattle.setup_report.specs.Naming.{texts_of};
+ghost use Rattle.command_check.specs.Commands.{IsStateAnswer, text_or_absent as answered_of};
+ghost use Rattle.command_audit.specs.Audit as spec;
+ghost use Rattle.command_audit.specs.Audits.{IsAudited};
 
-use crate::command::Audit;
+use crate::revokes::is_cleared;
+use crate::state::audit_of_slot;
 use cap_core::Profile;
-use command_check::{Command, OnState};
-use command_core::Answer;
+use command_check::Command;
+use command_core::{Answer, Verdict};
 use ipc_core::MakeWaiters;
-use setup_format::ReadSetup;
+use kernel_core::Kernel;
+use setup_format::{ReadSetup, Setup};
 use setup_objects::{absent_slot, slot_meant};
+use setup_report::{Naming, calls_made, kernel_after};
+use setup_values::Name;
 use slot_core::{DerivationStore, MakeStore};
 use std::alloc::{AllocError, Global};
 
+/// The audit of a slot, by addresses or by the names of objects, where it is full.
+fn slot_answer<P: Profile, S: MakeStore<P> + DerivationStore<P>, W: MakeWaiters<P>>(
+    alloc: Global,
+    by_name: bool,
+    names: &[Name],
+    setup: &Setup,
+    made: usize,
+    slot: u64,
+    kernel: &Kernel<P, S, W>,
+) -> Result<Option<Vec<u8>>, AllocError>
+    requires { IsPlan P.profile setup.now.plan }
+    ensures { IfOk result (λ text. (A : State) → IsReached P.profile A → kernel.now ≡ shown A
+        → option_map (λ v. v.items) text
+        ≡ spec.slot_answer P.profile (texts_of by_name P.profile (names_view names.now) setup.now.plan (shown A)) setup.now made slot A) }
+{
+    if is_cleared::<P, S, W>(slot, kernel) {
+        return Ok(None);
+    }
+    let naming = Naming::of::<P, S, W>(alloc, by_name, names, setup.plan(), kernel)?;
+    let text = audit_of_slot::<P, S, W>(alloc, &naming, setup, made, slot, kernel)?;
+    Ok(Some(text))
+}
+
+/// The answer where there is a text; where there is none, no full slot is at the address that is asked for.
+fn answered(
+    alloc: Global,
+    text: Option<Vec<u8>>,
+    slot: u64,
+    made: usize,
+) -> Result<Answer, AllocError>
+    ensures { IfOk result (λ answer. (answer.text.items, answer.verdict) ≡ answered_of (option_map (λ v. v.items) text)) }
+{
+    match text {
+        Some(text) => Ok(Answer::new(alloc, text, Verdict::AllMet)),
+        None => {
+            let absent = format!(in alloc;
+                "--slot {slot}: no full slot is there after {made} calls"
+            )?;
+            Ok(Answer::absent(alloc, absent))
+        }
+    }
+}
+
 /// The audit of a revoke of the slot that a word stands for: an address in decimal digits, or a name of the set-up. It is made
-/// after the first `after` calls, or after all. The verdict is `AllMet`, or `Absent` with nothing written where the word stands
-/// for no slot, or for none that is full.
+/// after the first `after` calls, or after all. If `names` is set, slots and objects that have a name are told by it. The verdict
+/// is `AllMet`, or `Absent` with nothing written where the word stands for no slot, or for none that is full, and where the
+/// set-up has fewer calls.
 #[derive(Clone, Copy, Drop)]
 pub struct SlotAudit<'a> {
     pub slot: &'a str,
+    pub names: bool,
     pub after: Option<u64>,
+}
+
+impl SlotAudit<'_> {
+    /// The answer of a slot, by a kernel.
+    fn answer_of<P: Profile, S: MakeStore<P> + DerivationStore<P>, W: MakeWaiters<P>>(
+        &self,
+        alloc: Global,
+        names: &[Name],
+        setup: &Setup,
+        made: usize,
+        slot: u64,
+        kernel: &Kernel<P, S, W>,
+    ) -> Result<Answer, AllocError>
+        requires { IsPlan P.profile setup.now.plan }
+        ensures { IfOk result (λ answer. (A : State) → IsReached P.profile A → kernel.now ≡ shown A
+            → IsAudited self.now.names slot P.profile (names_view names.now) setup.now made A answer.text.items answer.verdict) }
+    {
+        let text = slot_answer::<P, S, W>(alloc, self.names, names, setup, made, slot, kernel)?;
+        let answer = answered(alloc, text, slot, made)?;
+        Ok(answer)
+    }
+
+    /// The answer of a slot, by the set-up.
+    fn answer_at<P: Profile, S: MakeStore<P> + DerivationStore<P>, W: MakeWaiters<P>>(
+        &self,
+        alloc: Global,
+        slot: u64,
+        read: ReadSetup,
+    ) -> Result<Answer, AllocError>
+        requires { IsPlan P.profile read.setup.plan }
+        ensures { IfOk result (λ answer. IsStateAnswer (IsAudited self.now.names slot) self.now.after P.profile (read_view read) answer.text.items answer.verdict) }
+    {
+        let (names, setup) = (read.names.as_slice(), &read.setup);
+        let Some(made) = calls_made(setup, self.after) else {
+            let (asked, calls) = (self.after.unwrap_or(0), setup.calls().len());
+            let absent = format!(in alloc; "--after {asked}: the set-up has {calls} calls")?;
+            return Ok(Answer::absent(alloc, absent));
+        };
+        let kernel = kernel_after::<P, S, W>(alloc, setup, made)?;
+        self.answer_of::<P, S, W>(alloc, names, setup, made, slot, &kernel)
+    }
 }
 
 impl Command for SlotAudit<'_> {
     ghost use Rattle.command_audit.specs.Audits.{IsSlotAudited};
 
-    ghost answers = { λ audit. IsSlotAudited audit.slot.now audit.after };
+    ghost answers = { λ audit. IsSlotAudited audit.slot.now audit.names audit.after };
 
     fn answer<P: Profile, S: MakeStore<P> + DerivationStore<P>, W: MakeWaiters<P>>(
         &self,
@@ -32,14 +132,7 @@ impl Command for SlotAudit<'_> {
         let (names, word) = (read.names.as_slice(), self.slot.as_bytes());
         match slot_meant::<P>(names, &read.setup, word) {
             None => Ok(Answer::absent(alloc, absent_slot(alloc, names, "--slot", self.slot)?)),
-            Some(slot) => {
-                let audit = Audit { slot: Some(slot) };
-                OnState {
-                    command: audit,
-                    after: self.after,
-                }
-                .answer::<P, S, W>(alloc, read)
-            }
+            Some(slot) => self.answer_at::<P, S, W>(alloc, slot, read),
         }
     }
 }

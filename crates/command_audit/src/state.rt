@@ -5,7 +5,7 @@ ghost use Rattle.kernel_abstract.specs.Memory.{IsInMemory};
 ghost use Rattle.kernel_abstract.specs.Reached.{IsReached};
 ghost use Rattle.kernel_abstract.specs.State.{State, shown};
 ghost use Rattle.setup_values.specs.Names.{names_view};
-ghost use Rattle.setup_naming.specs.Naming.{naming_view};
+ghost use Rattle.setup_report.specs.Naming.{naming_view};
 ghost use Rattle.command_audit.specs.Audit as spec;
 
 use crate::channels::{add_channels, channel_words};
@@ -18,8 +18,7 @@ use ipc_core::MakeWaiters;
 use kernel_core::Kernel;
 use query_reach::kernel_slots;
 use setup_format::Setup;
-use setup_naming::Naming;
-use setup_report::state_rows;
+use setup_report::{Naming, state_rows};
 use setup_values::Name;
 use slot_core::{DerivationStore, MakeStore};
 use std::alloc::{AllocError, Global};
@@ -66,7 +65,7 @@ pub fn whole_audit<P: Profile, S: MakeStore<P> + DerivationStore<P>, W: MakeWait
     let words = channel_words(alloc, filled.as_slice(), list.as_slice())?;
     let told = told_rows::<P>(alloc, trusted, list.as_slice(), rows.slots.as_slice())?;
     let mut out = String::new(alloc);
-    add_head(&mut out, setup, made, None)?;
+    add_head(&mut out, naming, setup, made, None)?;
     add_opening(&mut out, names, naming, trusted)?;
     add_threads::<P, S, W>(&mut out, naming, list.as_slice(), kernel)?;
     add_channels(alloc, &mut out, naming, words.as_slice(), &rows.endpoints)?;
@@ -89,7 +88,7 @@ pub fn whole_audit<P: Profile, S: MakeStore<P> + DerivationStore<P>, W: MakeWait
 /// Memory was refused.
 pub fn audit_of_slot<P: Profile, S: MakeStore<P> + DerivationStore<P>, W: MakeWaiters<P>>(
     alloc: Global,
-    names: &[Name],
+    naming: &Naming<'_>,
     setup: &Setup,
     made: usize,
     slot: u64,
@@ -97,21 +96,21 @@ pub fn audit_of_slot<P: Profile, S: MakeStore<P> + DerivationStore<P>, W: MakeWa
 ) -> Result<Vec<u8>, AllocError>
     requires { is_full slot kernel.now.derivations ≡ true }
     ensures { IfOk result (λ text. (A : State) → IsReached P.profile A → kernel.now ≡ shown A
-        → text.items ≡ spec.slot_audit P.profile (names_view names.now) setup.now made slot A) }
+        → text.items ≡ spec.slot_audit P.profile (naming_view naming.now) setup.now made slot A) }
 {
     let rows = state_rows::<P, S, W>(alloc, kernel)?;
     let new = revoked::<P, S, W>(alloc, kernel, slot)?;
     let mut out = String::new(alloc);
-    add_head(&mut out, setup, made, Some(slot))?;
+    add_head(&mut out, naming, setup, made, Some(slot))?;
     add_revoke::<P, S, W>(
         alloc,
         &mut out,
-        &Naming::Addresses(names),
+        naming,
         rows.slots.as_slice(),
         slot,
         kernel,
         &new,
     )?;
-    add_changes_between::<P, S, W>(alloc, &mut out, kernel, &new)?;
+    add_changes_between::<P, S, W>(alloc, &mut out, naming, kernel, &new)?;
     Ok(out.into_bytes())
 }

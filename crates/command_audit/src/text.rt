@@ -1,24 +1,29 @@
 //! The text of the lines of an audit.
 ghost use Rattle.std.specs.Prelude.{Some};
-ghost use Rattle.setup_naming.specs.Naming.{naming_view};
+ghost use Rattle.setup_report.specs.Naming.{naming_view};
 ghost use Rattle.command_audit.specs.Text as spec;
 
 use query_reach::EndpointWord;
-use setup_naming::{Naming, Object};
-use setup_report::RightsText;
+use setup_report::{Naming, Object, RightsText};
 use std::fmt;
 
 /// The slot that is asked for, where one is.
 #[derive(Clone, Copy)]
-pub struct SlotAsked(pub Option<u64>);
+pub struct SlotAsked<'a> {
+    pub naming: &'a Naming<'a>,
+    pub slot: Option<u64>,
+}
 
-impl fmt::Display for SlotAsked {
-    ghost output = { λ s. Some (spec.slot_asked_text s.0) };
+impl fmt::Display for SlotAsked<'_> {
+    ghost output = { λ s. Some (spec.slot_asked_text (naming_view s.naming.now) s.slot) };
 
     fn fmt<W: fmt::Write>(&self, f: &mut fmt::Formatter<W>) -> fmt::Result {
-        match self.0 {
+        match self.slot {
             None => Ok(()),
-            Some(slot) => write!(f, " slot {slot}"),
+            Some(slot) => {
+                let slot = self.naming.slot(slot);
+                write!(f, " slot {slot}")
+            }
         }
     }
 }

@@ -6,7 +6,7 @@ ghost use Rattle.kernel_forest.specs.Forest.{Forest};
 ghost use Rattle.kernel_forest.specs.Entries.{Entry};
 ghost use Rattle.query_reach.specs.FullSlots.{AreFullSlots, AreLawful, AreRising};
 ghost use Rattle.setup_values.specs.Names.{names_view};
-ghost use Rattle.setup_naming.specs.Naming.{naming_view};
+ghost use Rattle.setup_report.specs.Naming.{naming_view};
 ghost use Rattle.command_audit.specs.Threads as spec;
 
 use cap_core::Profile;
@@ -14,7 +14,7 @@ use command_trace_lines::{OfferText, add_names};
 use ipc_core::Waiters;
 use kernel_core::Kernel;
 use query_reach::{FullSlot, Held, Reached, held_slots, reached_slots};
-use setup_naming::{DoingText, HeldSlot, Naming, Object};
+use setup_report::{HeldSlot, Naming, Object, StateText};
 use setup_values::Name;
 use slot_core::CapStore;
 use std::alloc::{AllocError, Global};
@@ -104,7 +104,7 @@ fn add_thread<P: Profile, S: CapStore<P> + Drop, W: Waiters<P> + Drop>(
         return Ok(());
     };
     let thread = naming.about(address);
-    let state = DoingText {
+    let state = StateText {
         naming: &*naming,
         state,
     };

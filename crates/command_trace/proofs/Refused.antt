@@ -11,6 +11,7 @@ use Rattle.kernel_abstract.specs.Decode.{reason_of}
 use Rattle.kernel_abstract.specs.Step.{refusal_in}
 use Rattle.kernel_abstract.specs.Reasons.{refusal_of}
 use Rattle.kernel_checks.proofs.Calls.{reason_is}
+use Rattle.setup_report.specs.Naming.{Texts}
 use Rattle.command_why_words.specs.Reasons.{reason_lines}
 use Rattle.command_why.specs.Tables.{call_table}
 use Rattle.command_why.specs.Why.{is_refused}
@@ -28,9 +29,9 @@ some_refused Dropped = refl
 some_refused Empty = refl
 some_refused (Refused refusal) = refl
 
-pub stands_where_refused : (p : ProfileName) (table : Members) (i : ℕ) (A : State) (call : Call) → is_some (why_at p table i A call) ≡ is_refused (step p A call).reply
-stands_where_refused p table i A call =
-    some_map (reason_lines p (shown A) (record { call = call; table = call_table table i })) (reason_of p (shown A) call)
+pub stands_where_refused : (texts : Texts) (p : ProfileName) (table : Members) (i : ℕ) (A : State) (call : Call) → is_some (why_at texts p table i A call) ≡ is_refused (step p A call).reply
+stands_where_refused texts p table i A call =
+    some_map (reason_lines texts p (shown A) (record { call = call; table = call_table table i })) (reason_of p (shown A) call)
     ∙ sym (some_map refusal_of (reason_of p (shown A) call))
     ∙ ap is_some (reason_is p A call)
     ∙ some_refused (step p A call).reply

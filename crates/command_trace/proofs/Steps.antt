@@ -5,6 +5,7 @@ use Rattle.cap_core.specs.declared.profile.ProfileName.{ProfileName}
 use Rattle.kernel_abstract.specs.State.{State, shown}
 use Rattle.kernel_abstract.specs.Step.{step}
 use Rattle.setup_format.specs.Views.{CallView}
+use Rattle.setup_report.specs.Naming.{Texts}
 use Rattle.command_trace_lines.specs.Told.{told_lines}
 use Rattle.command_trace_lines.proofs.Differences.{from_next}
 use Rattle.command_trace.specs.Trace.{traced_call_lines, traced_calls_lines, why_at}
@@ -18,19 +19,19 @@ four_parts out first second third last a b c d e f h k =
 
 -- ---- the calls one by one
 
-pub call_next : (p : ProfileName) (table : Members) (calls : List CallView) (i : ℕ) (call : CallView) (A : State) → slice_get calls i ≡ Some call →
-    traced_calls_lines p table i A (drop i calls)
-    ≡ traced_call_lines (i + 1) call (step p A call.call).reply (why_at p table i A call.call) (told_lines p (shown A)) (told_lines p (shown (step p A call.call).state))
-    ++ traced_calls_lines p table (i + 1) (step p A call.call).state (drop (i + 1) calls)
+pub call_next : (texts : Texts) (p : ProfileName) (table : Members) (calls : List CallView) (i : ℕ) (call : CallView) (A : State) → slice_get calls i ≡ Some call →
+    traced_calls_lines texts p table i A (drop i calls)
+    ≡ traced_call_lines texts (i + 1) call (step p A call.call).reply (why_at texts p table i A call.call) (told_lines texts p (shown A)) (told_lines texts p (shown (step p A call.call).state))
+    ++ traced_calls_lines texts p table (i + 1) (step p A call.call).state (drop (i + 1) calls)
 unfolding traced_calls_lines
-call_next p table calls i call A there = ap (traced_calls_lines p table i A) (from_next calls i call there)
+call_next texts p table calls i call A there = ap (traced_calls_lines texts p table i A) (from_next calls i call there)
 
-pub none_left : (p : ProfileName) (table : Members) (n : ℕ) (A : State) (calls : List CallView) (i : ℕ) → length calls ≤ i → traced_calls_lines p table n A (drop i calls) ≡ []
+pub none_left : (texts : Texts) (p : ProfileName) (table : Members) (n : ℕ) (A : State) (calls : List CallView) (i : ℕ) → length calls ≤ i → traced_calls_lines texts p table n A (drop i calls) ≡ []
 unfolding traced_calls_lines
-none_left p table n A [] zero h = refl
-none_left p table n A [] (suc i) h = refl
-none_left p table n A (x ∷ calls) zero h = absurd (omega (arith, h))
-none_left p table n A (x ∷ calls) (suc i) h = none_left p table n A calls i (omega (arith, h))
+none_left texts p table n A [] zero h = refl
+none_left texts p table n A [] (suc i) h = refl
+none_left texts p table n A (x ∷ calls) zero h = absurd (omega (arith, h))
+none_left texts p table n A (x ∷ calls) (suc i) h = none_left texts p table n A calls i (omega (arith, h))
 
 -- ---- the whole text
 

@@ -5,6 +5,7 @@ ghost use Rattle.kernel_abstract.specs.Reached.{IsReached, StepsTo};
 ghost use Rattle.kernel_abstract.specs.State.{State, shown};
 ghost use Rattle.kernel_abstract.specs.Step.{replies_of};
 ghost use Rattle.setup_format.specs.Views.{CallView};
+ghost use Rattle.setup_report.specs.Naming.{naming_view};
 ghost use Rattle.command_trace_lines.specs.Told.{told_lines};
 ghost use Rattle.command_trace_lines.specs.Views.{IsStateTold};
 ghost use Rattle.command_why.specs.Tables.{call_table as call_table_of};
@@ -19,7 +20,7 @@ use command_why_words::Asked;
 use ipc_core::Waiters;
 use kernel_core::{Kernel, Op, Reply};
 use setup_format::Setup;
-use setup_report::add_call;
+use setup_report::{Naming, add_call};
 use slot_core::DerivationStore;
 use std::alloc::{AllocError, Global};
 use std::fmt::Write;
@@ -48,6 +49,7 @@ fn add_why(out: &mut String, why: &Option<String>) -> Result<(), AllocError>
 fn make_call<P: Profile, S: DerivationStore<P> + Drop, W: Waiters<P> + Drop>(
     alloc: Global,
     out: &mut String,
+    naming: &Naming<'_>,
     setup: &Setup,
     table: &Table,
     i: usize,
@@ -56,27 +58,28 @@ fn make_call<P: Profile, S: DerivationStore<P> + Drop, W: Waiters<P> + Drop>(
 ) -> Result<(Told, Reply), AllocError>
     requires within { i < length setup.now.calls }
     requires reached { (A : State) × IsReached P.profile A × (kernel.old ≡ shown A) }
-    requires told { IsStateTold P.profile kernel.old told }
+    requires told { IsStateTold (naming_view naming.now) P.profile kernel.old told }
     ensures steps { IfOk result (λ r. (A : State) (call : CallView) → IsReached P.profile A → kernel.old ≡ shown A
         → slice_get setup.now.calls i ≡ Some call → StepsTo P.profile A call.call r.1 kernel.new) }
     ensures text { IfOk result (λ r. (call : CallView) → slice_get setup.now.calls i ≡ Some call
         → string_bytes out.new ≡ string_bytes out.old
-        ++ traced_call_lines (i + 1) call r.1
-        (reason_lines_of P.profile kernel.old (record { call = call.call; table = call_table_of (table_view table.now) i }))
-        (told_lines P.profile kernel.old) (told_lines P.profile kernel.new)) }
-    ensures told { IfOk result (λ r. IsStateTold P.profile kernel.new r.0) }
+        ++ traced_call_lines (naming_view naming.now) (i + 1) call r.1
+        (reason_lines_of (naming_view naming.now) P.profile kernel.old (record { call = call.call; table = call_table_of (table_view table.now) i }))
+        (told_lines (naming_view naming.now) P.profile kernel.old) (told_lines (naming_view naming.now) P.profile kernel.new)) }
+    ensures told { IfOk result (λ r. IsStateTold (naming_view naming.now) P.profile kernel.new r.0) }
 {
     let call = setup.calls()[i];
     let asked = Asked {
+        naming: &*naming,
         call: &call,
         table: call_table(table, i),
     };
     let why = explain::<P, S, W>(alloc, kernel, asked)?;
     let reply = kernel.step(call);
-    add_call(alloc, out, i + 1, &call, setup.expect(i), reply)?;
+    add_call(alloc, out, naming, i + 1, &call, setup.expect(i), reply)?;
     add_words(out, call.op)?;
     add_why(out, &why)?;
-    let told = tell_call::<P, S, W>(alloc, out, told, kernel, reply)?;
+    let told = tell_call::<P, S, W>(alloc, out, naming, told, kernel, reply)?;
     Ok((told, reply))
 }
 
@@ -85,23 +88,26 @@ fn make_call<P: Profile, S: DerivationStore<P> + Drop, W: Waiters<P> + Drop>(
 pub fn add_calls<P: Profile, S: DerivationStore<P> + Drop, W: Waiters<P> + Drop>(
     alloc: Global,
     out: &mut String,
+    naming: &Naming<'_>,
     setup: &Setup,
     table: &Table,
     kernel: &mut Kernel<P, S, W>,
     first: Told,
 ) -> Result<Vec<Reply>, AllocError>
     requires reached { (A : State) × IsReached P.profile A × (kernel.old ≡ shown A) }
-    requires told { IsStateTold P.profile kernel.old first }
+    requires told { IsStateTold (naming_view naming.now) P.profile kernel.old first }
     ensures replies { IfOk result (λ replies. (A : State) → IsReached P.profile A → kernel.old ≡ shown A
         → replies.items ≡ replies_of P.profile A (map (λ c. c.call) setup.now.calls)) }
     ensures text { IfOk result (λ replies. (A : State) → IsReached P.profile A → kernel.old ≡ shown A
         → string_bytes out.new ≡ string_bytes out.old
-        ++ traced_calls_lines P.profile (table_view table.now) 0 A setup.now.calls) }
+        ++ traced_calls_lines (naming_view naming.now) P.profile (table_view table.now) 0 A setup.now.calls) }
 {
     let mut told = first;
     let mut replies = Vec::with_capacity(alloc, setup.calls().len())?;
     for i in 0..setup.calls().len() {
-        let (next, reply) = make_call::<P, S, W>(alloc, out, setup, table, i, kernel, told)?;
+        let (next, reply) = make_call::<P, S, W>(
+            alloc, out, naming, setup, table, i, kernel, told,
+        )?;
         told = next;
         replies.push(reply)?;
     }

@@ -4,7 +4,7 @@ ghost use Rattle.kernel_abstract.specs.Plan.{IsPlan};
 ghost use Rattle.setup_format.specs.Read.{read_view};
 ghost use Rattle.command_trace.specs.Traces.{traced_in};
 
-use crate::run::trace;
+use crate::run::{naming_of, trace};
 use cap_core::Profile;
 use command_check::{Command, verdict_on};
 use command_core::{Answer, Verdict};
@@ -13,38 +13,39 @@ use setup_format::ReadSetup;
 use slot_core::{DerivationStore, MakeStore};
 use std::alloc::{AllocError, Global};
 
-/// Runs the set-up in a profile, and tells what each call changes.
+/// Runs the set-up in a profile, and tells what each call changes, by addresses or by names.
 #[tactic(auto, unfolding(crate::specs::Traces::traced_in))]
 fn trace_setup<P: Profile, S: MakeStore<P> + DerivationStore<P>, W: MakeWaiters<P>>(
     alloc: Global,
+    by_name: bool,
     read: &ReadSetup,
 ) -> Result<Answer, AllocError>
     requires { IsPlan P.profile read.now.setup.plan }
-    ensures { IfOk result (λ made. (made.text.items, made.verdict) ≡ traced_in P.profile (read_view read.now)) }
+    ensures { IfOk result (λ made. (made.text.items, made.verdict) ≡ traced_in by_name P.profile (read_view read.now)) }
 {
-    let (text, count, unmet) = trace::<P, S, W>(
-        alloc,
-        &read.table,
-        read.names.as_slice(),
-        &read.setup,
-    )?;
+    let (names, setup) = (read.names.as_slice(), &read.setup);
+    let naming = naming_of::<P, S, W>(alloc, by_name, names, setup)?;
+    let (text, count, unmet) = trace::<P, S, W>(alloc, &naming, &read.table, names, setup)?;
     Ok(Answer::with_unmet(alloc, text, verdict_on(count), unmet))
 }
 
-/// What each call of a set-up changes, in a line each. The verdict is that of the expectations.
+/// What each call of a set-up changes, in a line each. If `names` is set, objects and slots that have a name in the state after
+/// all calls are told by it. The verdict is that of the expectations.
 #[derive(Clone, Copy, Drop)]
-pub struct Trace;
+pub struct Trace {
+    pub names: bool,
+}
 
 impl Command for Trace {
     ghost use Rattle.command_trace.specs.Traces.{IsTrace};
 
-    ghost answers = { λ trace. IsTrace };
+    ghost answers = { λ trace. IsTrace trace.names };
 
     fn answer<P: Profile, S: MakeStore<P> + DerivationStore<P>, W: MakeWaiters<P>>(
         &self,
         alloc: Global,
         read: ReadSetup,
     ) -> Result<Answer, AllocError> {
-        trace_setup::<P, S, W>(alloc, &read)
+        trace_setup::<P, S, W>(alloc, self.names, &read)
     }
 }

@@ -12,6 +12,7 @@ use Rattle.kernel_abstract.specs.Shown.{Shown}
 use Rattle.kernel_abstract.specs.State.{State, shown}
 use Rattle.kernel_abstract.specs.Step.{step, state_after}
 use Rattle.setup_report.specs.State.{is_in, rising}
+use Rattle.setup_report.specs.Naming.{Texts}
 use Rattle.setup_report.proofs.Addresses.Rising.{rising_same}
 use Rattle.command_trace_lines.specs.Lines.{Lines}
 use Rattle.command_trace_lines.specs.Changes.{StateLines, line_addresses, text_at, lines_of_state, no_lines}
@@ -85,8 +86,8 @@ states_flipped a b =
 rising_back : (a b : StateLines) → AllRise a → AllRise b → state_applied b (state_flipped (state_differences a b)) ≡ a
 rising_back a b h k = ap (state_applied b) (states_flipped a b) ∙ rising_applied b a k h
 
-pub states_back : (p : ProfileName) (v w : Shown) → state_applied (lines_of_state p w) (state_flipped (state_differences (lines_of_state p v) (lines_of_state p w))) ≡ lines_of_state p v
-states_back p v w = rising_back (lines_of_state p v) (lines_of_state p w) (lines_rise p v) (lines_rise p w)
+pub states_back : (texts : Texts) (p : ProfileName) (v w : Shown) → state_applied (lines_of_state texts p w) (state_flipped (state_differences (lines_of_state texts p v) (lines_of_state texts p w))) ≡ lines_of_state texts p v
+states_back texts p v w = rising_back (lines_of_state texts p v) (lines_of_state texts p w) (lines_rise texts p v) (lines_rise texts p w)
 
 -- ---- runs
 
@@ -94,19 +95,19 @@ replayed_more : (lines : StateLines) (ds : List StateDifferences) (d : StateDiff
 replayed_more lines [] d = refl
 replayed_more lines (e ∷ ds) d = replayed_more (state_applied lines e) ds d
 
-calls_back : (p : ProfileName) (A : State) (calls : List Call) → replayed (lines_in p (state_after p A calls)) (backwards (run_differences p A calls)) ≡ lines_in p A
+calls_back : (texts : Texts) (p : ProfileName) (A : State) (calls : List Call) → replayed (lines_in texts p (state_after p A calls)) (backwards (run_differences texts p A calls)) ≡ lines_in texts p A
 unfolding run_differences state_after
-calls_back p A [] = refl
-calls_back p A (call ∷ calls) =
+calls_back texts p A [] = refl
+calls_back texts p A (call ∷ calls) =
     let B = (step p A call).state in
-    replayed_more (lines_in p (state_after p B calls)) (backwards (run_differences p B calls)) (state_flipped (call_differences p A call))
-    ∙ ap (λ l. state_applied l (state_flipped (call_differences p A call))) (calls_back p B calls)
-    ∙ states_back p (shown A) (shown B)
+    replayed_more (lines_in texts p (state_after p B calls)) (backwards (run_differences texts p B calls)) (state_flipped (call_differences texts p A call))
+    ∙ ap (λ l. state_applied l (state_flipped (call_differences texts p A call))) (calls_back texts p B calls)
+    ∙ states_back texts p (shown A) (shown B)
 
-pub run_back : (p : ProfileName) (plan : Plan) (calls : List Call) →
-    replayed (lines_in p (state_after p (boot p plan) calls)) (backwards (boot_differences p plan ∷ run_differences p (boot p plan) calls)) ≡ no_lines
-run_back p plan calls =
+pub run_back : (texts : Texts) (p : ProfileName) (plan : Plan) (calls : List Call) →
+    replayed (lines_in texts p (state_after p (boot p plan) calls)) (backwards (boot_differences texts p plan ∷ run_differences texts p (boot p plan) calls)) ≡ no_lines
+run_back texts p plan calls =
     let A = boot p plan in
-    replayed_more (lines_in p (state_after p A calls)) (backwards (run_differences p A calls)) (state_flipped (boot_differences p plan))
-    ∙ ap (λ l. state_applied l (state_flipped (boot_differences p plan))) (calls_back p A calls)
-    ∙ rising_back no_lines (lines_in p A) none_rise (lines_rise p (shown A))
+    replayed_more (lines_in texts p (state_after p A calls)) (backwards (run_differences texts p A calls)) (state_flipped (boot_differences texts p plan))
+    ∙ ap (λ l. state_applied l (state_flipped (boot_differences texts p plan))) (calls_back texts p A calls)
+    ∙ rising_back no_lines (lines_in texts p A) none_rise (lines_rise texts p (shown A))

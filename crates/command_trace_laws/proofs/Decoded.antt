@@ -6,6 +6,7 @@ use Rattle.std.proofs.lemmas.Fmt.{decimal_injective}
 use Rattle.std.proofs.lemmas.List.{append_cancel_left}
 use Rattle.kernel_forest.specs.Entries.{Entry}
 use Rattle.setup_report.specs.State.{Derived}
+use Rattle.setup_report.specs.Naming.{plain}
 use Rattle.setup_report.specs.Text.{cap_text}
 use Rattle.setup_report_laws.specs.Laws.{Stops, is_digit}
 use Rattle.setup_report_laws.proofs.Parts.{numbers_apart}
@@ -18,7 +19,7 @@ abbrev pub ToldSlot : Type 0
 ToldSlot = ℕ × List ℕ × Bool
 
 abbrev pub told_slot : Entry → ToldSlot
-told_slot e = (e.slot, cap_text e.cap, e.original)
+told_slot e = (e.slot, cap_text plain e.cap, e.original)
 
 -- a slot's address, where there is one, has no more than 64 bits
 abbrev pub IsShort : Option ℕ → Type 0
@@ -32,7 +33,7 @@ original_stops : (original : Bool) → Stops is_digit (original_text original)
 original_stops true = refl
 original_stops false = tt
 
-parent_stops : (parent : Option ℕ) (original : Bool) → Stops is_digit (parent_text parent ++ original_text original)
+parent_stops : (parent : Option ℕ) (original : Bool) → Stops is_digit (parent_text plain parent ++ original_text original)
 parent_stops None original = original_stops original
 parent_stops (Some slot) original = refl
 
@@ -46,7 +47,7 @@ not_parent : (original : Bool) (slot : ℕ) (rest : List ℕ) → original_text 
 not_parent true slot rest same = absurd (let w : ◌≡◌ {A = ℕ} 111 117 = cc in omega (arith, w))
 not_parent false slot rest same = absurd cc
 
-same_parent : (parent other : Option ℕ) (a b : Bool) → IsShort parent → IsShort other → parent_text parent ++ original_text a ≡ parent_text other ++ original_text b → (parent ≡ other) × (a ≡ b)
+same_parent : (parent other : Option ℕ) (a b : Bool) → IsShort parent → IsShort other → parent_text plain parent ++ original_text a ≡ parent_text plain other ++ original_text b → (parent ≡ other) × (a ≡ b)
 same_parent None None a b h k same = (refl, same_original a b same)
 same_parent None (Some slot) a b h k same = absurd (not_parent a slot (original_text b) same)
 same_parent (Some slot) None a b h k same = absurd (not_parent b slot (original_text a) (sym same))
@@ -57,18 +58,18 @@ same_parent (Some slot) (Some place) a b h k same =
     (ap (λ n. Some n) (decimal_injective slot place h k both.0), same_original a b both.1)
 
 -- equal lines of slots tell the same
-pub same_slot_told : (d e : Derived) → IsShort (Some d.0.slot) → IsShort (Some e.0.slot) → IsShort d.1 → IsShort e.1 → traced_slot_text d ≡ traced_slot_text e → (told_slot d.0 ≡ told_slot e.0) × (d.1 ≡ e.1)
+pub same_slot_told : (d e : Derived) → IsShort (Some d.0.slot) → IsShort (Some e.0.slot) → IsShort d.1 → IsShort e.1 → traced_slot_text plain d ≡ traced_slot_text plain e → (told_slot d.0 ≡ told_slot e.0) × (d.1 ≡ e.1)
 same_slot_told (a, above) (b, over) ha hb k l same =
-    let tail = λ (x : Entry) (o : Option ℕ). cap_text x.cap ++ (parent_text o ++ original_text x.original) in
+    let tail = λ (x : Entry) (o : Option ℕ). cap_text plain x.cap ++ (parent_text plain o ++ original_text x.original) in
     let first : (decimal a.slot ≡ decimal b.slot) × (codes " " ++ tail a above ≡ codes " " ++ tail b over) =
     numbers_apart a.slot b.slot (codes " " ++ tail a above) (codes " " ++ tail b over) refl refl
     (append_cancel_left (codes "slot ") (decimal a.slot ++ (codes " " ++ tail a above)) (decimal b.slot ++ (codes " " ++ tail b over)) same) in
-    let second = capabilities_apart a.cap b.cap (parent_text above ++ original_text a.original) (parent_text over ++ original_text b.original)
+    let second = capabilities_apart a.cap b.cap (parent_text plain above ++ original_text a.original) (parent_text plain over ++ original_text b.original)
     (parent_stops above a.original) (parent_stops over b.original) (append_cancel_left (codes " ") (tail a above) (tail b over) first.1) in
     let third = same_parent above over a.original b.original k l second.1 in
     ((λ i. (decimal_injective a.slot b.slot ha hb first.0 i, second.0 i, third.1 i)), third.0)
 
-pub same_sibling_told : (slot before other : ℕ) → before < 2 ^ 64 → other < 2 ^ 64 → sibling_text slot before ≡ sibling_text slot other → before ≡ other
+pub same_sibling_told : (slot before other : ℕ) → before < 2 ^ 64 → other < 2 ^ 64 → sibling_text plain slot before ≡ sibling_text plain slot other → before ≡ other
 same_sibling_told slot before other h k same =
     let first : decimal slot ++ (codes " after " ++ decimal before) ≡ decimal slot ++ (codes " after " ++ decimal other) =
     append_cancel_left (codes "sibling ") (decimal slot ++ (codes " after " ++ decimal before)) (decimal slot ++ (codes " after " ++ decimal other)) same in

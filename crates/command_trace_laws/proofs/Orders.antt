@@ -8,6 +8,7 @@ use Rattle.kernel_abstract.specs.Boot.{boot}
 use Rattle.kernel_abstract.specs.Plan.{Plan}
 use Rattle.kernel_abstract.specs.State.{State, shown}
 use Rattle.kernel_abstract.specs.Step.{step, state_after}
+use Rattle.setup_report.specs.Naming.{Texts}
 use Rattle.command_trace_lines.specs.Lines.{Lines}
 use Rattle.command_trace_lines.specs.Siblings.{siblings, sibling_at, sibling_lines}
 use Rattle.command_trace_lines.specs.Told.{told_lines}
@@ -17,14 +18,14 @@ use Rattle.command_trace_laws.proofs.Backwards.{lead_back}
 use Rattle.command_trace_laws.proofs.Replays.{none_rise}
 use Rattle.command_trace_lines.proofs.Views.{rises_at, nothing_differs}
 
-pub order_rises : (f : Forest Entry) → Rise (sibling_lines f)
-order_rises f = rises_at (sibling_at (siblings None f)) (slots f) _ refl
+pub order_rises : (texts : Texts) (f : Forest Entry) → Rise (sibling_lines texts f)
+order_rises texts f = rises_at (sibling_at texts (siblings None f)) (slots f) _ refl
 
-pub order_applied : (f g : Forest Entry) → applied (sibling_lines f) (differences (sibling_lines f) (sibling_lines g)) ≡ sibling_lines g
-order_applied f g = all_applied (sibling_lines f) (sibling_lines g) (order_rises f) (order_rises g)
+pub order_applied : (texts : Texts) (f g : Forest Entry) → applied (sibling_lines texts f) (differences (sibling_lines texts f) (sibling_lines texts g)) ≡ sibling_lines texts g
+order_applied texts f g = all_applied (sibling_lines texts f) (sibling_lines texts g) (order_rises texts f) (order_rises texts g)
 
-pub order_back : (f g : Forest Entry) → applied (sibling_lines g) (map flipped (differences (sibling_lines f) (sibling_lines g))) ≡ sibling_lines f
-order_back f g = lead_back (sibling_lines f) (sibling_lines g) (order_rises f) (order_rises g)
+pub order_back : (texts : Texts) (f g : Forest Entry) → applied (sibling_lines texts g) (map flipped (differences (sibling_lines texts f) (sibling_lines texts g))) ≡ sibling_lines texts f
+order_back texts f g = lead_back (sibling_lines texts f) (sibling_lines texts g) (order_rises texts f) (order_rises texts g)
 
 -- ---- runs
 
@@ -32,23 +33,23 @@ applied_both : (lines : Lines) (ds es : List Difference) → applied lines (ds +
 applied_both lines [] es = refl
 applied_both lines (d ∷ ds) es = applied_both (apply lines d) ds es
 
-run_applied : (p : ProfileName) (A : State) (calls : List Call) → applied (order_in A) (run_order p A calls) ≡ order_in (state_after p A calls)
+run_applied : (texts : Texts) (p : ProfileName) (A : State) (calls : List Call) → applied (order_in texts A) (run_order texts p A calls) ≡ order_in texts (state_after p A calls)
 unfolding run_order state_after
-run_applied p A [] = refl
-run_applied p A (call ∷ calls) =
+run_applied texts p A [] = refl
+run_applied texts p A (call ∷ calls) =
     let B = (step p A call).state in
-    applied_both (order_in A) (differences (order_in A) (order_in B)) (run_order p B calls)
-    ∙ ap (λ l. applied l (run_order p B calls)) (order_applied (shown A).derivations (shown B).derivations)
-    ∙ run_applied p B calls
+    applied_both (order_in texts A) (differences (order_in texts A) (order_in texts B)) (run_order texts p B calls)
+    ∙ ap (λ l. applied l (run_order texts p B calls)) (order_applied texts (shown A).derivations (shown B).derivations)
+    ∙ run_applied texts p B calls
 
-pub order_replayed : (p : ProfileName) (plan : Plan) (calls : List Call) → applied [] (order_differences p plan calls) ≡ order_in (state_after p (boot p plan) calls)
-order_replayed p plan calls =
-    let booted = order_in (boot p plan) in
-    applied_both [] (differences [] booted) (run_order p (boot p plan) calls)
-    ∙ ap (λ l. applied l (run_order p (boot p plan) calls)) (all_applied [] booted none_rise.threads (order_rises (shown (boot p plan)).derivations))
-    ∙ run_applied p (boot p plan) calls
+pub order_replayed : (texts : Texts) (p : ProfileName) (plan : Plan) (calls : List Call) → applied [] (order_differences texts p plan calls) ≡ order_in texts (state_after p (boot p plan) calls)
+order_replayed texts p plan calls =
+    let booted = order_in texts (boot p plan) in
+    applied_both [] (differences [] booted) (run_order texts p (boot p plan) calls)
+    ∙ ap (λ l. applied l (run_order texts p (boot p plan) calls)) (all_applied [] booted none_rise.threads (order_rises texts (shown (boot p plan)).derivations))
+    ∙ run_applied texts p (boot p plan) calls
 
 -- ---- calls without effect
 
-pub same_told_whole : (p : ProfileName) (A : State) (call : Call) → shown (step p A call).state ≡ shown A → all_changes p A call ≡ []
-same_told_whole p A call same = nothing_differs (told_lines p (shown A)) (told_lines p (shown (step p A call).state)) (ap (told_lines p) (sym same))
+pub same_told_whole : (texts : Texts) (p : ProfileName) (A : State) (call : Call) → shown (step p A call).state ≡ shown A → all_changes texts p A call ≡ []
+same_told_whole texts p A call same = nothing_differs (told_lines texts p (shown A)) (told_lines texts p (shown (step p A call).state)) (ap (told_lines texts p) (sym same))

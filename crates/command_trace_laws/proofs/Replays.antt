@@ -10,8 +10,9 @@ use Rattle.kernel_abstract.specs.Plan.{Plan}
 use Rattle.kernel_abstract.specs.Shown.{Shown}
 use Rattle.kernel_abstract.specs.State.{State, shown}
 use Rattle.kernel_abstract.specs.Step.{step, state_after}
-use Rattle.setup_report.specs.declared.naming.NamedObject.{NamedObject}
+use Rattle.setup_report.specs.declared.live.NamedObject.{NamedObject}
 use Rattle.setup_report.specs.State.{slot_of, named, holding_themselves}
+use Rattle.setup_report.specs.Naming.{Texts}
 use Rattle.command_trace_lines.specs.Lines.{thread_text_at, inbox_line_at, endpoint_text_at, slot_at, selfheld_at}
 use Rattle.command_trace_lines.specs.Changes.{StateLines, lines_of_state, no_lines, changes}
 use Rattle.command_trace_laws.specs.Laws.{Rise, state_differences, state_told, state_applied, boot_differences, run_differences, replayed}
@@ -38,15 +39,15 @@ pub record AllRise (s : StateLines) : Type 0 where
   pub slots : Rise s.slots
   pub selfheld : Rise s.selfheld
 
-pub lines_rise : (p : ProfileName) (v : Shown) → AllRise (lines_of_state p v)
-lines_rise p v =
+pub lines_rise : (texts : Texts) (p : ProfileName) (v : Shown) → AllRise (lines_of_state texts p v)
+lines_rise texts p v =
     let list = derivations_of v.derivations in
     record {
-      threads = rises_at (thread_text_at v) (named p NamedObject.Thread list) _ refl;
-      inboxes = rises_at (inbox_line_at v) (named p NamedObject.Thread list) _ refl;
-      endpoints = rises_at (endpoint_text_at v) (named p NamedObject.Endpoint list) _ refl;
-      slots = rises_at (slot_at list) (map slot_of list) _ refl;
-      selfheld = rises_at selfheld_at (holding_themselves p list) _ refl;
+      threads = rises_at (thread_text_at texts v) (named p NamedObject.Thread list) _ refl;
+      inboxes = rises_at (inbox_line_at texts v) (named p NamedObject.Thread list) _ refl;
+      endpoints = rises_at (endpoint_text_at texts v) (named p NamedObject.Endpoint list) _ refl;
+      slots = rises_at (slot_at texts list) (map slot_of list) _ refl;
+      selfheld = rises_at (selfheld_at texts) (holding_themselves p list) _ refl;
     }
 
 nil_rises : Rise []
@@ -66,27 +67,27 @@ rising_applied a b h k =
       selfheld = all_applied a.selfheld b.selfheld h.selfheld k.selfheld i;
     }
 
-pub states_applied : (p : ProfileName) (v w : Shown) → state_applied (lines_of_state p v) (state_differences (lines_of_state p v) (lines_of_state p w)) ≡ lines_of_state p w
-states_applied p v w = rising_applied (lines_of_state p v) (lines_of_state p w) (lines_rise p v) (lines_rise p w)
+pub states_applied : (texts : Texts) (p : ProfileName) (v w : Shown) → state_applied (lines_of_state texts p v) (state_differences (lines_of_state texts p v) (lines_of_state texts p w)) ≡ lines_of_state texts p w
+states_applied texts p v w = rising_applied (lines_of_state texts p v) (lines_of_state texts p w) (lines_rise texts p v) (lines_rise texts p w)
 
 -- ---- runs
 
-calls_replayed : (p : ProfileName) (A : State) (calls : List Call) → replayed (lines_in p A) (run_differences p A calls) ≡ lines_in p (state_after p A calls)
+calls_replayed : (texts : Texts) (p : ProfileName) (A : State) (calls : List Call) → replayed (lines_in texts p A) (run_differences texts p A calls) ≡ lines_in texts p (state_after p A calls)
 unfolding run_differences state_after
-calls_replayed p A [] = refl
-calls_replayed p A (call ∷ calls) =
-    ap (λ l. replayed l (run_differences p (step p A call).state calls)) (states_applied p (shown A) (shown (step p A call).state))
-    ∙ calls_replayed p (step p A call).state calls
+calls_replayed texts p A [] = refl
+calls_replayed texts p A (call ∷ calls) =
+    ap (λ l. replayed l (run_differences texts p (step p A call).state calls)) (states_applied texts p (shown A) (shown (step p A call).state))
+    ∙ calls_replayed texts p (step p A call).state calls
 
-pub run_replayed : (p : ProfileName) (plan : Plan) (calls : List Call) → replayed no_lines (boot_differences p plan ∷ run_differences p (boot p plan) calls) ≡ lines_in p (state_after p (boot p plan) calls)
-run_replayed p plan calls =
-    ap (λ l. replayed l (run_differences p (boot p plan) calls)) (rising_applied no_lines (lines_in p (boot p plan)) none_rise (lines_rise p (shown (boot p plan))))
-    ∙ calls_replayed p (boot p plan) calls
+pub run_replayed : (texts : Texts) (p : ProfileName) (plan : Plan) (calls : List Call) → replayed no_lines (boot_differences texts p plan ∷ run_differences texts p (boot p plan) calls) ≡ lines_in texts p (state_after p (boot p plan) calls)
+run_replayed texts p plan calls =
+    ap (λ l. replayed l (run_differences texts p (boot p plan) calls)) (rising_applied no_lines (lines_in texts p (boot p plan)) none_rise (lines_rise texts p (shown (boot p plan))))
+    ∙ calls_replayed texts p (boot p plan) calls
 
 -- ---- calls without effect
 
-pub same_told : (p : ProfileName) (A : State) (call : Call) → shown (step p A call).state ≡ shown A → call_changes p A call ≡ []
-same_told p A call same = nothing_changes (lines_in p A) (lines_in p (step p A call).state) (ap (lines_of_state p) (sym same))
+pub same_told : (texts : Texts) (p : ProfileName) (A : State) (call : Call) → shown (step p A call).state ≡ shown A → call_changes texts p A call ≡ []
+same_told texts p A call same = nothing_changes (lines_in texts p A) (lines_in texts p (step p A call).state) (ap (lines_of_state texts p) (sym same))
 
 -- what a reply says of the states shown before and after
 pub reply_says : (p : ProfileName) (A : State) (call : Call) (reply : Reply) → (step p A call).reply ≡ reply → FollowsReply reply (shown A) (shown (step p A call).state)

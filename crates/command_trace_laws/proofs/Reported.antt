@@ -17,6 +17,7 @@ use Rattle.kernel_abstract.specs.Waiting.{offer_at}
 use Rattle.kernel_abstract.specs.declared.call.ThreadState.{ThreadState}
 use Rattle.kernel_abstract.proofs.Reached.Simulation.{reached_is}
 use Rattle.setup_report.specs.State.{Derived, slot_of, found, rising, threads, endpoints, selfheld}
+use Rattle.setup_report.specs.Naming.{Texts}
 use Rattle.setup_report.specs.Report.{thread_line, thread_line_with, endpoint_line, slot_line, slot_text as report_slot_text, terminated, selfheld_line}
 use Rattle.setup_report.proofs.Addresses.Rising.{all_rising}
 use Rattle.setup_report.proofs.Addresses.Slots.{slots_are}
@@ -57,49 +58,49 @@ each_held (e ∷ es) apart =
 
 -- ---- threads
 
-threads_told : (v : Shown) (xs : List ℕ) → flat_map (thread_line v) (line_addresses (flat_map (line_at (thread_text_at v)) xs)) ≡ flat_map (thread_line v) xs
-threads_told v [] = refl
-threads_told v (x ∷ xs) =
+threads_told : (texts : Texts) (v : Shown) (xs : List ℕ) → flat_map (thread_line texts v) (line_addresses (flat_map (line_at (thread_text_at texts v)) xs)) ≡ flat_map (thread_line texts v) xs
+threads_told texts v [] = refl
+threads_told texts v (x ∷ xs) =
     elim (state_at v x) as (λ o. state_at v x ≡ o →
-    flat_map (thread_line v) (line_addresses (address_line x (option_map (λ (s : ThreadState). traced_thread_text x s (offer_at v x)) o) ++ flat_map (line_at (thread_text_at v)) xs))
-    ≡ thread_line v x ++ flat_map (thread_line v) xs) [
-      | None ↦ λ e. threads_told v xs ∙ ap (λ o. thread_line_with x o (inbox_at v x) ++ flat_map (thread_line v) xs) (sym e)
-      | Some s ↦ λ e. ap (λ l. thread_line v x ++ l) (threads_told v xs)
+    flat_map (thread_line texts v) (line_addresses (address_line x (option_map (λ (s : ThreadState). traced_thread_text texts x s (offer_at v x)) o) ++ flat_map (line_at (thread_text_at texts v)) xs))
+    ≡ thread_line texts v x ++ flat_map (thread_line texts v) xs) [
+      | None ↦ λ e. threads_told texts v xs ∙ ap (λ o. thread_line_with texts x o (inbox_at v x) ++ flat_map (thread_line texts v) xs) (sym e)
+      | Some s ↦ λ e. ap (λ l. thread_line texts v x ++ l) (threads_told texts v xs)
     ] refl
 
 -- ---- endpoints
 
-endpoints_told : (v : Shown) (xs : List ℕ) → lines_text (flat_map (line_at (endpoint_text_at v)) xs) ≡ flat_map (endpoint_line v) xs
-endpoints_told v [] = refl
-endpoints_told v (x ∷ xs) = ap (λ l. endpoint_line v x ++ l) (endpoints_told v xs)
+endpoints_told : (texts : Texts) (v : Shown) (xs : List ℕ) → lines_text (flat_map (line_at (endpoint_text_at texts v)) xs) ≡ flat_map (endpoint_line texts v) xs
+endpoints_told texts v [] = refl
+endpoints_told texts v (x ∷ xs) = ap (λ l. endpoint_line texts v x ++ l) (endpoints_told texts v xs)
 
 -- ---- selfheld CNodes
 
-selfheld_told : (xs : List ℕ) → lines_text (flat_map (line_at selfheld_at) xs) ≡ flat_map selfheld_line xs
-selfheld_told [] = refl
-selfheld_told (x ∷ xs) = ap (λ l. selfheld_line x ++ l) (selfheld_told xs)
+selfheld_told : (texts : Texts) (xs : List ℕ) → lines_text (flat_map (line_at (selfheld_at texts)) xs) ≡ flat_map (selfheld_line texts) xs
+selfheld_told texts [] = refl
+selfheld_told texts (x ∷ xs) = ap (λ l. selfheld_line texts x ++ l) (selfheld_told texts xs)
 
 -- ---- slots
 
 -- each slot of some derivations has a line
-abbrev HasLine : List Derived → ℕ → Type 0
-HasLine list slot = is_some (slot_at list slot) ≡ true
+abbrev HasLine : Texts → List Derived → ℕ → Type 0
+HasLine texts list slot = is_some (slot_at texts list slot) ≡ true
 
-still_found : (d : Derived) (list : List Derived) (xs : List ℕ) → Each (HasLine list) xs → Each (HasLine (d ∷ list)) xs
-still_found d list [] h = tt
-still_found d list (x ∷ xs) h = (
-  elim (slot_of d == x) as (λ b. is_some (option_map traced_slot_text (cond b (Some d) (find (λ (e : Derived). slot_of e == x) list))) ≡ true) [
+still_found : (texts : Texts) (d : Derived) (list : List Derived) (xs : List ℕ) → Each (HasLine texts list) xs → Each (HasLine texts (d ∷ list)) xs
+still_found texts d list [] h = tt
+still_found texts d list (x ∷ xs) h = (
+  elim (slot_of d == x) as (λ b. is_some (option_map (traced_slot_text texts) (cond b (Some d) (find (λ (e : Derived). slot_of e == x) list))) ≡ true) [
     | true ↦ refl
     | false ↦ h.0
   ],
-  still_found d list xs h.1,
+  still_found texts d list xs h.1,
 )
 
-each_found : (list : List Derived) → Each (HasLine list) (map slot_of list)
-each_found [] = tt
-each_found (d ∷ list) = (
-  ap (λ b. is_some (option_map traced_slot_text (cond b (Some d) (find (λ (e : Derived). slot_of e == slot_of d) list)))) (eq-eqb (slot_of d) (slot_of d) refl),
-  still_found d list (map slot_of list) (each_found list),
+each_found : (texts : Texts) (list : List Derived) → Each (HasLine texts list) (map slot_of list)
+each_found texts [] = tt
+each_found texts (d ∷ list) = (
+  ap (λ b. is_some (option_map (traced_slot_text texts) (cond b (Some d) (find (λ (e : Derived). slot_of e == slot_of d) list)))) (eq-eqb (slot_of d) (slot_of d) refl),
+  still_found texts d list (map slot_of list) (each_found texts list),
 )
 
 addresses_of : (f : ℕ → Option (List ℕ)) (xs : List ℕ) → Each (λ x. is_some (f x) ≡ true) xs → line_addresses (flat_map (line_at f) xs) ≡ xs
@@ -110,29 +111,29 @@ addresses_of f (x ∷ xs) h =
       | Some t ↦ λ e. ap (λ l. x ∷ l) (addresses_of f xs h.1)
     ] h.0
 
-slots_told : (list : List Derived) → line_addresses (traced_slot_lines list) ≡ rising (map slot_of list)
-slots_told list = addresses_of (slot_at list) (rising (map slot_of list)) (all_rising (HasLine list) (map slot_of list) (each_found list))
+slots_told : (texts : Texts) (list : List Derived) → line_addresses (traced_slot_lines texts list) ≡ rising (map slot_of list)
+slots_told texts list = addresses_of (slot_at texts list) (rising (map slot_of list)) (all_rising (HasLine texts list) (map slot_of list) (each_found texts list))
 
 -- the report's line of a slot that has a line
-slot_alike : (v : Shown) → IsDistinct (λ (a b : ℕ). a == b) (slots v.derivations) → (slot : ℕ) → HasLine (derivations_of v.derivations) slot → report_slot_line (derivations_of v.derivations) slot ≡ held_slot_line v slot
-slot_alike v apart slot has =
+slot_alike : (texts : Texts) (v : Shown) → IsDistinct (λ (a b : ℕ). a == b) (slots v.derivations) → (slot : ℕ) → HasLine texts (derivations_of v.derivations) slot → report_slot_line texts (derivations_of v.derivations) slot ≡ held_slot_line texts v slot
+slot_alike texts v apart slot has =
     let list = derivations_of v.derivations in
-    elim (found list slot) as (λ o. found list slot ≡ o → is_some (option_map traced_slot_text o) ≡ true → slot_line_of list slot o ≡ held_slot_line v slot) [
+    elim (found list slot) as (λ o. found list slot ≡ o → is_some (option_map (traced_slot_text texts) o) ≡ true → slot_line_of texts list slot o ≡ held_slot_line texts v slot) [
       | None ↦ λ there some. cc
-      | Some d ↦ λ there some. λ i. terminated (report_slot_text slot ((sym (held_there list slot d there) ∙ ap (cap_in slot) (entries_are v.derivations)) i) (child_is_under slot v.derivations apart i))
+      | Some d ↦ λ there some. λ i. terminated (report_slot_text texts slot ((sym (held_there list slot d there) ∙ ap (cap_in slot) (entries_are v.derivations)) i) (child_is_under slot v.derivations apart i))
     ] refl has
 
 -- the report's lines of slots, by what the trace tells of them
-rows_alike : (v : Shown) → IsDistinct (λ (a b : ℕ). a == b) (slots v.derivations) → (xs : List ℕ) →
-    flat_map (report_slot_line (derivations_of v.derivations)) xs ≡ flat_map (slot_line v) (filter_map (found (derivations_of v.derivations)) xs)
-rows_alike v apart [] = refl
-rows_alike v apart (x ∷ xs) =
+rows_alike : (texts : Texts) (v : Shown) → IsDistinct (λ (a b : ℕ). a == b) (slots v.derivations) → (xs : List ℕ) →
+    flat_map (report_slot_line texts (derivations_of v.derivations)) xs ≡ flat_map (slot_line texts v) (filter_map (found (derivations_of v.derivations)) xs)
+rows_alike texts v apart [] = refl
+rows_alike texts v apart (x ∷ xs) =
     let list = derivations_of v.derivations in
-    elim (found list x) as (λ o. found list x ≡ o → slot_line_of list x o ++ flat_map (report_slot_line list) xs ≡ flat_map (slot_line v) (cons_option o (filter_map (found list) xs))) [
-      | None ↦ λ is. rows_alike v apart xs
+    elim (found list x) as (λ o. found list x ≡ o → slot_line_of texts list x o ++ flat_map (report_slot_line texts list) xs ≡ flat_map (slot_line texts v) (cons_option o (filter_map (found list) xs))) [
+      | None ↦ λ is. rows_alike texts v apart xs
       | Some d ↦ λ is.
-          (λ i. terminated (report_slot_text x d.0.cap (child_is_under x v.derivations apart i)) ++ rows_alike v apart xs i)
-          ∙ ap (λ slot. terminated (report_slot_text slot d.0.cap (has_child slot v.derivations)) ++ flat_map (slot_line v) (filter_map (found list) xs)) (sym (found_is list x d is))
+          (λ i. terminated (report_slot_text texts x d.0.cap (child_is_under x v.derivations apart i)) ++ rows_alike texts v apart xs i)
+          ∙ ap (λ slot. terminated (report_slot_text texts slot d.0.cap (has_child slot v.derivations)) ++ flat_map (slot_line texts v) (filter_map (found list) xs)) (sym (found_is list x d is))
     ] refl
 
 flat_alike : (f g : ℕ → List ℕ) (xs : List ℕ) → Each (λ x. f x ≡ g x) xs → flat_map f xs ≡ flat_map g xs
@@ -151,7 +152,7 @@ each_full p memory held (e ∷ es) h lawful =
 
 -- ---- of each state that runs reach
 
-module _ (p : ProfileName) (A : State) (reached : IsReached p A) where
+module _ (texts : Texts) (p : ProfileName) (A : State) (reached : IsReached p A) where
   apart : IsDistinct (λ (a b : ℕ). a == b) (slots (shown A).derivations)
   unfolding shown
   apart = (reached_is p A reached).store.slots_distinct
@@ -160,32 +161,32 @@ module _ (p : ProfileName) (A : State) (reached : IsReached p A) where
   unfolding shown
   lawful = (reached_is p A reached).store.lawful
 
-  pub same_threads : TellsTheThreads p (shown A)
-  same_threads = threads_told (shown A) (threads p (shown A))
+  pub same_threads : TellsTheThreads texts p (shown A)
+  same_threads = threads_told texts (shown A) (threads p (shown A))
 
-  pub same_endpoints : TellsTheEndpoints p (shown A)
-  same_endpoints = endpoints_told (shown A) (endpoints p (shown A))
+  pub same_endpoints : TellsTheEndpoints texts p (shown A)
+  same_endpoints = endpoints_told texts (shown A) (endpoints p (shown A))
 
-  pub same_slots : TellsTheSlots (shown A)
+  pub same_slots : TellsTheSlots texts (shown A)
   same_slots =
       let es = preorder (shown A).derivations in
-      slots_told (derivations_of (shown A).derivations)
+      slots_told texts (derivations_of (shown A).derivations)
       ∙ ap rising (slots_are (shown A).derivations
       ∙ sym (each_full p reached.plan.memory_bits (cap_at (shown A).derivations) es (each_held es apart) lawful))
 
-  pub same_slot_lines : TellsTheSlotLines (shown A)
+  pub same_slot_lines : TellsTheSlotLines texts (shown A)
   same_slot_lines =
       let list = derivations_of (shown A).derivations in
-      ap (flat_map (report_slot_line list)) (slots_told list) ∙ rows_alike (shown A) apart (rising (map slot_of list))
+      ap (flat_map (report_slot_line texts list)) (slots_told texts list) ∙ rows_alike texts (shown A) apart (rising (map slot_of list))
 
-  pub same_capabilities : TellsTheCapabilities (shown A)
+  pub same_capabilities : TellsTheCapabilities texts (shown A)
   same_capabilities =
       let v = shown A in
       let list = derivations_of v.derivations in
-      let each = each-weaker (HasLine list) (λ slot. report_slot_line list slot ≡ held_slot_line v slot) (slot_alike v apart) (rising (map slot_of list)) (all_rising (HasLine list) (map slot_of list) (each_found list)) in
-      ap (flat_map (held_slot_line v)) (sym same_slots ∙ slots_told list)
-      ∙ sym (flat_alike (report_slot_line list) (held_slot_line v) (rising (map slot_of list)) each)
-      ∙ rows_alike v apart (rising (map slot_of list))
+      let each = each-weaker (HasLine texts list) (λ slot. report_slot_line texts list slot ≡ held_slot_line texts v slot) (slot_alike texts v apart) (rising (map slot_of list)) (all_rising (HasLine texts list) (map slot_of list) (each_found texts list)) in
+      ap (flat_map (held_slot_line texts v)) (sym same_slots ∙ slots_told texts list)
+      ∙ sym (flat_alike (report_slot_line texts list) (held_slot_line texts v) (rising (map slot_of list)) each)
+      ∙ rows_alike texts v apart (rising (map slot_of list))
 
-  pub same_selfheld : TellsTheSelfheld p (shown A)
-  same_selfheld = selfheld_told (selfheld p (shown A))
+  pub same_selfheld : TellsTheSelfheld texts p (shown A)
+  same_selfheld = selfheld_told texts (selfheld p (shown A))

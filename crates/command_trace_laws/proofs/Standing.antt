@@ -23,6 +23,7 @@ use Rattle.kernel_abstract.specs.Step.{state_after}
 use Rattle.kernel_abstract.proofs.Reached.Simulation.{reached_is}
 use Rattle.setup_report.specs.State.{Derived, slot_of, found, is_in}
 use Rattle.setup_report.proofs.Addresses.Slots.{slots_are}
+use Rattle.setup_report.specs.Naming.{plain as by_address}
 use Rattle.command_trace_lines.specs.Lines.{Lines, slot_at, traced_slot_text, traced_slot_lines}
 use Rattle.command_trace_lines.specs.Siblings.{Sibling, siblings, in_front, sibling_at, sibling_text, sibling_lines}
 use Rattle.command_trace_lines.specs.Changes.{StateLines, text_at, no_lines}
@@ -160,19 +161,19 @@ each_both P Q (x ∷ xs) h k = ((h.0, k.0), each_both P Q xs h.1 k.1)
 
 -- ---- what the lines tell
 
-slot_told : (f : Forest Entry) (k : ℕ) → text_at k (traced_slot_lines (derivations_of f)) ≡ slot_at (derivations_of f) k
+slot_told : (f : Forest Entry) (k : ℕ) → text_at k (traced_slot_lines by_address (derivations_of f)) ≡ slot_at by_address (derivations_of f) k
 slot_told f k =
     let list = derivations_of f in
-    text_told (slot_at list) (map slot_of list) k (λ out. ap (option_map traced_slot_text) (not_found slot_of k list out))
+    text_told (slot_at by_address list) (map slot_of list) k (λ out. ap (option_map (traced_slot_text by_address)) (not_found slot_of k list out))
 
-order_told : (f : Forest Entry) (k : ℕ) → text_at k (sibling_lines f) ≡ sibling_at (siblings None f) k
+order_told : (f : Forest Entry) (k : ℕ) → text_at k (sibling_lines by_address f) ≡ sibling_at by_address (siblings None f) k
 order_told f k =
     let list = siblings None f in
-    text_told (sibling_at list) (slots f) k
-    (λ out. ap (λ o. option_map (sibling_text k) (option_and_then (λ (x : Sibling). x.1) o))
+    text_told (sibling_at by_address list) (slots f) k
+    (λ out. ap (λ o. option_map (sibling_text by_address k) (option_and_then (λ (x : Sibling). x.1) o))
     (not_found (λ (x : Sibling). x.0) k list (ap (is_in k) (siblings_slots_are f) ∙ out)))
 
-same_before : (slot : ℕ) (a b : Option ℕ) → IsShort a → IsShort b → option_map (sibling_text slot) a ≡ option_map (sibling_text slot) b → a ≡ b
+same_before : (slot : ℕ) (a b : Option ℕ) → IsShort a → IsShort b → option_map (sibling_text by_address slot) a ≡ option_map (sibling_text by_address slot) b → a ≡ b
 same_before slot None None h k same = refl
 same_before slot None (Some b) h k same = absurd cc
 same_before slot (Some a) None h k same = absurd cc
@@ -210,11 +211,11 @@ module _ (f : Forest Entry) (plain : IsPlain f) where
       (each_front list (subst (IsDistinct (λ (a b : ℕ). a == b)) (sym (siblings_slots_are f)) plain.distinct))
       (short_siblings None f tt plain.short)
 
-module _ (f g : Forest Entry) (plain : IsPlain f) (other : IsPlain g) (lines : traced_slot_lines (derivations_of f) ≡ traced_slot_lines (derivations_of g)) (order : sibling_lines f ≡ sibling_lines g) where
-  same_slots : (k : ℕ) → slot_at (derivations_of f) k ≡ slot_at (derivations_of g) k
+module _ (f g : Forest Entry) (plain : IsPlain f) (other : IsPlain g) (lines : traced_slot_lines by_address (derivations_of f) ≡ traced_slot_lines by_address (derivations_of g)) (order : sibling_lines by_address f ≡ sibling_lines by_address g) where
+  same_slots : (k : ℕ) → slot_at by_address (derivations_of f) k ≡ slot_at by_address (derivations_of g) k
   same_slots k = sym (slot_told f k) ∙ (ap (text_at k) lines ∙ slot_told g k)
 
-  same_order : (k : ℕ) → sibling_at (siblings None f) k ≡ sibling_at (siblings None g) k
+  same_order : (k : ℕ) → sibling_at by_address (siblings None f) k ≡ sibling_at by_address (siblings None g) k
   same_order k = sym (order_told f k) ∙ (ap (text_at k) order ∙ order_told g k)
 
   -- what stands in the one forest, by what is found of it in the other
@@ -223,8 +224,8 @@ module _ (f g : Forest Entry) (plain : IsPlain f) (other : IsPlain g) (lines : t
   found_stands e a b h k d is =
       let list = derivations_of g in
       let here : slot_of d ≡ e.slot = found_is list e.slot d is in
-      let texts : ◌≡◌ {A = Option (List ℕ)} (Some (traced_slot_text (e, a))) (Some (traced_slot_text d)) =
-      sym (ap (option_map traced_slot_text) h.0) ∙ (same_slots e.slot ∙ ap (option_map traced_slot_text) is) in
+      let texts : ◌≡◌ {A = Option (List ℕ)} (Some (traced_slot_text by_address (e, a))) (Some (traced_slot_text by_address d)) =
+      sym (ap (option_map (traced_slot_text by_address)) h.0) ∙ (same_slots e.slot ∙ ap (option_map (traced_slot_text by_address)) is) in
       let lawful : IsFound g d = found_each (IsFound g) (λ (x : Derived). slot_of x == e.slot) list d (derivations_found g other) is in
       let same : (told_slot e ≡ told_slot d.0) × (a ≡ d.1) = same_slot_told (e, a) d h.1 lawful.1 h.2 lawful.2 cc in
       let stands : (c : Option ℕ) × Stands address None None (told g) (told_slot d.0) d.1 c =
@@ -232,8 +233,8 @@ module _ (f g : Forest Entry) (plain : IsPlain f) (other : IsPlain g) (lines : t
       (all_stand (Stands address None None (told g)) None None g (λ x y z s. s)) is in
       let among = all_among (IsFound g) (IsFront g) None None g (derivations_found g other) (siblings_in_front g other) (told_slot d.0) d.1 stands.0 stands.1 in
       let at : e.slot ≡ among.0.slot = ap (λ (x : ToldSlot). x.0) (same.0 ∙ among.1) in
-      let fronts : option_map (sibling_text e.slot) b ≡ option_map (sibling_text e.slot) stands.0 =
-      ap (option_map (sibling_text e.slot)) (sym k.0) ∙ (same_order e.slot ∙ ap (option_map (sibling_text e.slot)) (ap (in_front (siblings None g)) at ∙ among.3.0)) in
+      let fronts : option_map (sibling_text by_address e.slot) b ≡ option_map (sibling_text by_address e.slot) stands.0 =
+      ap (option_map (sibling_text by_address e.slot)) (sym k.0) ∙ (same_order e.slot ∙ ap (option_map (sibling_text by_address e.slot)) (ap (in_front (siblings None g)) at ∙ among.3.0)) in
       let before : b ≡ stands.0 = same_before e.slot b stands.0 k.1 among.3.1 fronts in
       subst (λ x. Stands address None None (told g) x a b) (sym same.0)
       (subst (λ o. Stands address None None (told g) (told_slot d.0) o b) (sym same.1)
@@ -243,7 +244,7 @@ module _ (f g : Forest Entry) (plain : IsPlain f) (other : IsPlain g) (lines : t
   all_found e a b h k =
       let list = derivations_of g in
       elim (found list e.slot) as (λ o. found list e.slot ≡ o → Stands address None None (told g) (told_slot e) a b) [
-        | None ↦ λ is. absurd (let w : ◌≡◌ {A = Option (List ℕ)} (Some (traced_slot_text (e, a))) None = sym (ap (option_map traced_slot_text) h.0) ∙ (same_slots e.slot ∙ ap (option_map traced_slot_text) is) in cc)
+        | None ↦ λ is. absurd (let w : ◌≡◌ {A = Option (List ℕ)} (Some (traced_slot_text by_address (e, a))) None = sym (ap (option_map (traced_slot_text by_address)) h.0) ∙ (same_slots e.slot ∙ ap (option_map (traced_slot_text by_address)) is) in cc)
         | Some d ↦ λ is. found_stands e a b h k d is
       ] refl
 
@@ -252,7 +253,7 @@ module _ (f g : Forest Entry) (plain : IsPlain f) (other : IsPlain g) (lines : t
       let among = all_among (IsFound f) (IsFront f) None None f (derivations_found f plain) (siblings_in_front f plain) x a b stands in
       subst (λ y. Stands address None None (told g) y a b) (sym among.1) (all_found among.0 a b among.2 among.3)
 
-same_told : (f g : Forest Entry) → IsPlain f → IsPlain g → traced_slot_lines (derivations_of f) ≡ traced_slot_lines (derivations_of g) → sibling_lines f ≡ sibling_lines g → told f ≡ told g
+same_told : (f g : Forest Entry) → IsPlain f → IsPlain g → traced_slot_lines by_address (derivations_of f) ≡ traced_slot_lines by_address (derivations_of g) → sibling_lines by_address f ≡ sibling_lines by_address g → told f ≡ told g
 same_told f g plain other lines order =
     same_forest address (told f) (told g)
     (told_apart f (λ slot. once_at slot (preorder f) plain.distinct)) (told_apart g (λ slot. once_at slot (preorder g) other.distinct))
@@ -265,7 +266,7 @@ same_entry a b h k same =
     λ i. record { slot = (same i).0; cap = cap i; original = (same i).2 }
 
 -- the same forest
-pub same_lines : (f g : Forest Entry) → IsPlain f → IsPlain g → traced_slot_lines (derivations_of f) ≡ traced_slot_lines (derivations_of g) → sibling_lines f ≡ sibling_lines g → f ≡ g
+pub same_lines : (f g : Forest Entry) → IsPlain f → IsPlain g → traced_slot_lines by_address (derivations_of f) ≡ traced_slot_lines by_address (derivations_of g) → sibling_lines by_address f ≡ sibling_lines by_address g → f ≡ g
 same_lines f g plain other lines order =
     sym (renamed_as_it_is f)
     ∙ (same_renamed told_slot (λ (e : Entry). e) (λ (e : Entry). IsWithinWords e.cap) same_entry f g plain.words other.words (same_told f g plain other lines order)
@@ -289,7 +290,7 @@ plain p A reached =
       words = each-map_old IsWithinWords (λ (e : Entry). e.cap) (preorder A.derivations) (recursion_from_All IsWithinWords (caps A.derivations) (reached_words p A reached));
     }
 
-pub forest_told : (p : ProfileName) (A B : State) → IsReached p A → IsReached p B → (lines_in p A).slots ≡ (lines_in p B).slots → order_in A ≡ order_in B → (shown A).derivations ≡ (shown B).derivations
+pub forest_told : (p : ProfileName) (A B : State) → IsReached p A → IsReached p B → (lines_in by_address p A).slots ≡ (lines_in by_address p B).slots → order_in by_address A ≡ order_in by_address B → (shown A).derivations ≡ (shown B).derivations
 forest_told p A B a b lines order = same_lines (shown A).derivations (shown B).derivations (plain p A a) (plain p B b) lines order
 
 -- the lines of slots after changes come of those of slots alone
@@ -302,14 +303,14 @@ slots_after lines [] = refl
 slots_after lines (d ∷ ds) = slots_after (state_applied lines d) ds
 
 pub forest_replayed : (p : ProfileName) (plan other : Plan) (calls others : List Call) → IsPlan p plan → IsPlan p other →
-    of_slots (boot_differences p plan ∷ run_differences p (boot p plan) calls) ≡ of_slots (boot_differences p other ∷ run_differences p (boot p other) others) →
-    order_differences p plan calls ≡ order_differences p other others →
+    of_slots (boot_differences by_address p plan ∷ run_differences by_address p (boot p plan) calls) ≡ of_slots (boot_differences by_address p other ∷ run_differences by_address p (boot p other) others) →
+    order_differences by_address p plan calls ≡ order_differences by_address p other others →
     (shown (state_after p (boot p plan) calls)).derivations ≡ (shown (state_after p (boot p other) others)).derivations
 forest_replayed p plan other calls others lawful fits lines order =
     let A = state_after p (boot p plan) calls in
     let B = state_after p (boot p other) others in
-    let made = slots_after no_lines (boot_differences p plan ∷ run_differences p (boot p plan) calls) ∙ (ap (slots_replayed []) lines ∙ sym (slots_after no_lines (boot_differences p other ∷ run_differences p (boot p other) others))) in
+    let made = slots_after no_lines (boot_differences by_address p plan ∷ run_differences by_address p (boot p plan) calls) ∙ (ap (slots_replayed []) lines ∙ sym (slots_after no_lines (boot_differences by_address p other ∷ run_differences by_address p (boot p other) others))) in
     forest_told p A B
     (record { plan = plan; lawful = lawful; calls = calls; is = refl }) (record { plan = other; lawful = fits; calls = others; is = refl })
-    (ap (λ (l : StateLines). l.slots) (sym (run_replayed p plan calls)) ∙ (made ∙ ap (λ (l : StateLines). l.slots) (run_replayed p other others)))
-    (sym (order_replayed p plan calls) ∙ (ap (applied []) order ∙ order_replayed p other others))
+    (ap (λ (l : StateLines). l.slots) (sym (run_replayed by_address p plan calls)) ∙ (made ∙ ap (λ (l : StateLines). l.slots) (run_replayed by_address p other others)))
+    (sym (order_replayed by_address p plan calls) ∙ (ap (applied []) order ∙ order_replayed by_address p other others))

@@ -16,6 +16,7 @@ use Rattle.kernel_abstract.specs.Shown.{Shown, has_child}
 use Rattle.kernel_abstract.specs.State.{State, shown}
 use Rattle.kernel_abstract.specs.Step.{step}
 use Rattle.setup_report.specs.State.{Derived, found, rising}
+use Rattle.setup_report.specs.Naming.{Texts}
 use Rattle.setup_report.specs.Report.{terminated, thread_line}
 use Rattle.setup_report.specs.Report as report
 use Rattle.command_trace_lines.specs.Lines.{Lines, traced_thread_lines, traced_endpoint_lines, traced_slot_lines, traced_selfheld_lines}
@@ -132,17 +133,17 @@ state_flipped d =
 -- ---- runs
 
 -- what a call changes, as data
-abbrev pub call_differences : ProfileName → State → Call → StateDifferences
-call_differences p A call = state_differences (lines_in p A) (lines_after p A call)
+abbrev pub call_differences : Texts → ProfileName → State → Call → StateDifferences
+call_differences texts p A call = state_differences (lines_in texts p A) (lines_after texts p A call)
 
 -- boot changes nothing into its state
-abbrev pub boot_differences : ProfileName → Plan → StateDifferences
-boot_differences p plan = state_differences no_lines (lines_in p (boot p plan))
+abbrev pub boot_differences : Texts → ProfileName → Plan → StateDifferences
+boot_differences texts p plan = state_differences no_lines (lines_in texts p (boot p plan))
 
 -- what each call of a run changes
-unfoldable pub run_differences : ProfileName → State → List Call → List StateDifferences
-run_differences p A [] = []
-run_differences p A (call ∷ calls) = call_differences p A call ∷ run_differences p (step p A call).state calls
+unfoldable pub run_differences : Texts → ProfileName → State → List Call → List StateDifferences
+run_differences texts p A [] = []
+run_differences texts p A (call ∷ calls) = call_differences texts p A call ∷ run_differences texts p (step p A call).state calls
 
 -- the lines after differences that are applied one after another
 abbrev pub replayed : StateLines → List StateDifferences → StateLines
@@ -157,8 +158,8 @@ backwards (d ∷ ds) = backwards ds ++ state_flipped d ∷ []
 -- ---- the order of siblings
 
 -- the order of siblings in an abstract state
-abbrev pub order_in : State → Lines
-order_in A = sibling_lines (shown A).derivations
+abbrev pub order_in : Texts → State → Lines
+order_in texts A = sibling_lines texts (shown A).derivations
 
 -- slots in a row, each with the one before it
 abbrev pub in_a_row : Option ℕ → List ℕ → List Sibling
@@ -170,17 +171,17 @@ abbrev pub TellsTheOrder : Forest Entry → List ℕ → Type 0
 TellsTheOrder f slots = map (λ (slot : ℕ). (slot, in_front (siblings None f) slot)) slots ≡ in_a_row None slots
 
 -- what each call of a run changes of it, one after another, and before these what boot makes of none
-unfoldable pub run_order : ProfileName → State → List Call → List Difference
-run_order p A [] = []
-run_order p A (call ∷ calls) = differences (order_in A) (order_in (step p A call).state) ++ run_order p (step p A call).state calls
+unfoldable pub run_order : Texts → ProfileName → State → List Call → List Difference
+run_order texts p A [] = []
+run_order texts p A (call ∷ calls) = differences (order_in texts A) (order_in texts (step p A call).state) ++ run_order texts p (step p A call).state calls
 
 -- how boot and the calls of a run change the order of siblings
-abbrev pub order_differences : ProfileName → Plan → List Call → List Difference
-order_differences p plan calls = differences [] (order_in (boot p plan)) ++ run_order p (boot p plan) calls
+abbrev pub order_differences : Texts → ProfileName → Plan → List Call → List Difference
+order_differences texts p plan calls = differences [] (order_in texts (boot p plan)) ++ run_order texts p (boot p plan) calls
 
 -- all that a call changes, with the order
-abbrev pub all_changes : ProfileName → State → Call → List ℕ
-all_changes p A call = told_changes (told_lines p (shown A)) (told_lines p (shown (step p A call).state))
+abbrev pub all_changes : Texts → ProfileName → State → Call → List ℕ
+all_changes texts p A call = told_changes (told_lines texts p (shown A)) (told_lines texts p (shown (step p A call).state))
 
 -- of changes one after another, those of the lines of slots
 abbrev pub of_slots : List StateDifferences → List (List Difference)
@@ -194,16 +195,16 @@ lines_text lines = flat_map (λ (l : ℕ × List ℕ). terminated l.1) lines
 
 -- The report's lines of threads are of the threads that the trace has lines of, in that order. The two lines of a
 -- thread differ in what follows its state: the trace tells what it waits to send, and the report what it received last.
-abbrev pub TellsTheThreads : ProfileName → Shown → Type 0
-TellsTheThreads p v = flat_map (thread_line v) (line_addresses (traced_thread_lines p v)) ≡ report.thread_lines p v
+abbrev pub TellsTheThreads : Texts → ProfileName → Shown → Type 0
+TellsTheThreads texts p v = flat_map (thread_line texts v) (line_addresses (traced_thread_lines texts p v)) ≡ report.thread_lines texts p v
 
 -- the lines of endpoints, and those of CNodes that hold themselves, are the report's
-abbrev pub TellsTheEndpoints : ProfileName → Shown → Type 0
-TellsTheEndpoints p v = lines_text (traced_endpoint_lines p v) ≡ report.endpoint_lines p v
+abbrev pub TellsTheEndpoints : Texts → ProfileName → Shown → Type 0
+TellsTheEndpoints texts p v = lines_text (traced_endpoint_lines texts p v) ≡ report.endpoint_lines texts p v
 
 -- a trace has the same lines as the report of CNodes that only their own slots name
-abbrev pub TellsTheSelfheld : ProfileName → Shown → Type 0
-TellsTheSelfheld p v = lines_text (traced_selfheld_lines p (derivations_of v.derivations)) ≡ report.selfheld_lines p v
+abbrev pub TellsTheSelfheld : Texts → ProfileName → Shown → Type 0
+TellsTheSelfheld texts p v = lines_text (traced_selfheld_lines texts p (derivations_of v.derivations)) ≡ report.selfheld_lines texts p v
 
 -- the slots that hold a capability
 abbrev pub is_slot_full : Shown → ℕ → Bool
@@ -213,8 +214,8 @@ abbrev pub full_slots : Shown → List ℕ
 full_slots v = filter (is_slot_full v) (slots v.derivations)
 
 -- the slots that have a line are the full ones
-abbrev pub TellsTheSlots : Shown → Type 0
-TellsTheSlots v = line_addresses (traced_slot_lines (derivations_of v.derivations)) ≡ rising (full_slots v)
+abbrev pub TellsTheSlots : Texts → Shown → Type 0
+TellsTheSlots texts v = line_addresses (traced_slot_lines texts (derivations_of v.derivations)) ≡ rising (full_slots v)
 
 -- whether some slot stands right below one, which the trace tells by `under`
 abbrev pub is_under : ℕ → Option ℕ → Bool
@@ -226,22 +227,22 @@ has_slot_under slot list = list_any (λ (d : Derived). is_under slot d.1) list
 
 -- the report's line of a slot, by what the trace tells of it: its capability, and `children` where some slot is under
 -- it
-abbrev pub slot_line_of : List Derived → ℕ → Option Derived → List ℕ
-slot_line_of list slot None = []
-slot_line_of list slot (Some d) = terminated (report.slot_text slot d.0.cap (has_slot_under slot list))
+abbrev pub slot_line_of : Texts → List Derived → ℕ → Option Derived → List ℕ
+slot_line_of texts list slot None = []
+slot_line_of texts list slot (Some d) = terminated (report.slot_text texts slot d.0.cap (has_slot_under slot list))
 
-abbrev pub report_slot_line : List Derived → ℕ → List ℕ
-report_slot_line list slot = slot_line_of list slot (found list slot)
+abbrev pub report_slot_line : Texts → List Derived → ℕ → List ℕ
+report_slot_line texts list slot = slot_line_of texts list slot (found list slot)
 
 -- the report's lines of slots are those, of the slots that have a line
-abbrev pub TellsTheSlotLines : Shown → Type 0
-TellsTheSlotLines v =
-    flat_map (report_slot_line (derivations_of v.derivations)) (line_addresses (traced_slot_lines (derivations_of v.derivations))) ≡ report.slot_lines v
+abbrev pub TellsTheSlotLines : Texts → Shown → Type 0
+TellsTheSlotLines texts v =
+    flat_map (report_slot_line texts (derivations_of v.derivations)) (line_addresses (traced_slot_lines texts (derivations_of v.derivations))) ≡ report.slot_lines texts v
 
 -- each of them tells the capability that its slot holds, and whether the slot has a child
-abbrev pub held_slot_line : Shown → ℕ → List ℕ
-held_slot_line v slot = terminated (report.slot_text slot (cap_at v.derivations slot) (has_child slot v.derivations))
+abbrev pub held_slot_line : Texts → Shown → ℕ → List ℕ
+held_slot_line texts v slot = terminated (report.slot_text texts slot (cap_at v.derivations slot) (has_child slot v.derivations))
 
 -- a trace's lines of full slots say which capability each holds, as the report's lines do
-abbrev pub TellsTheCapabilities : Shown → Type 0
-TellsTheCapabilities v = flat_map (held_slot_line v) (rising (full_slots v)) ≡ report.slot_lines v
+abbrev pub TellsTheCapabilities : Texts → Shown → Type 0
+TellsTheCapabilities texts v = flat_map (held_slot_line texts v) (rising (full_slots v)) ≡ report.slot_lines texts v

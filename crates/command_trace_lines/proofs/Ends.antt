@@ -1,7 +1,7 @@
 -- Rows between what two lists have in common at both ends.
-use Rattle.std.proofs.Common.{◌≡◌, ℕ, ◌-◌, List, ◌++◌, drop, length, take, Result, Ok, Err, IfOk, OnOk, sym, ap, subst, ◌∙◌, arith}
+use Rattle.std.proofs.Common.{◌≡◌, ℕ, ◌+◌, ◌-◌, ◌<◌, List, ◌∷◌, ◌++◌, drop, get_or, length, take, Result, Ok, Err, IfOk, OnOk, sym, ap, subst, ◌∙◌, arith}
 use Rattle.std.specs.List.{flat_map}
-use Rattle.std.proofs.lemmas.List.{length-drop, take_all, take-append-drop}
+use Rattle.std.proofs.lemmas.List.{at_drop_more, length-drop, take_all, take-append-drop}
 use Rattle.std.proofs.lemmas.List.Concat.{flat_map-append}
 use Rattle.command_trace_lines.specs.Lines.{Lines}
 use Rattle.command_trace_lines.specs.Changes.{line_changes}
@@ -55,3 +55,19 @@ module _ {R : Type 0} (f : R → Lines) where
       let here : flat_map f xs ≡ before ++ (old ++ after) = in_three xs n b in
       let there : flat_map f ys ≡ before ++ (new ++ after) = in_three ys n b ∙ (λ i. sym front i ++ (new ++ sym back i)) in
       (λ i. line_changes (here i) (there i)) ∙ ends_apart before old new after (subst AreLinesApart here a) (subst AreLinesApart there c)
+
+-- the rows that stand last, and the one in front of them
+back_parts : {R : Type 0} (f : R → Lines) (xs : List R) (k : ℕ) (x : R) → k < length xs → x ≡ get_or xs (length xs - 1 - k) x →
+    flat_map f (drop (length xs - (k + 1)) xs) ≡ f x ++ flat_map f (drop (length xs - k) xs)
+back_parts f xs k x within is =
+    let there : length xs - 1 - k ≡ length xs - (k + 1) = omega (arith, within) in
+    let behind : (length xs - (k + 1)) + 1 ≡ length xs - k = omega (arith, within) in
+    at_drop_more (flat_map f) xs (length xs - (k + 1)) x (omega (arith, within))
+    ∙ (λ i. flat_map f (sym (is ∙ ap (λ n. get_or xs n x) there) i ∷ drop (behind i) xs))
+
+pub one_more_back : {R : Type 0} (f : R → Lines) (xs ys : List R) (k : ℕ) (x y : R) → k < length xs → k < length ys →
+    x ≡ get_or xs (length xs - 1 - k) x → y ≡ get_or ys (length ys - 1 - k) y → f x ≡ f y →
+    flat_map f (drop (length xs - k) xs) ≡ flat_map f (drop (length ys - k) ys) →
+    flat_map f (drop (length xs - (k + 1)) xs) ≡ flat_map f (drop (length ys - (k + 1)) ys)
+one_more_back f xs ys k x y a b here there same back =
+    back_parts f xs k x a here ∙ ((λ i. same i ++ back i) ∙ sym (back_parts f ys k y b there))

@@ -11,7 +11,8 @@ use Rattle.kernel_forest.specs.Entries.{Entry, slots, derivations_of}
 use Rattle.slot_core.specs.declared.derivations.Derivation.{Derivation}
 use Rattle.slot_core.specs.Calls.{derivation_view}
 use Rattle.kernel_abstract.specs.Shown.{Shown}
-use Rattle.setup_report.specs.declared.naming.NamedObject.{NamedObject}
+use Rattle.setup_report.specs.declared.live.NamedObject.{NamedObject}
+use Rattle.setup_report.specs.Naming.{Texts}
 use Rattle.setup_report.specs.State.{Derived, slot_of, found, is_in, named, holding_themselves, rising}
 use Rattle.setup_report.proofs.Addresses.Slots.{slots_are as derived_slots}
 use Rattle.command_trace_lines.specs.Lines.{Lines, address_line, traced_slot_text, slot_at, traced_slot_lines, thread_text_at, inbox_line_at, endpoint_text_at, selfheld_at, traced_selfheld_lines}
@@ -47,39 +48,39 @@ same_lines a b is q = ap (text_at q) is
 
 -- ---- full slots
 
-abbrev row_lines : List Derived → Lines
-row_lines list = map row_line list
+abbrev row_lines : Texts → List Derived → Lines
+row_lines texts list = map (row_line texts) list
 
-slot_told : (q : ℕ) (list : List Derived) → text_at q (row_lines list) ≡ slot_at list q
-slot_told q [] = refl
-slot_told q (d ∷ list) =
-    elim (slot_of d == q) as (λ b. cond b (Some (traced_slot_text d)) (text_at q (row_lines list)) ≡ option_map traced_slot_text (cond b (Some d) (found list q))) [
+slot_told : (texts : Texts) (q : ℕ) (list : List Derived) → text_at q (row_lines texts list) ≡ slot_at texts list q
+slot_told texts q [] = refl
+slot_told texts q (d ∷ list) =
+    elim (slot_of d == q) as (λ b. cond b (Some (traced_slot_text texts d)) (text_at q (row_lines texts list)) ≡ option_map (traced_slot_text texts) (cond b (Some d) (found list q))) [
       | true ↦ refl
-      | false ↦ slot_told q list
+      | false ↦ slot_told texts q list
     ]
 
-row_addresses : (list : List Derived) → line_addresses (row_lines list) ≡ map slot_of list
-row_addresses [] = refl
-row_addresses (d ∷ list) = ap (λ l. slot_of d ∷ l) (row_addresses list)
+row_addresses : (texts : Texts) (list : List Derived) → line_addresses (row_lines texts list) ≡ map slot_of list
+row_addresses texts [] = refl
+row_addresses texts (d ∷ list) = ap (λ l. slot_of d ∷ l) (row_addresses texts list)
 
-slots_told : (list : List Derived) → Same (row_lines list) (traced_slot_lines list)
-slots_told list q =
-    slot_told q list
-    ∙ sym (text_of_rising (slot_at list) q (map slot_of list) (λ e. sym (slot_told q list) ∙ not_there q (row_lines list) (ap (is_in q) (row_addresses list) ∙ e)))
+slots_told : (texts : Texts) (list : List Derived) → Same (row_lines texts list) (traced_slot_lines texts list)
+slots_told texts list q =
+    slot_told texts q list
+    ∙ sym (text_of_rising (slot_at texts list) q (map slot_of list) (λ e. sym (slot_told texts q list) ∙ not_there q (row_lines texts list) (ap (is_in q) (row_addresses texts list) ∙ e)))
 
-module _ (p : ProfileName) (v : Shown) (m : Memory) (h : ShowsMemory p v m) where
-  slots_viewed : kept_slot_lines p m ≡ row_lines (derivations_of v.derivations)
-  slots_viewed = as_map (derivation_line p) m.slots.items ∙ rows_viewed p m.slots.items ∙ ap row_lines h.slots
+module _ (texts : Texts) (p : ProfileName) (v : Shown) (m : Memory) (h : ShowsMemory texts p v m) where
+  slots_viewed : kept_slot_lines texts p m ≡ row_lines texts (derivations_of v.derivations)
+  slots_viewed = as_map (derivation_line texts p) m.slots.items ∙ rows_viewed texts p m.slots.items ∙ ap (row_lines texts) h.slots
 
-  slots_same : Same (kept_slot_lines p m) (traced_slot_lines (derivations_of v.derivations))
-  slots_same q = ap (text_at q) slots_viewed ∙ slots_told (derivations_of v.derivations) q
+  slots_same : Same (kept_slot_lines texts p m) (traced_slot_lines texts (derivations_of v.derivations))
+  slots_same q = ap (text_at q) slots_viewed ∙ slots_told texts (derivations_of v.derivations) q
 
-  pub memory_apart : IsApartMemory p m
+  pub memory_apart : IsApartMemory texts p m
   memory_apart =
       record {
         slots = subst (IsDistinct (λ (a b : ℕ). a == b))
-            (sym (ap line_addresses slots_viewed ∙ row_addresses (derivations_of v.derivations) ∙ derived_slots v.derivations)) h.apart;
-        selfheld = rises_at selfheld_at (holding_themselves p (derivations_of v.derivations)) _ h.selfheld;
+            (sym (ap line_addresses slots_viewed ∙ row_addresses texts (derivations_of v.derivations) ∙ derived_slots v.derivations)) h.apart;
+        selfheld = rises_at (selfheld_at texts) (holding_themselves p (derivations_of v.derivations)) _ h.selfheld;
       }
 
 -- ---- threads and endpoints
@@ -93,25 +94,25 @@ unfolding IsStrictlySortedBy IsDistinct
 rising_apart [] h = tt
 rising_apart (x ∷ xs) h = (off_those_above x xs h.0, rising_apart xs h.1)
 
-module _ (p : ProfileName) (v : Shown) (m : Messages) (h : ShowsMessages p v m) where
+module _ (texts : Texts) (p : ProfileName) (v : Shown) (m : Messages) (h : ShowsMessages texts p v m) where
   abbrev list : List Derived
   list = derivations_of v.derivations
 
-  threads_are : thread_rows m ≡ (lines_of_state p v).threads
-  threads_are = as_map thread_row_line m.threads.items ∙ h.threads
+  threads_are : thread_rows texts m ≡ (lines_of_state texts p v).threads
+  threads_are = as_map (thread_row_line texts) m.threads.items ∙ h.threads
 
-  inboxes_are : inbox_rows m ≡ (lines_of_state p v).inboxes
-  inboxes_are = as_map inbox_line m.inboxes.items ∙ h.inboxes
+  inboxes_are : inbox_rows texts m ≡ (lines_of_state texts p v).inboxes
+  inboxes_are = as_map (inbox_line texts) m.inboxes.items ∙ h.inboxes
 
-  endpoints_are : endpoint_rows m ≡ (lines_of_state p v).endpoints
-  endpoints_are = as_map endpoint_row_line m.endpoints.items ∙ h.endpoints
+  endpoints_are : endpoint_rows texts m ≡ (lines_of_state texts p v).endpoints
+  endpoints_are = as_map (endpoint_row_line texts) m.endpoints.items ∙ h.endpoints
 
-  pub messages_apart : IsApartMessages m
+  pub messages_apart : IsApartMessages texts m
   messages_apart =
       record {
-        threads = rising_apart _ (rises_at (thread_text_at v) (named p NamedObject.Thread list) (thread_rows m) threads_are);
-        inboxes = rising_apart _ (rises_at (inbox_line_at v) (named p NamedObject.Thread list) (inbox_rows m) inboxes_are);
-        endpoints = rising_apart _ (rises_at (endpoint_text_at v) (named p NamedObject.Endpoint list) (endpoint_rows m) endpoints_are);
+        threads = rising_apart _ (rises_at (thread_text_at texts v) (named p NamedObject.Thread list) (thread_rows texts m) threads_are);
+        inboxes = rising_apart _ (rises_at (inbox_line_at texts v) (named p NamedObject.Thread list) (inbox_rows texts m) inboxes_are);
+        endpoints = rising_apart _ (rises_at (endpoint_text_at texts v) (named p NamedObject.Endpoint list) (endpoint_rows texts m) endpoints_are);
       }
 
 -- ---- siblings
@@ -119,38 +120,38 @@ module _ (p : ProfileName) (v : Shown) (m : Messages) (h : ShowsMessages p v m) 
 abbrev first_of : Sibling → ℕ
 first_of x = x.0
 
-flat_of_map : (rows : List SiblingRow) → flat_map (λ (r : SiblingRow). sibling_line (row_view r)) rows ≡ flat_map sibling_line (map row_view rows)
-flat_of_map [] = refl
-flat_of_map (r ∷ rows) = ap (λ l. sibling_line (row_view r) ++ l) (flat_of_map rows)
+flat_of_map : (texts : Texts) (rows : List SiblingRow) → flat_map (λ (r : SiblingRow). sibling_line texts (row_view r)) rows ≡ flat_map (sibling_line texts) (map row_view rows)
+flat_of_map texts [] = refl
+flat_of_map texts (r ∷ rows) = ap (λ l. sibling_line texts (row_view r) ++ l) (flat_of_map texts rows)
 
 no_other : (o : Option (List ℕ)) → or_else o None ≡ o
 no_other None = refl
 no_other (Some t) = refl
 
-off_siblings : (q : ℕ) (xs : List Sibling) → Each (λ (y : ℕ). (q == y) ≡ false) (map first_of xs) → text_at q (flat_map sibling_line xs) ≡ None
-off_siblings q [] h = refl
-off_siblings q (x ∷ xs) h =
-    line_first q x.0 (flat_map sibling_line xs) (option_map (sibling_text x.0) x.1)
-    ∙ (λ i. or_else (cond (other_way q x.0 h.0 i) (option_map (sibling_text x.0) x.1) None) (off_siblings q xs h.1 i))
+off_siblings : (texts : Texts) (q : ℕ) (xs : List Sibling) → Each (λ (y : ℕ). (q == y) ≡ false) (map first_of xs) → text_at q (flat_map (sibling_line texts) xs) ≡ None
+off_siblings texts q [] h = refl
+off_siblings texts q (x ∷ xs) h =
+    line_first q x.0 (flat_map (sibling_line texts) xs) (option_map (sibling_text texts x.0) x.1)
+    ∙ (λ i. or_else (cond (other_way q x.0 h.0 i) (option_map (sibling_text texts x.0) x.1) None) (off_siblings texts q xs h.1 i))
 
-sibling_told : (q : ℕ) (xs : List Sibling) → IsDistinct (λ (a b : ℕ). a == b) (map first_of xs) → text_at q (flat_map sibling_line xs) ≡ sibling_at xs q
+sibling_told : (texts : Texts) (q : ℕ) (xs : List Sibling) → IsDistinct (λ (a b : ℕ). a == b) (map first_of xs) → text_at q (flat_map (sibling_line texts) xs) ≡ sibling_at texts xs q
 unfolding IsDistinct
-sibling_told q [] apart = refl
-sibling_told q (x ∷ xs) apart =
-    line_first q x.0 (flat_map sibling_line xs) (option_map (sibling_text x.0) x.1) ∙ by (sibling_told q xs apart.1) (eqb_tells x.0 q)
+sibling_told texts q [] apart = refl
+sibling_told texts q (x ∷ xs) apart =
+    line_first q x.0 (flat_map (sibling_line texts) xs) (option_map (sibling_text texts x.0) x.1) ∙ by (sibling_told texts q xs apart.1) (eqb_tells x.0 q)
   where
-    by : text_at q (flat_map sibling_line xs) ≡ sibling_at xs q → (((x.0 == q) ≡ true) × (x.0 ≡ q)) ⊎ (((x.0 == q) ≡ false) × (x.0 ≡ q → ⊥)) →
-        or_else (cond (x.0 == q) (option_map (sibling_text x.0) x.1) None) (text_at q (flat_map sibling_line xs))
-        ≡ option_map (sibling_text q) (option_and_then (λ (y : Sibling). y.1) (cond (x.0 == q) (Some x) (find (λ (y : Sibling). y.0 == q) xs)))
+    by : text_at q (flat_map (sibling_line texts) xs) ≡ sibling_at texts xs q → (((x.0 == q) ≡ true) × (x.0 ≡ q)) ⊎ (((x.0 == q) ≡ false) × (x.0 ≡ q → ⊥)) →
+        or_else (cond (x.0 == q) (option_map (sibling_text texts x.0) x.1) None) (text_at q (flat_map (sibling_line texts) xs))
+        ≡ option_map (sibling_text texts q) (option_and_then (λ (y : Sibling). y.1) (cond (x.0 == q) (Some x) (find (λ (y : Sibling). y.0 == q) xs)))
     by later (inl w) =
-        (λ i. or_else (cond (w.0 i) (option_map (sibling_text x.0) x.1) None) (off_siblings q xs (subst (λ k. Each (λ (y : ℕ). (k == y) ≡ false) (map first_of xs)) w.1 apart.0) i))
-        ∙ no_other (option_map (sibling_text x.0) x.1)
-        ∙ ap (λ k. option_map (sibling_text k) x.1) w.1
-        ∙ sym (ap (λ b. option_map (sibling_text q) (option_and_then (λ (y : Sibling). y.1) (cond b (Some x) (find (λ (y : Sibling). y.0 == q) xs)))) w.0)
+        (λ i. or_else (cond (w.0 i) (option_map (sibling_text texts x.0) x.1) None) (off_siblings texts q xs (subst (λ k. Each (λ (y : ℕ). (k == y) ≡ false) (map first_of xs)) w.1 apart.0) i))
+        ∙ no_other (option_map (sibling_text texts x.0) x.1)
+        ∙ ap (λ k. option_map (sibling_text texts k) x.1) w.1
+        ∙ sym (ap (λ b. option_map (sibling_text texts q) (option_and_then (λ (y : Sibling). y.1) (cond b (Some x) (find (λ (y : Sibling). y.0 == q) xs)))) w.0)
     by later (inr w) =
-        ap (λ b. or_else (cond b (option_map (sibling_text x.0) x.1) None) (text_at q (flat_map sibling_line xs))) w.0
+        ap (λ b. or_else (cond b (option_map (sibling_text texts x.0) x.1) None) (text_at q (flat_map (sibling_line texts) xs))) w.0
         ∙ later
-        ∙ sym (ap (λ b. option_map (sibling_text q) (option_and_then (λ (y : Sibling). y.1) (cond b (Some x) (find (λ (y : Sibling). y.0 == q) xs)))) w.0)
+        ∙ sym (ap (λ b. option_map (sibling_text texts q) (option_and_then (λ (y : Sibling). y.1) (cond b (Some x) (find (λ (y : Sibling). y.0 == q) xs)))) w.0)
 
 either_false : (a b : Bool) → (a || b) ≡ false → (a ≡ false) × (b ≡ false)
 either_false true b h = cc
@@ -162,40 +163,40 @@ none_in_front q (x ∷ xs) h =
     let both = either_false (q == x.0) (is_in q (map first_of xs)) h in
     ap (λ b. option_and_then (λ (y : Sibling). y.1) (cond b (Some x) (find (λ (y : Sibling). y.0 == q) xs))) (other_way q x.0 both.0) ∙ none_in_front q xs both.1
 
-each_line : (P : ℕ → Type 0) (xs : List Sibling) → Each P (map first_of xs) → Each P (line_addresses (flat_map sibling_line xs))
-each_line P [] h = tt
-each_line P (x ∷ xs) h =
-    elim x.1 as (λ o. Each P (line_addresses (address_line x.0 (option_map (sibling_text x.0) o) ++ flat_map sibling_line xs))) [
-      | None ↦ each_line P xs h.1
-      | Some before ↦ (h.0, each_line P xs h.1)
+each_line : (texts : Texts) (P : ℕ → Type 0) (xs : List Sibling) → Each P (map first_of xs) → Each P (line_addresses (flat_map (sibling_line texts) xs))
+each_line texts P [] h = tt
+each_line texts P (x ∷ xs) h =
+    elim x.1 as (λ o. Each P (line_addresses (address_line x.0 (option_map (sibling_text texts x.0) o) ++ flat_map (sibling_line texts) xs))) [
+      | None ↦ each_line texts P xs h.1
+      | Some before ↦ (h.0, each_line texts P xs h.1)
     ]
 
-siblings_apart : (xs : List Sibling) → IsDistinct (λ (a b : ℕ). a == b) (map first_of xs) → AreLinesApart (flat_map sibling_line xs)
+siblings_apart : (texts : Texts) (xs : List Sibling) → IsDistinct (λ (a b : ℕ). a == b) (map first_of xs) → AreLinesApart (flat_map (sibling_line texts) xs)
 unfolding IsDistinct
-siblings_apart [] h = tt
-siblings_apart (x ∷ xs) h =
-    elim x.1 as (λ o. AreLinesApart (address_line x.0 (option_map (sibling_text x.0) o) ++ flat_map sibling_line xs)) [
-      | None ↦ siblings_apart xs h.1
-      | Some before ↦ (each_line (λ y. (x.0 == y) ≡ false) xs h.0, siblings_apart xs h.1)
+siblings_apart texts [] h = tt
+siblings_apart texts (x ∷ xs) h =
+    elim x.1 as (λ o. AreLinesApart (address_line x.0 (option_map (sibling_text texts x.0) o) ++ flat_map (sibling_line texts) xs)) [
+      | None ↦ siblings_apart texts xs h.1
+      | Some before ↦ (each_line texts (λ y. (x.0 == y) ≡ false) xs h.0, siblings_apart texts xs h.1)
     ]
 
-module _ (f : Forest Entry) (rows : List SiblingRow) (is : map row_view rows ≡ siblings None f) (apart : IsDistinct (λ (a b : ℕ). a == b) (slots f)) where
+module _ (texts : Texts) (f : Forest Entry) (rows : List SiblingRow) (is : map row_view rows ≡ siblings None f) (apart : IsDistinct (λ (a b : ℕ). a == b) (slots f)) where
   abbrev order : List Sibling
   order = siblings None f
 
   order_apart : IsDistinct (λ (a b : ℕ). a == b) (map first_of order)
   order_apart = subst (IsDistinct (λ (a b : ℕ). a == b)) (sym (slots_are f)) apart
 
-  order_viewed : flat_map (λ (r : SiblingRow). sibling_line (row_view r)) rows ≡ flat_map sibling_line order
-  order_viewed = flat_of_map rows ∙ ap (flat_map sibling_line) is
+  order_viewed : flat_map (λ (r : SiblingRow). sibling_line texts (row_view r)) rows ≡ flat_map (sibling_line texts) order
+  order_viewed = flat_of_map texts rows ∙ ap (flat_map (sibling_line texts)) is
 
-  pub order_is_apart : AreLinesApart (flat_map (λ (r : SiblingRow). sibling_line (row_view r)) rows)
-  order_is_apart = subst AreLinesApart (sym order_viewed) (siblings_apart order order_apart)
+  pub order_is_apart : AreLinesApart (flat_map (λ (r : SiblingRow). sibling_line texts (row_view r)) rows)
+  order_is_apart = subst AreLinesApart (sym order_viewed) (siblings_apart texts order order_apart)
 
-  order_same : Same (flat_map (λ (r : SiblingRow). sibling_line (row_view r)) rows) (sibling_lines f)
+  order_same : Same (flat_map (λ (r : SiblingRow). sibling_line texts (row_view r)) rows) (sibling_lines texts f)
   order_same q =
-      ap (text_at q) order_viewed ∙ sibling_told q order order_apart
-      ∙ sym (text_of_rising (sibling_at order) q (slots f) (λ e. ap (option_map (sibling_text q)) (none_in_front q order (ap (is_in q) (slots_are f) ∙ e))))
+      ap (text_at q) order_viewed ∙ sibling_told texts q order order_apart
+      ∙ sym (text_of_rising (sibling_at texts order) q (slots f) (λ e. ap (option_map (sibling_text texts q)) (none_in_front q order (ap (is_in q) (slots_are f) ∙ e))))
 
 -- the rows that a walk finds are those of the forest
 pub walk_is : (p : ProfileName) (slots_there : List Derivation) (rows : List SiblingRow) (f : Forest Entry) → map row_view rows ≡ siblings_walked [] (map (derivation_view p) slots_there) →
@@ -208,9 +209,9 @@ pub same_slots : (v w : Shown) → derivations_of w.derivations ≡ derivations_
 same_slots v w is a b =
     record { list = is; order = sym (walked_is w.derivations b) ∙ ap (siblings_walked []) is ∙ walked_is v.derivations a }
 
-pub slots_stay : (p : ProfileName) (v w : Shown) (told : Told) (old new : List Derivation) → IsStateTold p v told → old ≡ told.view.memory.slots.items →
+pub slots_stay : (texts : Texts) (p : ProfileName) (v w : Shown) (told : Told) (old new : List Derivation) → IsStateTold texts p v told → old ≡ told.view.memory.slots.items →
     map (derivation_view p) old ≡ map (derivation_view p) new → map (derivation_view p) new ≡ derivations_of w.derivations → IsDistinct (λ (a b : ℕ). a == b) (slots w.derivations) → HaveSameSlots v w
-slots_stay p v w told old new h is same there apart =
+slots_stay texts p v w told old new h is same there apart =
     same_slots v w (sym there ∙ sym same ∙ ap (map (derivation_view p)) is ∙ h.view.memory.slots) h.view.memory.apart apart
 
 pub same_forest : (v w : Shown) → w.derivations ≡ v.derivations → HaveSameSlots v w
@@ -218,12 +219,12 @@ same_forest v w is = record { list = ap (λ f. derivations_of f) is; order = ap 
 
 -- ---- all that is kept
 
-pub view_apart : (p : ProfileName) (v : Shown) (view : View) → IsViewOf p v view → IsApartView p view
-view_apart p v view h = record { memory = memory_apart p v view.memory h.memory; messages = messages_apart p v view.messages h.messages }
+pub view_apart : (texts : Texts) (p : ProfileName) (v : Shown) (view : View) → IsViewOf texts p v view → IsApartView texts p view
+view_apart texts p v view h = record { memory = memory_apart texts p v view.memory h.memory; messages = messages_apart texts p v view.messages h.messages }
 
-pub told_apart : (p : ProfileName) (v : Shown) (told : Told) → IsStateTold p v told → IsApartTold p told
-told_apart p v told h =
-    record { view = view_apart p v told.view h.view; siblings = order_is_apart v.derivations told.siblings.items h.siblings h.view.memory.apart }
+pub told_apart : (texts : Texts) (p : ProfileName) (v : Shown) (told : Told) → IsStateTold texts p v told → IsApartTold texts p told
+told_apart texts p v told h =
+    record { view = view_apart texts p v told.view h.view; siblings = order_is_apart texts v.derivations told.siblings.items h.siblings h.view.memory.apart }
 
 record SameState (a b : StateLines) : Type 0 where
   threads : Same a.threads b.threads
@@ -232,13 +233,13 @@ record SameState (a b : StateLines) : Type 0 where
   slots : Same a.slots b.slots
   selfheld : Same a.selfheld b.selfheld
 
-view_same : (p : ProfileName) (v : Shown) (view : View) → IsViewOf p v view → SameState (view_rows p view) (lines_of_state p v)
-view_same p v view h =
+view_same : (texts : Texts) (p : ProfileName) (v : Shown) (view : View) → IsViewOf texts p v view → SameState (view_rows texts p view) (lines_of_state texts p v)
+view_same texts p v view h =
     record {
-      threads = same_lines _ _ (threads_are p v view.messages h.messages);
-      inboxes = same_lines _ _ (inboxes_are p v view.messages h.messages);
-      endpoints = same_lines _ _ (endpoints_are p v view.messages h.messages);
-      slots = slots_same p v view.memory h.memory;
+      threads = same_lines _ _ (threads_are texts p v view.messages h.messages);
+      inboxes = same_lines _ _ (inboxes_are texts p v view.messages h.messages);
+      endpoints = same_lines _ _ (endpoints_are texts p v view.messages h.messages);
+      slots = slots_same texts p v view.memory h.memory;
       selfheld = same_lines _ _ h.memory.selfheld;
     }
 
@@ -250,14 +251,14 @@ changes_same a b c d h k =
     ++ (told_of_same a.slots b.slots c.slots d.slots h.slots k.slots i
     ++ told_of_same a.selfheld b.selfheld c.selfheld d.selfheld h.selfheld k.selfheld i)))
 
-pub view_changes : (p : ProfileName) (v w : Shown) (a b : View) → IsViewOf p v a → IsViewOf p w b → changes (view_rows p a) (view_rows p b) ≡ changes (lines_of_state p v) (lines_of_state p w)
-view_changes p v w a b h k = changes_same (view_rows p a) (view_rows p b) (lines_of_state p v) (lines_of_state p w) (view_same p v a h) (view_same p w b k)
+pub view_changes : (texts : Texts) (p : ProfileName) (v w : Shown) (a b : View) → IsViewOf texts p v a → IsViewOf texts p w b → changes (view_rows texts p a) (view_rows texts p b) ≡ changes (lines_of_state texts p v) (lines_of_state texts p w)
+view_changes texts p v w a b h k = changes_same (view_rows texts p a) (view_rows texts p b) (lines_of_state texts p v) (lines_of_state texts p w) (view_same texts p v a h) (view_same texts p w b k)
 
-pub kept_changes : (p : ProfileName) (v w : Shown) (a b : Told) → IsStateTold p v a → IsStateTold p w b → told_changes (told_rows p a) (told_rows p b) ≡ told_changes (told_lines p v) (told_lines p w)
-kept_changes p v w a b h k =
-    λ i. view_changes p v w a.view b.view h.view k.view i
-    ++ told_of_same (sibling_rows a) (sibling_rows b) (sibling_lines v.derivations) (sibling_lines w.derivations)
-    (order_same v.derivations a.siblings.items h.siblings h.view.memory.apart) (order_same w.derivations b.siblings.items k.siblings k.view.memory.apart) i
+pub kept_changes : (texts : Texts) (p : ProfileName) (v w : Shown) (a b : Told) → IsStateTold texts p v a → IsStateTold texts p w b → told_changes (told_rows texts p a) (told_rows texts p b) ≡ told_changes (told_lines texts p v) (told_lines texts p w)
+kept_changes texts p v w a b h k =
+    λ i. view_changes texts p v w a.view b.view h.view k.view i
+    ++ told_of_same (sibling_rows texts a) (sibling_rows texts b) (sibling_lines texts v.derivations) (sibling_lines texts w.derivations)
+    (order_same texts v.derivations a.siblings.items h.siblings h.view.memory.apart) (order_same texts w.derivations b.siblings.items k.siblings k.view.memory.apart) i
 
 itself : (l : Lines) → Same l l
 itself l q = refl
@@ -265,11 +266,11 @@ itself l q = refl
 state_itself : (s : StateLines) → SameState s s
 state_itself s = record { threads = itself s.threads; inboxes = itself s.inboxes; endpoints = itself s.endpoints; slots = itself s.slots; selfheld = itself s.selfheld }
 
-pub first_changes : (p : ProfileName) (w : Shown) (a b : Told) → told_rows p a ≡ nothing_told → IsStateTold p w b → told_changes (told_rows p a) (told_rows p b) ≡ told_changes nothing_told (told_lines p w)
-first_changes p w a b none k =
-    ap (λ t. told_changes t (told_rows p b)) none
-    ∙ (λ i. changes_same nothing_told.state (view_rows p b.view) nothing_told.state (lines_of_state p w) (state_itself nothing_told.state) (view_same p w b.view k.view) i
-    ++ told_of_same nothing_told.siblings (sibling_rows b) nothing_told.siblings (sibling_lines w.derivations) (itself nothing_told.siblings) (order_same w.derivations b.siblings.items k.siblings k.view.memory.apart) i)
+pub first_changes : (texts : Texts) (p : ProfileName) (w : Shown) (a b : Told) → told_rows texts p a ≡ nothing_told → IsStateTold texts p w b → told_changes (told_rows texts p a) (told_rows texts p b) ≡ told_changes nothing_told (told_lines texts p w)
+first_changes texts p w a b none k =
+    ap (λ t. told_changes t (told_rows texts p b)) none
+    ∙ (λ i. changes_same nothing_told.state (view_rows texts p b.view) nothing_told.state (lines_of_state texts p w) (state_itself nothing_told.state) (view_same texts p w b.view k.view) i
+    ++ told_of_same nothing_told.siblings (sibling_rows texts b) nothing_told.siblings (sibling_lines texts w.derivations) (itself nothing_told.siblings) (order_same texts w.derivations b.siblings.items k.siblings k.view.memory.apart) i)
 
 -- of nothing there is no line
 none_apart : (l : Lines) → l ≡ [] → AreLinesApart l
@@ -286,8 +287,8 @@ none_rise l is = subst (λ m. IsStrictlySortedBy nat_cmp (line_addresses m)) (sy
     nil : IsStrictlySortedBy nat_cmp []
     nil = tt
 
-pub nothing_apart : (p : ProfileName) (told : Told) → told_rows p told ≡ nothing_told → IsApartTold p told
-nothing_apart p told is =
+pub nothing_apart : (texts : Texts) (p : ProfileName) (told : Told) → told_rows texts p told ≡ nothing_told → IsApartTold texts p told
+nothing_apart texts p told is =
     record {
       view = record {
         memory = record {
@@ -308,32 +309,32 @@ nothing_apart p told is =
 abbrev pub with_messages : Told → Messages → Told
 with_messages told new = record { view = record { memory = told.view.memory; messages = new }; siblings = told.siblings }
 
-pub still_shows : (p : ProfileName) (v w : Shown) (m : Memory) → HaveSameSlots v w → ShowsMemory p v m → ShowsMemory p w m
-still_shows p v w m same h =
+pub still_shows : (texts : Texts) (p : ProfileName) (v w : Shown) (m : Memory) → HaveSameSlots v w → ShowsMemory texts p v m → ShowsMemory texts p w m
+still_shows texts p v w m same h =
     record {
       threads = h.threads ∙ ap (λ list. rising (named p NamedObject.Thread list)) (sym same.list);
       endpoints = h.endpoints ∙ ap (λ list. rising (named p NamedObject.Endpoint list)) (sym same.list);
       slots = h.slots ∙ sym same.list;
       apart = subst (IsDistinct (λ (a b : ℕ). a == b)) (sym (derived_slots v.derivations) ∙ ap (map slot_of) (sym same.list) ∙ derived_slots w.derivations) h.apart;
-      selfheld = h.selfheld ∙ ap (traced_selfheld_lines p) (sym same.list);
+      selfheld = h.selfheld ∙ ap (traced_selfheld_lines texts p) (sym same.list);
     }
 
-pub still_told : (p : ProfileName) (v w : Shown) (told : Told) (new : Messages) → HaveSameSlots v w → IsStateTold p v told → ShowsMessages p w new → IsStateTold p w (with_messages told new)
-still_told p v w told new same h k =
-    record { view = record { memory = still_shows p v w told.view.memory same h.view.memory; messages = k }; siblings = h.siblings ∙ sym same.order }
+pub still_told : (texts : Texts) (p : ProfileName) (v w : Shown) (told : Told) (new : Messages) → HaveSameSlots v w → IsStateTold texts p v told → ShowsMessages texts p w new → IsStateTold texts p w (with_messages told new)
+still_told texts p v w told new same h k =
+    record { view = record { memory = still_shows texts p v w told.view.memory same h.view.memory; messages = k }; siblings = h.siblings ∙ sym same.order }
 
-messages_alone : (p : ProfileName) (told : Told) (new : Messages) → message_changes told.view.messages new ≡ told_changes (told_rows p told) (told_rows p (with_messages told new))
-messages_alone p told new =
-    let threads = line_changes (thread_rows told.view.messages) (thread_rows new) in
-    let inboxes = line_changes (inbox_rows told.view.messages) (inbox_rows new) in
-    let endpoints = line_changes (endpoint_rows told.view.messages) (endpoint_rows new) in
+messages_alone : (texts : Texts) (p : ProfileName) (told : Told) (new : Messages) → message_changes texts told.view.messages new ≡ told_changes (told_rows texts p told) (told_rows texts p (with_messages told new))
+messages_alone texts p told new =
+    let threads = line_changes (thread_rows texts told.view.messages) (thread_rows texts new) in
+    let inboxes = line_changes (inbox_rows texts told.view.messages) (inbox_rows texts new) in
+    let endpoints = line_changes (endpoint_rows texts told.view.messages) (endpoint_rows texts new) in
     sym (
-    (λ i. (threads ++ (inboxes ++ (endpoints ++ (no_line_changes (kept_slot_lines p told.view.memory) (kept_slot_lines p told.view.memory) refl i
+    (λ i. (threads ++ (inboxes ++ (endpoints ++ (no_line_changes (kept_slot_lines texts p told.view.memory) (kept_slot_lines texts p told.view.memory) refl i
     ++ no_line_changes (lines_seen told.view.memory.selfheld.items) (lines_seen told.view.memory.selfheld.items) refl i))))
-    ++ no_line_changes (sibling_rows told) (sibling_rows told) refl i)
+    ++ no_line_changes (sibling_rows texts told) (sibling_rows texts told) refl i)
     ∙ append-nil (threads ++ (inboxes ++ (endpoints ++ [])))
     ∙ ap (λ l. threads ++ (inboxes ++ l)) (append-nil endpoints))
 
-pub messages_told : (p : ProfileName) (v w : Shown) (told : Told) (new : Messages) → HaveSameSlots v w → IsStateTold p v told → ShowsMessages p w new →
-    message_changes told.view.messages new ≡ told_changes (told_lines p v) (told_lines p w)
-messages_told p v w told new same h k = messages_alone p told new ∙ kept_changes p v w told (with_messages told new) h (still_told p v w told new same h k)
+pub messages_told : (texts : Texts) (p : ProfileName) (v w : Shown) (told : Told) (new : Messages) → HaveSameSlots v w → IsStateTold texts p v told → ShowsMessages texts p w new →
+    message_changes texts told.view.messages new ≡ told_changes (told_lines texts p v) (told_lines texts p w)
+messages_told texts p v w told new same h k = messages_alone texts p told new ∙ kept_changes texts p v w told (with_messages told new) h (still_told texts p v w told new same h k)

@@ -8,6 +8,7 @@ use Rattle.cap_core.specs.declared.profile.ProfileName.{ProfileName}
 use Rattle.slot_core.specs.declared.derivations.Derivation.{Derivation}
 use Rattle.slot_core.specs.Calls.{derivation_view}
 use Rattle.setup_report.specs.State.{Derived, slot_of, found}
+use Rattle.setup_report.specs.Naming.{Texts}
 use Rattle.command_trace_lines.specs.Lines.{traced_slot_text}
 use Rattle.command_trace_lines.specs.Private.Listed.{derivation_line}
 
@@ -37,9 +38,9 @@ found_is (e ∷ list) slot d is =
       | false ↦ λ other there. found_is list slot d there
     ] refl is
 
-abbrev pub row_line : Derived → ℕ × List ℕ
-row_line d = (slot_of d, traced_slot_text d)
+abbrev pub row_line : Texts → Derived → ℕ × List ℕ
+row_line texts d = (slot_of d, traced_slot_text texts d)
 
-pub rows_viewed : (p : ProfileName) (slots : List Derivation) → map (derivation_line p) slots ≡ map row_line (map (derivation_view p) slots)
-rows_viewed p [] = refl
-rows_viewed p (d ∷ slots) = ap (λ l. derivation_line p d ∷ l) (rows_viewed p slots)
+pub rows_viewed : (texts : Texts) (p : ProfileName) (slots : List Derivation) → map (derivation_line texts p) slots ≡ map (row_line texts) (map (derivation_view p) slots)
+rows_viewed texts p [] = refl
+rows_viewed texts p (d ∷ slots) = ap (λ l. derivation_line texts p d ∷ l) (rows_viewed texts p slots)

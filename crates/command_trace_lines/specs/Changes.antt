@@ -6,6 +6,7 @@ use Rattle.cap_core.specs.declared.profile.ProfileName.{ProfileName}
 use Rattle.kernel_forest.specs.Entries.{derivations_of}
 use Rattle.kernel_abstract.specs.Shown.{Shown}
 use Rattle.setup_report.specs.State.{rising}
+use Rattle.setup_report.specs.Naming.{Texts}
 use Rattle.setup_report.specs.Report.{terminated}
 use Rattle.command_trace_lines.specs.Lines.{Lines, traced_thread_lines, inbox_lines, traced_endpoint_lines, traced_slot_lines, traced_selfheld_lines}
 
@@ -50,14 +51,14 @@ pub record StateLines : Type 0 where
   pub selfheld : Lines
 
 -- the lines of a state, by address, for each sort of line
-abbrev pub lines_of_state : ProfileName → Shown → StateLines
-lines_of_state p v =
+abbrev pub lines_of_state : Texts → ProfileName → Shown → StateLines
+lines_of_state texts p v =
     record {
-      threads = traced_thread_lines p v;
-      inboxes = inbox_lines p v;
-      endpoints = traced_endpoint_lines p v;
-      slots = traced_slot_lines (derivations_of v.derivations);
-      selfheld = traced_selfheld_lines p (derivations_of v.derivations);
+      threads = traced_thread_lines texts p v;
+      inboxes = inbox_lines texts p v;
+      endpoints = traced_endpoint_lines texts p v;
+      slots = traced_slot_lines texts (derivations_of v.derivations);
+      selfheld = traced_selfheld_lines texts p (derivations_of v.derivations);
     }
 
 -- a state that is not there has no lines

@@ -2,10 +2,10 @@
 -- has another one in front of it.
 use Rattle.std.specs.Prelude.{codes, ℕ, ◌==◌, List, [], ◌∷◌, ◌++◌, Option, Some, None, option_and_then, option_map}
 use Rattle.std.specs.List.{find}
-use Rattle.std.specs.Fmt.{decimal}
 use Rattle.kernel_forest.specs.Forest.{Forest}
 use Rattle.kernel_forest.specs.Forest.Forest.{none, tree}
 use Rattle.kernel_forest.specs.Entries.{Entry, slots}
+use Rattle.setup_report.specs.Naming.{Texts}
 use Rattle.command_trace_lines.specs.Lines.{Lines, lines_at}
 use Rattle.command_trace_lines.specs.declared.siblings.SiblingRow.{SiblingRow}
 
@@ -25,12 +25,12 @@ siblings before (tree e under others) = (e.slot, before) ∷ (siblings None unde
 abbrev pub in_front : List Sibling → ℕ → Option ℕ
 in_front list slot = option_and_then (λ (x : Sibling). x.1) (find (λ (x : Sibling). x.0 == slot) list)
 
-abbrev pub sibling_text : ℕ → ℕ → List ℕ
-sibling_text slot before = codes "sibling " ++ (decimal slot ++ (codes " after " ++ decimal before))
+abbrev pub sibling_text : Texts → ℕ → ℕ → List ℕ
+sibling_text texts slot before = codes "sibling " ++ (texts.slot slot ++ (codes " after " ++ texts.slot before))
 
-abbrev pub sibling_at : List Sibling → ℕ → Option (List ℕ)
-sibling_at list slot = option_map (sibling_text slot) (in_front list slot)
+abbrev pub sibling_at : Texts → List Sibling → ℕ → Option (List ℕ)
+sibling_at texts list slot = option_map (sibling_text texts slot) (in_front list slot)
 
 -- a line for each full slot: after which sibling it comes
-abbrev pub sibling_lines : Forest Entry → Lines
-sibling_lines f = lines_at (sibling_at (siblings None f)) (slots f)
+abbrev pub sibling_lines : Texts → Forest Entry → Lines
+sibling_lines texts f = lines_at (sibling_at texts (siblings None f)) (slots f)

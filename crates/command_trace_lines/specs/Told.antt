@@ -2,6 +2,7 @@
 use Rattle.std.specs.Prelude.{ℕ, List, [], ◌++◌}
 use Rattle.cap_core.specs.declared.profile.ProfileName.{ProfileName}
 use Rattle.kernel_abstract.specs.Shown.{Shown}
+use Rattle.setup_report.specs.Naming.{Texts}
 use Rattle.command_trace_lines.specs.Lines.{Lines}
 use Rattle.command_trace_lines.specs.Siblings.{sibling_lines}
 use Rattle.command_trace_lines.specs.Changes.{StateLines, lines_of_state, no_lines, line_changes, changes}
@@ -11,8 +12,8 @@ pub record ToldLines : Type 0 where
   pub siblings : Lines
 
 -- what a trace prints of a state: its lines, and the order of siblings
-abbrev pub told_lines : ProfileName → Shown → ToldLines
-told_lines p v = record { state = lines_of_state p v; siblings = sibling_lines v.derivations }
+abbrev pub told_lines : Texts → ProfileName → Shown → ToldLines
+told_lines texts p v = record { state = lines_of_state texts p v; siblings = sibling_lines texts v.derivations }
 
 -- of a state that is not there nothing is written
 abbrev pub nothing_told : ToldLines

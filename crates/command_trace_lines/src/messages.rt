@@ -1,6 +1,7 @@
 //! The lines of threads, of what was delivered to them, and of endpoints.
-ghost use Rattle.std.specs.Prelude.{◌≡◌, ◌++◌, ◌∷◌, [], IfOk, IsTrue, OnOk, Some, map};
+ghost use Rattle.std.specs.Prelude.{◌≡◌, ◌++◌, ◌∷◌, [], IfOk, IsTrue, OnOk, map};
 ghost use Rattle.std.specs.List.{flat_map};
+ghost use Rattle.setup_report.specs.Naming.{Texts};
 ghost use Rattle.command_trace_lines.specs.Lines as spec;
 ghost use Rattle.command_trace_lines.specs.Views.{endpoint_row_line, inbox_line, thread_row_line};
 
@@ -9,11 +10,26 @@ use crate::rows::Row;
 use crate::text::{InboxText, ThreadText};
 use cap_core::Profile;
 use ipc_core::{Offer, Waiters};
-use kernel_core::Kernel;
-use setup_report::{EndpointLine, first_sends, waiting_threads};
+use kernel_core::{Inbox, Kernel, ThreadState};
+use setup_report::{EndpointLine, Naming, first_sends, waiting_threads};
 use slot_core::CapStore;
 use std::alloc::{AllocError, Global};
 use std::collections::BTreeSet;
+
+/// A live thread, and what it sends where it waits to send.
+#[derive(Clone, Copy)]
+pub struct ThreadRow {
+    pub address: u64,
+    pub state: ThreadState,
+    pub offer: Option<Offer>,
+}
+
+/// The last message that was delivered to a thread.
+#[derive(Clone, Copy)]
+pub struct InboxRow {
+    pub address: u64,
+    pub inbox: Inbox,
+}
 
 /// A live endpoint, the threads that wait on it, the first to be served first, and whether they send.
 #[derive(Drop)]
@@ -35,40 +51,61 @@ fn is_same_offer(one: Option<Offer>, other: Option<Offer>) -> bool
     }
 }
 
-impl<P: Profile> Row<P> for ThreadText {
-    ghost lines = { λ t. thread_row_line t ∷ [] };
+impl<P: Profile> Row<P> for ThreadRow {
+    ghost lines = { λ texts t. thread_row_line texts t ∷ [] };
 
-    fn is_same(&self, other: &ThreadText) -> bool {
+    fn is_same(&self, other: &ThreadRow) -> bool {
         self.address == other.address
             && self.state == other.state
             && is_same_offer(self.offer, other.offer)
     }
 
-    fn add_line(&self, alloc: Global, out: &mut Vec<StateLine>) -> Result<(), AllocError> {
+    fn add_line(
+        &self,
+        alloc: Global,
+        naming: &Naming<'_>,
+        out: &mut Vec<StateLine>,
+    ) -> Result<(), AllocError> {
         let address = self.address;
-        let text = self.to_string(alloc)?;
+        let line = ThreadText {
+            naming,
+            address,
+            state: self.state,
+            offer: self.offer,
+        };
+        let text = line.to_string(alloc)?;
         out.push(StateLine { address, text })?;
         Ok(())
     }
 }
 
-impl<P: Profile> Row<P> for InboxText {
-    ghost lines = { λ i. inbox_line i ∷ [] };
+impl<P: Profile> Row<P> for InboxRow {
+    ghost lines = { λ texts i. inbox_line texts i ∷ [] };
 
-    fn is_same(&self, other: &InboxText) -> bool {
+    fn is_same(&self, other: &InboxRow) -> bool {
         self.address == other.address && self.inbox == other.inbox
     }
 
-    fn add_line(&self, alloc: Global, out: &mut Vec<StateLine>) -> Result<(), AllocError> {
-        let address = self.address;
-        let text = self.to_string(alloc)?;
+    fn add_line(
+        &self,
+        alloc: Global,
+        naming: &Naming<'_>,
+        out: &mut Vec<StateLine>,
+    ) -> Result<(), AllocError> {
+        let (address, inbox) = (self.address, self.inbox);
+        let line = InboxText {
+            naming,
+            address,
+            inbox,
+        };
+        let text = line.to_string(alloc)?;
         out.push(StateLine { address, text })?;
         Ok(())
     }
 }
 
 impl<P: Profile> Row<P> for EndpointRow {
-    ghost lines = { λ e. endpoint_row_line e ∷ [] };
+    ghost lines = { λ texts e. endpoint_row_line texts e ∷ [] };
 
     fn is_same(&self, other: &EndpointRow) -> bool {
         self.address == other.address
@@ -76,9 +113,15 @@ impl<P: Profile> Row<P> for EndpointRow {
             && self.threads.as_slice() == other.threads.as_slice()
     }
 
-    fn add_line(&self, alloc: Global, out: &mut Vec<StateLine>) -> Result<(), AllocError> {
+    fn add_line(
+        &self,
+        alloc: Global,
+        naming: &Naming<'_>,
+        out: &mut Vec<StateLine>,
+    ) -> Result<(), AllocError> {
         let address = self.address;
         let line = EndpointLine {
+            naming: &*naming,
             address,
             sending: self.sending,
             threads: self.threads.as_slice(),
@@ -90,18 +133,18 @@ impl<P: Profile> Row<P> for EndpointRow {
 }
 
 fn add_thread<P: Profile, S: CapStore<P> + Drop, W: Waiters<P> + Drop>(
-    rows: &mut Vec<ThreadText>,
+    rows: &mut Vec<ThreadRow>,
     address: u64,
     kernel: &Kernel<P, S, W>,
 ) -> Result<(), AllocError>
-    ensures { OnOk result (map thread_row_line rows.new.items ≡ map thread_row_line rows.old.items
-        ++ spec.line_at (spec.thread_text_at kernel.now) address) }
+    ensures { OnOk result ((texts : Texts) → map (thread_row_line texts) rows.new.items ≡ map (thread_row_line texts) rows.old.items
+        ++ spec.line_at (spec.thread_text_at texts kernel.now) address) }
 {
     let Some(state) = kernel.thread_state(address) else {
         return Ok(());
     };
     let offer = kernel.offer(address);
-    rows.push(ThreadText {
+    rows.push(ThreadRow {
         address,
         state,
         offer,
@@ -118,9 +161,9 @@ pub fn thread_rows<P: Profile, S: CapStore<P> + Drop, W: Waiters<P> + Drop>(
     alloc: Global,
     threads: &BTreeSet<u64>,
     kernel: &Kernel<P, S, W>,
-) -> Result<Vec<ThreadText>, AllocError>
-    ensures { IfOk result (λ v. map thread_row_line v.items
-        ≡ flat_map (spec.line_at (spec.thread_text_at kernel.now)) threads.now.keys) }
+) -> Result<Vec<ThreadRow>, AllocError>
+    ensures { IfOk result (λ v. (texts : Texts) → map (thread_row_line texts) v.items
+        ≡ flat_map (spec.line_at (spec.thread_text_at texts kernel.now)) threads.now.keys) }
 {
     let mut rows = Vec::new(alloc);
     for thread in threads {
@@ -130,17 +173,17 @@ pub fn thread_rows<P: Profile, S: CapStore<P> + Drop, W: Waiters<P> + Drop>(
 }
 
 fn add_inbox<P: Profile, S: CapStore<P> + Drop, W: Waiters<P> + Drop>(
-    rows: &mut Vec<InboxText>,
+    rows: &mut Vec<InboxRow>,
     address: u64,
     kernel: &Kernel<P, S, W>,
 ) -> Result<(), AllocError>
-    ensures { OnOk result (map inbox_line rows.new.items ≡ map inbox_line rows.old.items
-        ++ spec.line_at (spec.inbox_line_at kernel.now) address) }
+    ensures { OnOk result ((texts : Texts) → map (inbox_line texts) rows.new.items ≡ map (inbox_line texts) rows.old.items
+        ++ spec.line_at (spec.inbox_line_at texts kernel.now) address) }
 {
     let Some(inbox) = kernel.inbox(address) else {
         return Ok(());
     };
-    rows.push(InboxText { address, inbox })?;
+    rows.push(InboxRow { address, inbox })?;
     Ok(())
 }
 
@@ -153,9 +196,9 @@ pub fn inbox_rows<P: Profile, S: CapStore<P> + Drop, W: Waiters<P> + Drop>(
     alloc: Global,
     threads: &BTreeSet<u64>,
     kernel: &Kernel<P, S, W>,
-) -> Result<Vec<InboxText>, AllocError>
-    ensures { IfOk result (λ v. map inbox_line v.items
-        ≡ flat_map (spec.line_at (spec.inbox_line_at kernel.now)) threads.now.keys) }
+) -> Result<Vec<InboxRow>, AllocError>
+    ensures { IfOk result (λ v. (texts : Texts) → map (inbox_line texts) v.items
+        ≡ flat_map (spec.line_at (spec.inbox_line_at texts kernel.now)) threads.now.keys) }
 {
     let mut rows = Vec::new(alloc);
     for thread in threads {
@@ -169,7 +212,7 @@ fn endpoint_row<P: Profile, S: CapStore<P> + Drop, W: Waiters<P> + Drop>(
     address: u64,
     kernel: &Kernel<P, S, W>,
 ) -> Result<EndpointRow, AllocError>
-    ensures { IfOk result (λ row. endpoint_row_line row ∷ [] ≡ spec.line_at (spec.endpoint_text_at kernel.now) address) }
+    ensures { IfOk result (λ row. (texts : Texts) → endpoint_row_line texts row ∷ [] ≡ spec.line_at (spec.endpoint_text_at texts kernel.now) address) }
 {
     Ok(EndpointRow {
         address,
@@ -184,8 +227,8 @@ fn add_endpoint<P: Profile, S: CapStore<P> + Drop, W: Waiters<P> + Drop>(
     address: u64,
     kernel: &Kernel<P, S, W>,
 ) -> Result<(), AllocError>
-    ensures { OnOk result (map endpoint_row_line rows.new.items ≡ map endpoint_row_line rows.old.items
-        ++ spec.line_at (spec.endpoint_text_at kernel.now) address) }
+    ensures { OnOk result ((texts : Texts) → map (endpoint_row_line texts) rows.new.items ≡ map (endpoint_row_line texts) rows.old.items
+        ++ spec.line_at (spec.endpoint_text_at texts kernel.now) address) }
 {
     let row = endpoint_row::<P, S, W>(alloc, address, kernel)?;
     rows.push(row)?;
@@ -202,8 +245,8 @@ pub fn endpoint_rows<P: Profile, S: CapStore<P> + Drop, W: Waiters<P> + Drop>(
     endpoints: &BTreeSet<u64>,
     kernel: &Kernel<P, S, W>,
 ) -> Result<Vec<EndpointRow>, AllocError>
-    ensures { IfOk result (λ v. map endpoint_row_line v.items
-        ≡ flat_map (spec.line_at (spec.endpoint_text_at kernel.now)) endpoints.now.keys) }
+    ensures { IfOk result (λ v. (texts : Texts) → map (endpoint_row_line texts) v.items
+        ≡ flat_map (spec.line_at (spec.endpoint_text_at texts kernel.now)) endpoints.now.keys) }
 {
     let mut rows = Vec::new(alloc);
     for endpoint in endpoints {

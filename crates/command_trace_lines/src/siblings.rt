@@ -8,6 +8,7 @@ ghost use Rattle.command_trace_lines.specs.Private.Path.{cut, path_to, sibling_b
 use crate::changes::StateLine;
 use crate::rows::Row;
 use cap_core::Profile;
+use setup_report::Naming;
 use slot_core::Derivation;
 use std::alloc::{AllocError, Global};
 
@@ -81,18 +82,24 @@ pub fn siblings<P: Profile>(
 }
 
 impl<P: Profile> Row<P> for SiblingRow {
-    ghost lines = { λ r. sibling_line (row_view r) };
+    ghost lines = { λ texts r. sibling_line texts (row_view r) };
 
     fn is_same(&self, other: &SiblingRow) -> bool {
         self.slot == other.slot && self.before == other.before
     }
 
-    fn add_line(&self, alloc: Global, out: &mut Vec<StateLine>) -> Result<(), AllocError> {
+    fn add_line(
+        &self,
+        alloc: Global,
+        naming: &Naming<'_>,
+        out: &mut Vec<StateLine>,
+    ) -> Result<(), AllocError> {
         let address = self.slot;
         match self.before {
             None => Ok(()),
             Some(before) => {
-                let text = format!(in alloc; "sibling {address} after {before}")?;
+                let (slot, before) = (naming.slot(address), naming.slot(before));
+                let text = format!(in alloc; "sibling {slot} after {before}")?;
                 out.push(StateLine { address, text })?;
                 Ok(())
             }

@@ -3,6 +3,7 @@ ghost use Rattle.std.specs.Prelude.{◌≡◌, IfOk, IsTrue, OnOk, ◌++◌, ◌
 ghost use Rattle.std.specs.List.{flat_map};
 ghost use Rattle.slot_core.specs.Calls.{derivation_view};
 ghost use Rattle.slot_core.specs.Places.{address_of};
+ghost use Rattle.setup_report.specs.Naming.{naming_view};
 ghost use Rattle.command_trace_lines.specs.Lines as spec;
 ghost use Rattle.command_trace_lines.specs.Views.{line_view};
 ghost use Rattle.command_trace_lines.specs.Private.Listed.{derivation_line};
@@ -11,12 +12,17 @@ use crate::changes::StateLine;
 use crate::rows::Row;
 use crate::text::SlotText;
 use cap_core::Profile;
+use setup_report::{Naming, Object};
 use slot_core::{Derivation, Slot};
 use std::alloc::{AllocError, Global};
 
 /// The line of a full slot.
-fn slot_line<P: Profile>(alloc: Global, derivation: &Derivation) -> Result<StateLine, AllocError>
-    ensures { IfOk result (λ l. line_view l ≡ derivation_line P.profile derivation.now) }
+fn slot_line<P: Profile>(
+    alloc: Global,
+    naming: &Naming<'_>,
+    derivation: &Derivation,
+) -> Result<StateLine, AllocError>
+    ensures { IfOk result (λ l. line_view l ≡ derivation_line (naming_view naming.now) P.profile derivation.now) }
 {
     let parent = match derivation.parent {
         Some(parent) => Some(parent.address::<P>()),
@@ -24,6 +30,7 @@ fn slot_line<P: Profile>(alloc: Global, derivation: &Derivation) -> Result<State
     };
     let address = derivation.slot.address::<P>();
     let text = SlotText {
+        naming,
         address,
         cap: derivation.cap,
         parent,
@@ -68,24 +75,35 @@ pub fn are_same_slots<P: Profile>(old: &[Derivation], new: &[Derivation]) -> boo
 }
 
 impl<P: Profile> Row<P> for Derivation {
-    ghost lines = { λ d. derivation_line P.profile d ∷ [] };
+    ghost lines = { λ texts d. derivation_line texts P.profile d ∷ [] };
 
     fn is_same(&self, other: &Derivation) -> bool {
         is_same_slot::<P>(self, other)
     }
 
-    fn add_line(&self, alloc: Global, out: &mut Vec<StateLine>) -> Result<(), AllocError> {
-        let line = slot_line::<P>(alloc, self)?;
+    fn add_line(
+        &self,
+        alloc: Global,
+        naming: &Naming<'_>,
+        out: &mut Vec<StateLine>,
+    ) -> Result<(), AllocError> {
+        let line = slot_line::<P>(alloc, naming, self)?;
         out.push(line)?;
         Ok(())
     }
 }
 
-fn add_selfheld(alloc: Global, lines: &mut Vec<StateLine>, address: u64) -> Result<(), AllocError>
+fn add_selfheld(
+    alloc: Global,
+    naming: &Naming<'_>,
+    lines: &mut Vec<StateLine>,
+    address: u64,
+) -> Result<(), AllocError>
     ensures { OnOk result (map line_view lines.new.items
-        ≡ map line_view lines.old.items ++ spec.line_at spec.selfheld_at address) }
+        ≡ map line_view lines.old.items ++ spec.line_at (spec.selfheld_at (naming_view naming.now)) address) }
 {
-    let text = format!(in alloc; "selfheld {address}")?;
+    let node = naming.object(Object::CNode(address));
+    let text = format!(in alloc; "selfheld {node}")?;
     lines.push(StateLine { address, text })?;
     Ok(())
 }
@@ -95,12 +113,16 @@ fn add_selfheld(alloc: Global, lines: &mut Vec<StateLine>, address: u64) -> Resu
 /// # Errors
 ///
 /// Memory was refused.
-pub fn selfheld_lines(alloc: Global, nodes: &[u64]) -> Result<Vec<StateLine>, AllocError>
-    ensures { IfOk result (λ v. map line_view v.items ≡ flat_map (spec.line_at spec.selfheld_at) nodes.now) }
+pub fn selfheld_lines(
+    alloc: Global,
+    naming: &Naming<'_>,
+    nodes: &[u64],
+) -> Result<Vec<StateLine>, AllocError>
+    ensures { IfOk result (λ v. map line_view v.items ≡ flat_map (spec.line_at (spec.selfheld_at (naming_view naming.now))) nodes.now) }
 {
     let mut lines = Vec::new(alloc);
     for node in nodes {
-        add_selfheld(alloc, &mut lines, *node)?;
+        add_selfheld(alloc, naming, &mut lines, *node)?;
     }
     Ok(lines)
 }

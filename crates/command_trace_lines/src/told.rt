@@ -5,6 +5,7 @@ ghost use Rattle.cap_core.specs.declared.profile.ProfileName.{ProfileName};
 ghost use Rattle.kernel_forest.specs.Entries.{derivations_of, slots as slots_in};
 ghost use Rattle.slot_core.specs.Calls.{derivation_view};
 ghost use Rattle.kernel_abstract.specs.Shown.{Shown};
+ghost use Rattle.setup_report.specs.Naming.{Texts, naming_view};
 ghost use Rattle.command_trace_lines.specs.Told.{nothing_told, told_changes, told_lines};
 ghost use Rattle.command_trace_lines.specs.Views.{FollowsReply, IsStateTold};
 ghost use Rattle.command_trace_lines.specs.Private.Kept.{HaveSameSlots, IsApartTold, told_rows};
@@ -18,6 +19,7 @@ use crate::state::{
 use cap_core::Profile;
 use ipc_core::Waiters;
 use kernel_core::{Kernel, Reply};
+use setup_report::Naming;
 use slot_core::{Derivation, DerivationStore};
 use std::alloc::{AllocError, Global};
 use std::collections::BTreeSet;
@@ -32,7 +34,7 @@ pub struct Told {
 
 /// A state of which nothing is told.
 fn nothing(alloc: Global) -> Told
-    ensures { (p : ProfileName) → told_rows p result ≡ nothing_told }
+    ensures { (texts : Texts) (p : ProfileName) → told_rows texts p result ≡ nothing_told }
 {
     Told {
         view: View {
@@ -56,21 +58,23 @@ fn nothing(alloc: Global) -> Told
 fn tell_anew<P: Profile, S: DerivationStore<P> + Drop, W: Waiters<P> + Drop>(
     alloc: Global,
     out: &mut String,
+    naming: &Naming<'_>,
     old: &Told,
     slots: Vec<Derivation>,
     kernel: &Kernel<P, S, W>,
 ) -> Result<Told, AllocError>
-    requires old { IsApartTold P.profile old.now }
+    requires old { IsApartTold (naming_view naming.now) P.profile old.now }
     requires list { map (derivation_view P.profile) slots.items ≡ derivations_of kernel.now.derivations }
     requires apart { IsDistinct (λ (a b : ℕ). a == b) (slots_in kernel.now.derivations) }
     ensures text { IfOk result (λ told. string_bytes out.new ≡ string_bytes out.old
-        ++ told_changes (told_rows P.profile old.now) (told_rows P.profile told)) }
-    ensures told { IfOk result (IsStateTold P.profile kernel.now) }
+        ++ told_changes (told_rows (naming_view naming.now) P.profile old.now) (told_rows (naming_view naming.now) P.profile told)) }
+    ensures told { IfOk result (IsStateTold (naming_view naming.now) P.profile kernel.now) }
 {
     let siblings = siblings::<P>(alloc, slots.as_slice())?;
-    let view = view_of::<P, S, W>(alloc, slots, kernel)?;
-    add_view_changes::<P>(alloc, out, &old.view, &view)?;
-    add_row_changes::<P, SiblingRow>(alloc, out, old.siblings.as_slice(), siblings.as_slice())?;
+    let view = view_of::<P, S, W>(alloc, naming, slots, kernel)?;
+    add_view_changes::<P>(alloc, out, naming, &old.view, &view)?;
+    let (before, after) = (old.siblings.as_slice(), siblings.as_slice());
+    add_row_changes::<P, SiblingRow>(alloc, out, naming, before, after)?;
     Ok(Told { view, siblings })
 }
 
@@ -82,14 +86,15 @@ fn tell_anew<P: Profile, S: DerivationStore<P> + Drop, W: Waiters<P> + Drop>(
 pub fn tell<P: Profile, S: DerivationStore<P> + Drop, W: Waiters<P> + Drop>(
     alloc: Global,
     out: &mut String,
+    naming: &Naming<'_>,
     kernel: &Kernel<P, S, W>,
 ) -> Result<Told, AllocError>
     ensures text { OnOk result (string_bytes out.new ≡ string_bytes out.old
-        ++ told_changes nothing_told (told_lines P.profile kernel.now)) }
-    ensures told { IfOk result (IsStateTold P.profile kernel.now) }
+        ++ told_changes nothing_told (told_lines (naming_view naming.now) P.profile kernel.now)) }
+    ensures told { IfOk result (IsStateTold (naming_view naming.now) P.profile kernel.now) }
 {
     let slots = kernel.derivations(alloc)?;
-    tell_anew::<P, S, W>(alloc, out, &nothing(alloc), slots, kernel)
+    tell_anew::<P, S, W>(alloc, out, naming, &nothing(alloc), slots, kernel)
 }
 
 /// Tells the messages of a kernel's state anew: adds how they differ from what was told of a state with the same full
@@ -97,21 +102,22 @@ pub fn tell<P: Profile, S: DerivationStore<P> + Drop, W: Waiters<P> + Drop>(
 fn tell_messages<P: Profile, S: DerivationStore<P> + Drop, W: Waiters<P> + Drop>(
     alloc: Global,
     out: &mut String,
+    naming: &Naming<'_>,
     old: Told,
     kernel: &Kernel<P, S, W>,
 ) -> Result<Told, AllocError>
-    requires { (v : Shown) × IsStateTold P.profile v old × HaveSameSlots v kernel.now }
-    ensures text { OnOk result ((v : Shown) → IsStateTold P.profile v old → HaveSameSlots v kernel.now
+    requires { (v : Shown) × IsStateTold (naming_view naming.now) P.profile v old × HaveSameSlots v kernel.now }
+    ensures text { OnOk result ((v : Shown) → IsStateTold (naming_view naming.now) P.profile v old → HaveSameSlots v kernel.now
         → string_bytes out.new ≡ string_bytes out.old
-        ++ told_changes (told_lines P.profile v) (told_lines P.profile kernel.now)) }
-    ensures told { IfOk result (IsStateTold P.profile kernel.now) }
+        ++ told_changes (told_lines (naming_view naming.now) P.profile v) (told_lines (naming_view naming.now) P.profile kernel.now)) }
+    ensures told { IfOk result (IsStateTold (naming_view naming.now) P.profile kernel.now) }
 {
     let Told {
         view: View { memory, messages },
         siblings,
     } = old;
     let new = messages_of::<P, S, W>(alloc, &memory, kernel)?;
-    add_message_changes::<P>(alloc, out, &messages, &new)?;
+    add_message_changes::<P>(alloc, out, naming, &messages, &new)?;
     let view = View {
         memory,
         messages: new,
@@ -123,19 +129,20 @@ fn tell_messages<P: Profile, S: DerivationStore<P> + Drop, W: Waiters<P> + Drop>
 fn tell_done<P: Profile, S: DerivationStore<P> + Drop, W: Waiters<P> + Drop>(
     alloc: Global,
     out: &mut String,
+    naming: &Naming<'_>,
     old: Told,
     kernel: &Kernel<P, S, W>,
 ) -> Result<Told, AllocError>
-    requires { (v : Shown) × IsStateTold P.profile v old }
-    ensures text { OnOk result ((v : Shown) → IsStateTold P.profile v old → string_bytes out.new ≡ string_bytes out.old
-        ++ told_changes (told_lines P.profile v) (told_lines P.profile kernel.now)) }
-    ensures told { IfOk result (IsStateTold P.profile kernel.now) }
+    requires { (v : Shown) × IsStateTold (naming_view naming.now) P.profile v old }
+    ensures text { OnOk result ((v : Shown) → IsStateTold (naming_view naming.now) P.profile v old → string_bytes out.new ≡ string_bytes out.old
+        ++ told_changes (told_lines (naming_view naming.now) P.profile v) (told_lines (naming_view naming.now) P.profile kernel.now)) }
+    ensures told { IfOk result (IsStateTold (naming_view naming.now) P.profile kernel.now) }
 {
     let slots = kernel.derivations(alloc)?;
     if are_same_slots::<P>(old.view.memory.slots.as_slice(), slots.as_slice()) {
-        return tell_messages::<P, S, W>(alloc, out, old, kernel);
+        return tell_messages::<P, S, W>(alloc, out, naming, old, kernel);
     }
-    tell_anew::<P, S, W>(alloc, out, &old, slots, kernel)
+    tell_anew::<P, S, W>(alloc, out, naming, &old, slots, kernel)
 }
 
 /// Tells a kernel's state after a call, by the call's reply: adds what the call changed of a state of which `old` is what
@@ -148,20 +155,21 @@ fn tell_done<P: Profile, S: DerivationStore<P> + Drop, W: Waiters<P> + Drop>(
 pub fn tell_call<P: Profile, S: DerivationStore<P> + Drop, W: Waiters<P> + Drop>(
     alloc: Global,
     out: &mut String,
+    naming: &Naming<'_>,
     old: Told,
     kernel: &Kernel<P, S, W>,
     reply: Reply,
 ) -> Result<Told, AllocError>
-    requires { (v : Shown) × IsStateTold P.profile v old × FollowsReply reply v kernel.now }
-    ensures text { OnOk result ((v : Shown) → IsStateTold P.profile v old → FollowsReply reply v kernel.now
+    requires { (v : Shown) × IsStateTold (naming_view naming.now) P.profile v old × FollowsReply reply v kernel.now }
+    ensures text { OnOk result ((v : Shown) → IsStateTold (naming_view naming.now) P.profile v old → FollowsReply reply v kernel.now
         → string_bytes out.new ≡ string_bytes out.old
-        ++ told_changes (told_lines P.profile v) (told_lines P.profile kernel.now)) }
-    ensures told { IfOk result (IsStateTold P.profile kernel.now) }
+        ++ told_changes (told_lines (naming_view naming.now) P.profile v) (told_lines (naming_view naming.now) P.profile kernel.now)) }
+    ensures told { IfOk result (IsStateTold (naming_view naming.now) P.profile kernel.now) }
 {
     match reply {
-        Reply::Done => tell_done::<P, S, W>(alloc, out, old, kernel),
+        Reply::Done => tell_done::<P, S, W>(alloc, out, naming, old, kernel),
         Reply::Waiting | Reply::Delivered { .. } => {
-            tell_messages::<P, S, W>(alloc, out, old, kernel)
+            tell_messages::<P, S, W>(alloc, out, naming, old, kernel)
         }
         Reply::Dropped | Reply::Empty | Reply::Refused(_) => Ok(old),
     }

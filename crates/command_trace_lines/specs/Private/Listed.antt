@@ -8,6 +8,7 @@ use Rattle.slot_core.specs.declared.derivations.Derivation.{Derivation}
 use Rattle.slot_core.specs.Places.{address_of}
 use Rattle.slot_core.specs.Calls.{derivation_view}
 use Rattle.setup_values.specs.declared.names.Name.{Name}
+use Rattle.setup_report.specs.Naming.{Texts}
 use Rattle.command_trace_lines.specs.Lines.{traced_slot_text}
 
 abbrev pub name_view : Name → List ℕ × ℕ
@@ -20,5 +21,5 @@ line_order (Some old) None = Less
 line_order (Some old) (Some new) = nat_cmp old.0 new.0
 
 -- the line of a full slot
-abbrev pub derivation_line : ProfileName → Derivation → ℕ × List ℕ
-derivation_line p d = (address_of p d.slot, traced_slot_text (derivation_view p d))
+abbrev pub derivation_line : Texts → ProfileName → Derivation → ℕ × List ℕ
+derivation_line texts p d = (address_of p d.slot, traced_slot_text texts (derivation_view p d))

@@ -2,6 +2,7 @@
 use Rattle.std.specs.Prelude.{ℕ, ◌+◌, ◌==◌, List, [], ◌∷◌, ◌++◌, take, slice_get, Option, Some, None, option_map}
 use Rattle.std.specs.List.{position}
 use Rattle.setup_report.specs.State.{Derived, slot_of}
+use Rattle.setup_report.specs.Naming.{Texts}
 use Rattle.command_trace_lines.specs.Lines.{Lines, address_line}
 use Rattle.command_trace_lines.specs.Siblings.{Sibling, sibling_text}
 
@@ -27,5 +28,5 @@ siblings_walked path [] = []
 siblings_walked path (d ∷ list) = sibling_behind d path ∷ siblings_walked (path_to d path) list
 
 -- the line of a slot, where there is a sibling in front of it
-abbrev pub sibling_line : Sibling → Lines
-sibling_line x = address_line x.0 (option_map (sibling_text x.0) x.1)
+abbrev pub sibling_line : Texts → Sibling → Lines
+sibling_line texts x = address_line x.0 (option_map (sibling_text texts x.0) x.1)

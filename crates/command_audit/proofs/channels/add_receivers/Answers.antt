@@ -1,5 +1,5 @@
 use Rattle.std.proofs.Common.{string_bytes}
-use Rattle.setup_naming.specs.Naming.{naming_view}
+use Rattle.setup_report.specs.Naming.{naming_view}
 use Rattle.command_audit.specs.Channels.{receiver_line}
 use Rattle.setup_report.proofs.Joined.{flat_step}
 use Rattle.command_audit.proofs.channels.add_receivers.Goals as goal

@@ -1,7 +1,7 @@
 use Rattle.std.proofs.Common.{◌≡◌, ◌++◌, map, string_bytes}
 use Rattle.std.specs.List.{flat_map}
 use Rattle.std.specs.Map.Iter.{deref}
-use Rattle.setup_naming.specs.Naming.{naming_view}
+use Rattle.setup_report.specs.Naming.{naming_view}
 use Rattle.command_audit.specs.Channels.{unserved_lines}
 use Rattle.command_audit.proofs.channels.add_unserved.Given as goal
 

@@ -1,6 +1,6 @@
 use Rattle.std.proofs.Common.{string_bytes}
 use Rattle.std.specs.Map.Iter.{deref}
-use Rattle.setup_naming.specs.Naming.{naming_view}
+use Rattle.setup_report.specs.Naming.{naming_view}
 use Rattle.command_audit.specs.Ends.{ended_node_line}
 use Rattle.command_audit.proofs.Joined.{flat_yielded}
 use Rattle.command_audit.proofs.ends.add_nodes.Goals as goal

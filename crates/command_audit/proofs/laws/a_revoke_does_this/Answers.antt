@@ -8,5 +8,5 @@ use Rattle.command_audit.proofs.laws.a_revoke_does_this.Goals as goal
 
 pub returns : goal.returns
 unfolding step
-returns c = λ p A call slot is.
-    ap (λ (r : Result Invocation Refusal). changes (lines_of_state p (shown A)) (lines_of_state p (shown (outcome p A call.thread r).state))) is
+returns c = λ texts p A call slot is.
+    ap (λ (r : Result Invocation Refusal). changes (lines_of_state texts p (shown A)) (lines_of_state texts p (shown (outcome p A call.thread r).state))) is

@@ -2,7 +2,7 @@
 use Rattle.std.proofs.Common.{◌≡◌, subst, ◌∙◌}
 use Rattle.setup_values.specs.Names.{names_view}
 use Rattle.kernel_abstract.specs.State.{shown}
-use Rattle.setup_naming.specs.Naming.{Texts, naming_view, texts_of}
+use Rattle.setup_report.specs.Naming.{Texts, naming_view, texts_of}
 use Rattle.command_audit.specs.Audit.{IsWholeAudit}
 use Rattle.command_audit.proofs.others.told_by.Goals as goal
 

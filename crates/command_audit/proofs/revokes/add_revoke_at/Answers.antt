@@ -4,7 +4,7 @@ use Rattle.kernel_forest.specs.Entries.{Entry, cap_at}
 use Rattle.kernel_abstract.specs.Shown.{Shown, has_child}
 use Rattle.kernel_abstract.specs.State.{State, shown}
 use Rattle.query_revoke.specs.Below.{AreTold}
-use Rattle.setup_naming.specs.Naming.{naming_view}
+use Rattle.setup_report.specs.Naming.{naming_view}
 use Rattle.command_audit.specs.Revokes.{shown_after_revoke, revoke_lines, lines_of_revoke}
 use Rattle.command_audit.proofs.Alone.{alone_lines}
 use Rattle.command_audit.proofs.Children.{child_full}

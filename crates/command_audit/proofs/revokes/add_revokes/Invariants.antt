@@ -4,7 +4,7 @@ use Rattle.slot_core.specs.declared.derivations.Derivation.{Derivation}
 use Rattle.slot_core.specs.Calls.{derivation_view}
 use Rattle.kernel_abstract.specs.Reached.{IsReached}
 use Rattle.kernel_abstract.specs.State.{State, shown}
-use Rattle.setup_naming.specs.Naming.{naming_view}
+use Rattle.setup_report.specs.Naming.{naming_view}
 use Rattle.command_audit.specs.Revokes.{revoke_lines_of}
 use Rattle.command_audit.proofs.revokes.add_revokes.Given as goal
 

@@ -7,7 +7,7 @@ use Rattle.kernel_abstract.specs.Shown.{Shown}
 use Rattle.kernel_abstract.specs.State.{shown}
 use Rattle.query_reach.specs.FullSlots.{AreFullSlots}
 use Rattle.setup_values.specs.Names.{names_view}
-use Rattle.setup_naming.specs.Naming.{naming_view}
+use Rattle.setup_report.specs.Naming.{naming_view}
 use Rattle.setup_report.specs.State.{Derived, is_in, threads, endpoints, slot_of, slot_rows}
 use Rattle.command_audit.specs.Text.{audit_head_line}
 use Rattle.command_audit.specs.Threads.{AreSlotsOf, opening, slots_lines}
@@ -53,12 +53,12 @@ returns g c = λ A reached shows.
       is = (λ i. (c.into_bytes.ensures.value i).items)
           ∙ (joined_five (string_bytes c.add_head.new.out) (string_bytes c.add_opening.new.out) (string_bytes c.add_threads.new.out) (string_bytes c.add_channels.new.out) (string_bytes c.add_revokes.new.out)
           _ _ _ _ _
-          (c.in_ok-add_head.ensures ∙ ap (λ l. l ++ audit_head_line setup made None) c.new-out.ensures.bytes)
+          (c.in_ok-add_head.ensures ∙ ap (λ l. l ++ audit_head_line texts setup made None) c.new-out.ensures.bytes)
           c.in_ok-add_opening.ensures
           c.in_ok-add_threads.ensures
           c.in_ok-add_channels.ensures
           (c.in_ok-add_revokes.ensures A reached shows ∙ ap (λ l. string_bytes c.add_channels.new.out ++ l) (flat_seen (revoke_lines_of p texts A) (derivation_view p) c.as_slice-10.result.now))
-          ∙ (λ i. audit_head_line setup made None
+          ∙ (λ i. audit_head_line texts setup made None
           ++ (opening names texts trusted
           ++ (flat_map (slots_lines texts (shows i)) (c.as_slice-7.ensures.value i)
           ++ (channel_lines texts (words i) (ends i)

@@ -4,6 +4,7 @@ use Rattle.toml.specs.View.{table_view}
 use Rattle.kernel_abstract.specs.State.{shown}
 use Rattle.kernel_abstract.specs.Step.{step, replies_of, state_after}
 use Rattle.setup_format.specs.Views.{CallView}
+use Rattle.setup_report.specs.Naming.{naming_view}
 use Rattle.command_trace_lines.specs.Told.{told_lines}
 use Rattle.command_why.specs.Tables.{call_table}
 use Rattle.command_why.specs.Why.{reason_lines_of}
@@ -15,12 +16,13 @@ use Rattle.command_trace.proofs.calls.add_calls.Goals as goal
 
 pub loop-i-init : goal.loop-i-init
 loop-i-init g c =
+    let texts = naming_view c.args.naming.now in
     let p = g.P.Profile.profile in
     record {
       told = c.requires.told;
       stands = λ A reached same. same ∙ ap shown (sym (start_of_run p A));
       replies = λ A reached same. c.in_ok-replies.ensures.items ∙ sym (no_replies p A);
-      text = λ A reached same. ap (λ B. string_bytes c.args.out.now ++ traced_calls_lines p (table_view c.args.table.now) 0 B c.args.setup.now.calls) (start_of_run p A);
+      text = λ A reached same. ap (λ B. string_bytes c.args.out.now ++ traced_calls_lines texts p (table_view c.args.table.now) 0 B c.args.setup.now.calls) (start_of_run p A);
     }
 
 pub make_call-requires-clause-reached : goal.make_call-requires-clause-reached
@@ -32,6 +34,7 @@ make_call-requires-clause-reached g c =
 
 pub loop-i-preserved : goal.loop-i-preserved
 loop-i-preserved g c =
+    let texts = naming_view c.args.naming.now in
     let p = g.P.Profile.profile in
     let calls = c.args.setup.now.calls in
     let table = table_view c.args.table.now in
@@ -56,13 +59,13 @@ loop-i-preserved g c =
           let stands = c.loop-i.invariant.stands A reached same in
           let steps = c.in_ok-next.ensures.steps B call (reached_after p A made reached) stands at.1 in
           let wrote : string_bytes c.make_call.new.out
-          ≡ string_bytes c.loop-i.out ++ traced_call_lines (i + 1) call (step p B call.call).reply (why_at p table i B call.call) (told_lines p (shown B)) (told_lines p (shown (step p B call.call).state)) =
+          ≡ string_bytes c.loop-i.out ++ traced_call_lines texts (i + 1) call (step p B call.call).reply (why_at texts p table i B call.call) (told_lines texts p (shown B)) (told_lines texts p (shown (step p B call.call).state)) =
           c.in_ok-next.ensures.text call at.1
-          ∙ (λ k. string_bytes c.loop-i.out ++ traced_call_lines (i + 1) call (steps.reply_is k) (reason_lines_of p (stands k) (record { call = call.call; table = call_table table i })) (told_lines p (stands k)) (told_lines p (steps.shows k))) in
-          ap (λ C. string_bytes c.make_call.new.out ++ traced_calls_lines p table (i + 1) C (drop (i + 1) calls)) (ap (state_after p A) more ∙ after_one p A made call.call)
+          ∙ (λ k. string_bytes c.loop-i.out ++ traced_call_lines texts (i + 1) call (steps.reply_is k) (reason_lines_of texts p (stands k) (record { call = call.call; table = call_table table i })) (told_lines texts p (stands k)) (told_lines texts p (steps.shows k))) in
+          ap (λ C. string_bytes c.make_call.new.out ++ traced_calls_lines texts p table (i + 1) C (drop (i + 1) calls)) (ap (state_after p A) more ∙ after_one p A made call.call)
           ∙ written (string_bytes c.loop-i.out) (string_bytes c.make_call.new.out) (string_bytes c.args.out.now) _
-          (traced_calls_lines p table (i + 1) (step p B call.call).state (drop (i + 1) calls)) _ (traced_calls_lines p table 0 A calls)
-          wrote (call_next p table calls i call B at.1) (c.loop-i.invariant.text A reached same);
+          (traced_calls_lines texts p table (i + 1) (step p B call.call).state (drop (i + 1) calls)) _ (traced_calls_lines texts p table 0 A calls)
+          wrote (call_next texts p table calls i call B at.1) (c.loop-i.invariant.text A reached same);
     }
 
 pub returns-clause-replies : goal.returns-clause-replies
@@ -80,5 +83,5 @@ returns-clause-text g c = λ A reached same.
     let many : length c.calls-i-end.result.now ≡ length calls = ap length c.calls-i-end.ensures ∙ length-map calls (λ (k : CallView). k.call) in
     let made = map (λ (k : CallView). k.call) (take c.loop-i.i calls) in
     sym (append-nil (string_bytes c.loop-i.out))
-    ∙ ap (λ l. string_bytes c.loop-i.out ++ l) (sym (none_left p (table_view c.args.table.now) c.loop-i.i (state_after p A made) calls c.loop-i.i (omega (arith, c.loop-i-test.false, many))))
+    ∙ ap (λ l. string_bytes c.loop-i.out ++ l) (sym (none_left (naming_view c.args.naming.now) p (table_view c.args.table.now) c.loop-i.i (state_after p A made) calls c.loop-i.i (omega (arith, c.loop-i-test.false, many))))
     ∙ c.loop-i.invariant.text A reached same

@@ -5,11 +5,12 @@ use Rattle.kernel_abstract.specs.Boot.{boot}
 use Rattle.kernel_abstract.specs.State.{shown}
 use Rattle.setup_format.specs.Views.{CallView}
 use Rattle.setup_values.specs.Names.{names_view}
+use Rattle.setup_report.specs.Naming.{naming_view}
 use Rattle.setup_report.specs.Report.{terminated, met_count, expectation_count}
 use Rattle.command_trace_lines.specs.Names.{name_lines}
 use Rattle.command_trace_lines.specs.Told.{told_changes, told_lines, nothing_told}
 use Rattle.command_check.specs.Program.{replies_to}
-use Rattle.command_trace.specs.Trace.{trace_head_line, traced_calls_lines, count_line, trace_of}
+use Rattle.command_trace.specs.Trace.{trace_head_line, traced_calls_lines, count_line, trace_told}
 use Rattle.setup_report.proofs.Runs.{boot_reached, replies_length}
 use Rattle.command_trace.proofs.Steps.{whole_text}
 use Rattle.command_trace.proofs.run.trace.Goals as goal
@@ -32,8 +33,9 @@ expectations-requires g c =
     ∙ length-map c.args.setup.now.calls (λ (k : CallView). k.call)
 
 pub returns-clause-text : goal.returns-clause-text
-unfolding trace_of replies_to
+unfolding trace_told replies_to
 returns-clause-text g c =
+    let texts = naming_view c.args.naming.now in
     let p = g.P.Profile.profile in
     let plan = c.args.setup.now.plan in
     let stands = c.in_ok-kernel.ensures.shows ∙ ap (λ plan. shown (boot p plan)) c.plan.ensures.plan in
@@ -49,8 +51,8 @@ returns-clause-text g c =
     (c.in_ok-replies.ensures.text (boot p plan) (boot_reached p plan c.requires) stands)
     c.in_ok-add_expectations.ensures
     ∙ (λ i. (trace_head_line c.args.setup.now ++ name_lines (names_view c.args.names.now))
-    ++ ((terminated (codes "0 boot") ++ told_changes nothing_told (told_lines p (stands i)))
-    ++ (traced_calls_lines p (table_view c.args.table.now) 0 (boot p plan) calls
+    ++ ((terminated (codes "0 boot") ++ told_changes nothing_told (told_lines texts p (stands i)))
+    ++ (traced_calls_lines texts p (table_view c.args.table.now) 0 (boot p plan) calls
     ++ count_line
     ((c.in_ok-count.ensures.met ∙ ap (met_count calls) replies) i)
     ((c.in_ok-count.ensures.expected ∙ ap (expectation_count calls) replies) i))))

@@ -6,7 +6,7 @@ use Rattle.command_trace_laws.proofs.laws.calls_without_effect_change_nothing.Go
 pub returns : goal.returns
 returns c =
     record {
-      refused = λ p A call refusal is. same_told p A call (reply_says p A call (Refused refusal) is);
-      dropped = λ p A call is. same_told p A call (reply_says p A call Dropped is);
-      empty = λ p A call is. same_told p A call (reply_says p A call Empty is);
+      refused = λ texts p A call refusal is. same_told texts p A call (reply_says p A call (Refused refusal) is);
+      dropped = λ texts p A call is. same_told texts p A call (reply_says p A call Dropped is);
+      empty = λ texts p A call is. same_told texts p A call (reply_says p A call Empty is);
     }

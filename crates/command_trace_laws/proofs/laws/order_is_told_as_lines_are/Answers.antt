@@ -10,7 +10,7 @@ returns c =
       applied = order_applied;
       back = order_back;
       replayed = order_replayed;
-      refused = λ p A call refusal is. same_told_whole p A call (reply_says p A call (Refused refusal) is);
-      dropped = λ p A call is. same_told_whole p A call (reply_says p A call Dropped is);
-      empty = λ p A call is. same_told_whole p A call (reply_says p A call Empty is);
+      refused = λ texts p A call refusal is. same_told_whole texts p A call (reply_says p A call (Refused refusal) is);
+      dropped = λ texts p A call is. same_told_whole texts p A call (reply_says p A call Dropped is);
+      empty = λ texts p A call is. same_told_whole texts p A call (reply_says p A call Empty is);
     }

@@ -4,5 +4,5 @@ use Rattle.command_trace_lines.proofs.Listed.{told_more}
 use Rattle.command_trace_lines.proofs.messages.endpoint_rows.Goals as goal
 
 pub loop-endpoint-preserved : goal.loop-endpoint-preserved
-loop-endpoint-preserved g c =
-    told_more (line_at (endpoint_text_at c.args.kernel.now)) deref c.loop-endpoint.yielded c.in-Some.endpoint _ _ c.loop-endpoint.invariant c.in_ok-add_endpoint.ensures
+loop-endpoint-preserved g c texts =
+    told_more (line_at (endpoint_text_at texts c.args.kernel.now)) deref c.loop-endpoint.yielded c.in-Some.endpoint _ _ (c.loop-endpoint.invariant texts) (c.in_ok-add_endpoint.ensures texts)

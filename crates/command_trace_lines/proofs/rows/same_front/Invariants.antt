@@ -1,5 +1,6 @@
 use Rattle.std.proofs.Common.{◌≡◌, ◌-◌, ◌≤◌, length, take}
 use Rattle.std.specs.List.{flat_map}
+use Rattle.setup_report.specs.Naming.{Texts}
 use Rattle.command_trace_lines.proofs.rows.same_front.Given as goal
 
 abbrev pub invariant-loop-count : goal.invariant-loop-count
@@ -7,7 +8,7 @@ invariant-loop-count g l =
     record {
       old : l.count ≤ length l.old;
       new : l.count ≤ length l.new;
-      same : flat_map g.R.Row.lines (take l.count l.old) ≡ flat_map g.R.Row.lines (take l.count l.new);
+      same : (texts : Texts) → flat_map (g.R.Row.lines texts) (take l.count l.old) ≡ flat_map (g.R.Row.lines texts) (take l.count l.new);
     }
 
 abbrev pub decreases-loop-count : goal.decreases-loop-count

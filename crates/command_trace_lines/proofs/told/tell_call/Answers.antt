@@ -1,5 +1,6 @@
 use Rattle.std.proofs.Common.{◌≡◌, ◌++◌, inl, inr, string_bytes, sym, ap, subst, ◌∙◌, append-nil}
 use Rattle.kernel_abstract.specs.declared.call.Reply.{Reply}
+use Rattle.setup_report.specs.Naming.{naming_view}
 use Rattle.command_trace_lines.specs.Told.{told_lines}
 use Rattle.command_trace_lines.specs.Views.{FollowsReply}
 use Rattle.command_trace_lines.proofs.Views.{nothing_differs}
@@ -20,6 +21,7 @@ tell_messages-requires g c =
 
 pub returns-in-Dropped-clause-text : goal.returns-in-Dropped-clause-text
 returns-in-Dropped-clause-text g c = λ v told after.
+    let texts = naming_view c.args.naming.now in
     let p = g.P.Profile.profile in
     let w = c.args.kernel.now in
     let follows = λ (r : Reply). FollowsReply r v w in
@@ -30,4 +32,4 @@ returns-in-Dropped-clause-text g c = λ v told after.
         | inr y ↦ subst follows y.1 after
       ]
     ] in
-    sym (ap (λ l. string_bytes c.args.out.now ++ l) (nothing_differs (told_lines p v) (told_lines p w) (ap (told_lines p) (sym same))) ∙ append-nil (string_bytes c.args.out.now))
+    sym (ap (λ l. string_bytes c.args.out.now ++ l) (nothing_differs (told_lines texts p v) (told_lines texts p w) (ap (told_lines texts p) (sym same))) ∙ append-nil (string_bytes c.args.out.now))

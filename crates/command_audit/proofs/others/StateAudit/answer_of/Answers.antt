@@ -8,7 +8,7 @@ use Rattle.kernel_abstract.specs.Shown.{Shown}
 use Rattle.kernel_abstract.specs.State.{shown}
 use Rattle.command_core.specs.declared.fault.Verdict.TheVariants.{AllMet, Absent}
 use Rattle.command_audit.specs.Audit.{IsWholeAudit}
-use Rattle.setup_naming.specs.Naming.{texts_of}
+use Rattle.setup_report.specs.Naming.{texts_of}
 use Rattle.command_audit.proofs.others.StateAudit.answer_of.Goals as goal
 
 pub returns-then-not-are_meant : goal.returns-then-not-are_meant
