@@ -6,6 +6,7 @@ use Rattle.kernel_abstract.specs.declared.call.Call.{Call}
 use Rattle.kernel_abstract.specs.State.{State, shown}
 use Rattle.kernel_abstract.specs.Step.{step}
 use Rattle.setup_format.specs.Views.{CallView}
+use Rattle.setup_report.specs.Naming.{Texts}
 use Rattle.command_why.specs.Tables.{call_table}
 use Rattle.command_why.specs.Why.{why_call_lines, calls_lines, reason_lines_of}
 
@@ -35,12 +36,12 @@ from_next l i x is = let n : suc i ≡ i + 1 = omega arith in from_place l i x i
 
 -- ---- the calls one by one
 
-pub call_next : (p : ProfileName) (table : Members) (chosen : Option ℕ) (calls : List CallView) (i : ℕ) (call : CallView) (A : State) → slice_get calls i ≡ Some call →
-    calls_lines p table chosen i A (drop i calls)
-    ≡ why_call_lines chosen (i + 1) call (step p A call.call).reply (reason_lines_of p (shown A) (record { call = call.call; table = call_table table i }))
-    ++ calls_lines p table chosen (i + 1) (step p A call.call).state (drop (i + 1) calls)
+pub call_next : (texts : Texts) (p : ProfileName) (table : Members) (chosen : Option ℕ) (calls : List CallView) (i : ℕ) (call : CallView) (A : State) → slice_get calls i ≡ Some call →
+    calls_lines texts p table chosen i A (drop i calls)
+    ≡ why_call_lines texts chosen (i + 1) call (step p A call.call).reply (reason_lines_of texts p (shown A) (record { call = call.call; table = call_table table i }))
+    ++ calls_lines texts p table chosen (i + 1) (step p A call.call).state (drop (i + 1) calls)
 unfolding calls_lines
-call_next p table chosen calls i call A there = ap (calls_lines p table chosen i A) (from_next calls i call there)
+call_next texts p table chosen calls i call A there = ap (calls_lines texts p table chosen i A) (from_next calls i call there)
 
 pub take_next : (calls : List CallView) (i : ℕ) (call : CallView) → slice_get calls i ≡ Some call → map (λ (c : CallView). c.call) (take (i + 1) calls) ≡ map (λ (c : CallView). c.call) (take i calls) ++ call.call ∷ []
 take_next calls i call there = let n : i + 1 ≡ suc i = omega arith in ap (λ k. map (λ (c : CallView). c.call) (take k calls)) n ∙ by calls i there
@@ -56,12 +57,12 @@ there_is [] i h = absurd (omega (arith, h))
 there_is (x ∷ calls) zero h = (x, refl)
 there_is (x ∷ calls) (suc i) h = there_is calls i (omega (arith, h))
 
-pub none_left : (p : ProfileName) (table : Members) (chosen : Option ℕ) (n : ℕ) (A : State) (calls : List CallView) (i : ℕ) → length calls ≤ i → calls_lines p table chosen n A (drop i calls) ≡ []
+pub none_left : (texts : Texts) (p : ProfileName) (table : Members) (chosen : Option ℕ) (n : ℕ) (A : State) (calls : List CallView) (i : ℕ) → length calls ≤ i → calls_lines texts p table chosen n A (drop i calls) ≡ []
 unfolding calls_lines
-none_left p table chosen n A [] zero h = refl
-none_left p table chosen n A [] (suc i) h = refl
-none_left p table chosen n A (x ∷ calls) zero h = absurd (omega (arith, h))
-none_left p table chosen n A (x ∷ calls) (suc i) h = none_left p table chosen n A calls i (omega (arith, h))
+none_left texts p table chosen n A [] zero h = refl
+none_left texts p table chosen n A [] (suc i) h = refl
+none_left texts p table chosen n A (x ∷ calls) zero h = absurd (omega (arith, h))
+none_left texts p table chosen n A (x ∷ calls) (suc i) h = none_left texts p table chosen n A calls i (omega (arith, h))
 
 -- what was written, and what is left to be written, is the same all along
 pub written : (before after start part rest left all : List ℕ) → after ≡ before ++ part → left ≡ part ++ rest → before ++ left ≡ start ++ all → after ++ rest ≡ start ++ all

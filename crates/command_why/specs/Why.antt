@@ -1,4 +1,4 @@
--- What is said of the calls of a set-up: of each refused one, or of one that is chosen.
+-- What is said of the calls of a set-up: of each refused one, or of one that is chosen; objects and slots as `texts` tells them.
 use Rattle.std.specs.Prelude.{codes, ℕ, ◌+◌, ◌==◌, List, [], ◌∷◌, ◌++◌, length, Bool, true, false, if◌then◌else◌, Option, None, Some, is_some, option_map}
 use Rattle.std.specs.List.{filter}
 use Rattle.std.specs.Fmt.{decimal}
@@ -11,6 +11,7 @@ use Rattle.kernel_abstract.specs.Shown.{Shown}
 use Rattle.kernel_abstract.specs.State.{State, shown}
 use Rattle.kernel_abstract.specs.Step.{step}
 use Rattle.setup_format.specs.Views.{SetupView, CallView}
+use Rattle.setup_report.specs.Naming.{Texts}
 use Rattle.setup_report.specs.Report.{terminated, call_text, met_count, expectation_count, count_line}
 pub use Rattle.command_check.specs.Program.{replies_to}
 use Rattle.kernel_abstract.specs.Decode.{reason_of}
@@ -20,8 +21,8 @@ use Rattle.command_why_words.specs.Reasons.{reason_lines}
 use Rattle.command_why.specs.Tables.{call_table}
 
 -- the lines of the reason for which a call is refused, in what is shown before it; None where it is not refused
-abbrev pub reason_lines_of : ProfileName → Shown → AskedView → Option (List ℕ)
-reason_lines_of p v a = option_map (reason_lines p v a) (reason_of p v a.call)
+abbrev pub reason_lines_of : Texts → ProfileName → Shown → AskedView → Option (List ℕ)
+reason_lines_of texts p v a = option_map (reason_lines texts p v a) (reason_of p v a.call)
 
 -- the call that is chosen is told, by its number from 1 on; where none is chosen, each that is refused
 abbrev pub is_told : Option ℕ → ℕ → Option (List ℕ) → Bool
@@ -37,16 +38,16 @@ abbrev pub explained_lines : Option ℕ → ℕ → List ℕ → Option (List �
 explained_lines chosen number text why = if is_told chosen number why then terminated text ++ why_lines why else codes ""
 
 -- a call: the report's own line, and why it is refused
-abbrev pub why_call_lines : Option ℕ → ℕ → CallView → Reply → Option (List ℕ) → List ℕ
-why_call_lines chosen number call reply why = explained_lines chosen number (call_text number call.call reply call.expect) why
+abbrev pub why_call_lines : Texts → Option ℕ → ℕ → CallView → Reply → Option (List ℕ) → List ℕ
+why_call_lines texts chosen number call reply why = explained_lines chosen number (call_text texts number call.call reply call.expect) why
 
 -- the calls of a set-up that its table spells, from the place `i` and from a state on
-unfoldable pub calls_lines : ProfileName → Members → Option ℕ → ℕ → State → List CallView → List ℕ
-calls_lines p table chosen i A [] = []
-calls_lines p table chosen i A (call ∷ calls) =
-    why_call_lines chosen (i + 1) call (step p A call.call).reply
-    (reason_lines_of p (shown A) (record { call = call.call; table = call_table table i }))
-    ++ calls_lines p table chosen (i + 1) (step p A call.call).state calls
+unfoldable pub calls_lines : Texts → ProfileName → Members → Option ℕ → ℕ → State → List CallView → List ℕ
+calls_lines texts p table chosen i A [] = []
+calls_lines texts p table chosen i A (call ∷ calls) =
+    why_call_lines texts chosen (i + 1) call (step p A call.call).reply
+    (reason_lines_of texts p (shown A) (record { call = call.call; table = call_table table i }))
+    ++ calls_lines texts p table chosen (i + 1) (step p A call.call).state calls
 
 -- ---- how many calls are refused
 
@@ -70,6 +71,6 @@ ending_of chosen calls replies =
     why_ending chosen (length calls) (refused_count replies) (met_count calls replies) (expectation_count calls replies)
 
 -- all that is said of a set-up's calls, by the table that spells it
-unfoldable pub why_of : ProfileName → Members → Option ℕ → SetupView → List ℕ
-why_of p table chosen setup =
-    calls_lines p table chosen 0 (boot p setup.plan) setup.calls ++ ending_of chosen setup.calls (replies_to p setup)
+unfoldable pub why_of : Texts → ProfileName → Members → Option ℕ → SetupView → List ℕ
+why_of texts p table chosen setup =
+    calls_lines texts p table chosen 0 (boot p setup.plan) setup.calls ++ ending_of chosen setup.calls (replies_to p setup)

@@ -5,7 +5,9 @@ ghost use Rattle.kernel_abstract.specs.Reached.{IsReached, StepsTo};
 ghost use Rattle.kernel_abstract.specs.State.{State, shown};
 ghost use Rattle.kernel_abstract.specs.Step.{replies_of};
 ghost use Rattle.setup_format.specs.Views.{CallView};
+ghost use Rattle.setup_report.specs.Naming.{naming_view};
 ghost use Rattle.setup_report.specs.Report.{call_text};
+ghost use Rattle.command_why_words.specs.Asked.{asked_texts};
 ghost use Rattle.command_why.specs.Tables.{call_table as call_table_of};
 ghost use Rattle.command_why.specs.Why as spec;
 
@@ -14,9 +16,9 @@ use crate::tables::call_table;
 use cap_core::Profile;
 use command_why_words::Asked;
 use ipc_core::Waiters;
-use kernel_core::{Call, Kernel, Reply};
+use kernel_core::{Kernel, Reply};
 use setup_format::Setup;
-use setup_report::add_call;
+use setup_report::{Naming, add_call};
 use slot_core::DerivationStore;
 use std::alloc::{AllocError, Global};
 use std::fmt::Write;
@@ -49,17 +51,18 @@ fn add_call_lines(
     out: &mut String,
     chosen: Option<u64>,
     number: usize,
-    call: &Call,
+    asked: Asked<'_, '_>,
     expected: Option<&str>,
     reply: Reply,
     why: &Option<String>,
 ) -> Result<(), AllocError>
     ensures { OnOk result (string_bytes out.new ≡ string_bytes out.old
-        ++ spec.explained_lines chosen number (call_text number call.now reply (option_copied expected.entry))
+        ++ spec.explained_lines chosen number (call_text (asked_texts asked.entry) number asked.entry.call.now reply (option_copied expected.entry))
         (option_map string_bytes why.now)) }
 {
     if is_told(chosen, number, why) {
-        add_call(alloc, out, number, call, expected, reply)?;
+        let Asked { naming, call, .. } = asked;
+        add_call(alloc, out, naming, number, call, expected, reply)?;
         add_why(out, why)
     } else {
         Ok(())
@@ -71,6 +74,7 @@ fn add_call_lines(
 fn make_call<P: Profile, S: DerivationStore<P> + Drop, W: Waiters<P> + Drop>(
     alloc: Global,
     out: &mut String,
+    naming: &Naming<'_>,
     setup: &Setup,
     table: &Table,
     chosen: Option<u64>,
@@ -81,18 +85,19 @@ fn make_call<P: Profile, S: DerivationStore<P> + Drop, W: Waiters<P> + Drop>(
     ensures steps { IfOk result (λ reply. (A : State) (call : CallView) → IsReached P.profile A → kernel.old ≡ shown A
         → slice_get setup.now.calls i ≡ Some call → StepsTo P.profile A call.call reply kernel.new) }
     ensures text { IfOk result (λ reply. (call : CallView) → slice_get setup.now.calls i ≡ Some call
-        → string_bytes out.new ≡ string_bytes out.old ++ spec.why_call_lines chosen (i + 1) call reply
-        (spec.reason_lines_of P.profile kernel.old (record { call = call.call; table = call_table_of (table_view table.now) i }))) }
+        → string_bytes out.new ≡ string_bytes out.old ++ spec.why_call_lines (naming_view naming.now) chosen (i + 1) call reply
+        (spec.reason_lines_of (naming_view naming.now) P.profile kernel.old (record { call = call.call; table = call_table_of (table_view table.now) i }))) }
 {
     let call = setup.calls()[i];
     let asked = Asked {
+        naming,
         call: &call,
         table: call_table(table, i),
     };
     let why = explain::<P, S, W>(alloc, kernel, asked)?;
     let reply = kernel.step(call);
     let expected = setup.expect(i);
-    add_call_lines(alloc, out, chosen, i + 1, &call, expected, reply, &why)?;
+    add_call_lines(alloc, out, chosen, i + 1, asked, expected, reply, &why)?;
     Ok(reply)
 }
 
@@ -100,6 +105,7 @@ fn make_call<P: Profile, S: DerivationStore<P> + Drop, W: Waiters<P> + Drop>(
 pub fn add_calls<P: Profile, S: DerivationStore<P> + Drop, W: Waiters<P> + Drop>(
     alloc: Global,
     out: &mut String,
+    naming: &Naming<'_>,
     setup: &Setup,
     table: &Table,
     chosen: Option<u64>,
@@ -109,11 +115,11 @@ pub fn add_calls<P: Profile, S: DerivationStore<P> + Drop, W: Waiters<P> + Drop>
         → replies.items ≡ replies_of P.profile A (map (λ c. c.call) setup.now.calls)) }
     ensures text { IfOk result (λ replies. (A : State) → IsReached P.profile A → kernel.old ≡ shown A
         → string_bytes out.new ≡ string_bytes out.old
-        ++ spec.calls_lines P.profile (table_view table.now) chosen 0 A setup.now.calls) }
+        ++ spec.calls_lines (naming_view naming.now) P.profile (table_view table.now) chosen 0 A setup.now.calls) }
 {
     let mut replies = Vec::with_capacity(alloc, setup.calls().len())?;
     for i in 0..setup.calls().len() {
-        let reply = make_call::<P, S, W>(alloc, out, setup, table, chosen, i, kernel)?;
+        let reply = make_call::<P, S, W>(alloc, out, naming, setup, table, chosen, i, kernel)?;
         replies.push(reply)?;
     }
     Ok(replies)

@@ -4,7 +4,7 @@ ghost use Rattle.kernel_abstract.specs.Plan.{IsPlan};
 ghost use Rattle.setup_format.specs.Read.{read_view};
 ghost use Rattle.command_why.specs.Explained.{explained_in, is_absent};
 
-use crate::run::why;
+use crate::run::{naming_after, why};
 use cap_core::Profile;
 use command_check::{Command, verdict_on};
 use command_core::Answer;
@@ -17,13 +17,16 @@ use std::alloc::{AllocError, Global};
 #[tactic(auto, unfolding(crate::specs::Explained::explained_in))]
 fn explain_setup<P: Profile, S: MakeStore<P> + DerivationStore<P>, W: MakeWaiters<P>>(
     alloc: Global,
+    by_name: bool,
     call: Option<u64>,
     read: &ReadSetup,
 ) -> Result<Answer, AllocError>
     requires { IsPlan P.profile read.now.setup.plan }
-    ensures { IfOk result (λ made. (made.text.items, made.verdict) ≡ explained_in P.profile call (read_view read.now)) }
+    ensures { IfOk result (λ made. (made.text.items, made.verdict) ≡ explained_in by_name P.profile call (read_view read.now)) }
 {
-    let (text, count, unmet) = why::<P, S, W>(alloc, &read.table, &read.setup, call)?;
+    let (table, setup) = (&read.table, &read.setup);
+    let naming = naming_after::<P, S, W>(alloc, by_name, read.names.as_slice(), setup)?;
+    let (text, count, unmet) = why::<P, S, W>(alloc, &naming, table, setup, call)?;
     Ok(Answer::with_unmet(alloc, text, verdict_on(count), unmet))
 }
 
@@ -38,16 +41,18 @@ fn is_absent(call: Option<u64>, calls: usize) -> bool
 }
 
 /// Why the calls of a set-up are refused: of each that is, or of the one with a number, counted from 1. The verdict is that of
-/// the expectations, or `Absent` with nothing written where the set-up has no call of that number.
+/// the expectations, or `Absent` with nothing written where the set-up has no call of that number. If `names` is set, objects and
+/// slots that have a name in the state after all calls are told by it.
 #[derive(Clone, Copy, Drop)]
 pub struct Why {
     pub call: Option<u64>,
+    pub names: bool,
 }
 
 impl Command for Why {
     ghost use Rattle.command_why.specs.Explained.{IsWhy};
 
-    ghost answers = { λ why. IsWhy why.call };
+    ghost answers = { λ why. IsWhy why.names why.call };
 
     fn answer<P: Profile, S: MakeStore<P> + DerivationStore<P>, W: MakeWaiters<P>>(
         &self,
@@ -60,6 +65,6 @@ impl Command for Why {
             let absent = format!(in alloc; "--call {asked}: the set-up has {calls} calls")?;
             return Ok(Answer::absent(alloc, absent));
         }
-        explain_setup::<P, S, W>(alloc, self.call, &read)
+        explain_setup::<P, S, W>(alloc, self.names, self.call, &read)
     }
 }

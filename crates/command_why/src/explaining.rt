@@ -1,6 +1,6 @@
 //! The lines of a reason.
 ghost use Rattle.std.specs.Prelude.{◌≡◌, ◌++◌, IfOk, OnOk, option_map, string_bytes};
-ghost use Rattle.command_why_words.specs.Asked.{asked_view};
+ghost use Rattle.command_why_words.specs.Asked.{asked_texts, asked_view};
 ghost use Rattle.command_why_words.specs.Reasons.{reason_lines};
 ghost use Rattle.command_why.specs.Why.{reason_lines_of};
 
@@ -17,11 +17,11 @@ fn add_reason<P: Profile, S: DerivationStore<P> + Drop, W: Waiters<P> + Drop>(
     alloc: Global,
     out: &mut String,
     kernel: &Kernel<P, S, W>,
-    asked: Asked<'_>,
+    asked: Asked<'_, '_>,
     reason: Reason,
 ) -> Result<(), AllocError>
     ensures { OnOk result (string_bytes out.new ≡ string_bytes out.old
-        ++ reason_lines P.profile kernel.now (asked_view asked.entry) reason) }
+        ++ reason_lines (asked_texts asked.entry) P.profile kernel.now (asked_view asked.entry) reason) }
 {
     match reason {
         Reason::NoThread => add_no_thread::<P, S, W>(alloc, out, kernel, asked),
@@ -44,9 +44,9 @@ fn add_reason<P: Profile, S: DerivationStore<P> + Drop, W: Waiters<P> + Drop>(
 pub fn explain<P: Profile, S: DerivationStore<P> + Drop, W: Waiters<P> + Drop>(
     alloc: Global,
     kernel: &Kernel<P, S, W>,
-    asked: Asked<'_>,
+    asked: Asked<'_, '_>,
 ) -> Result<Option<String>, AllocError>
-    ensures { IfOk result (λ lines. option_map string_bytes lines ≡ reason_lines_of P.profile kernel.now (asked_view asked.entry)) }
+    ensures { IfOk result (λ lines. option_map string_bytes lines ≡ reason_lines_of (asked_texts asked.entry) P.profile kernel.now (asked_view asked.entry)) }
 {
     match kernel.reason(asked.call) {
         None => Ok(None),

@@ -12,5 +12,5 @@ mod threads;
 pub use command::Why;
 pub use explaining::explain;
 pub use laws::names_mean_the_values_beside_them;
-pub use run::why;
+pub use run::{naming_after, why};
 pub use tables::call_table;

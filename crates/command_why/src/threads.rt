@@ -1,14 +1,15 @@
 //! The lines of a call by a thread that is not live.
 ghost use Rattle.std.specs.Prelude.{◌≡◌, ◌++◌, IfOk, OnOk, string_bytes};
+ghost use Rattle.setup_report.specs.Naming.{naming_view};
 ghost use Rattle.setup_report.specs.State.{threads};
-ghost use Rattle.command_why_words.specs.Asked.{asked_view};
+ghost use Rattle.command_why_words.specs.Asked.{asked_texts, asked_view};
 ghost use Rattle.command_why_words.specs.Reasons as spec;
 
 use cap_core::Profile;
 use command_why_words::{Asked, add_address, add_live};
 use ipc_core::Waiters;
 use kernel_core::Kernel;
-use setup_report::state_rows;
+use setup_report::{Naming, state_rows};
 use slot_core::DerivationStore;
 use std::alloc::{AllocError, Global};
 use std::collections::BTreeSet;
@@ -39,13 +40,14 @@ fn live_threads<P: Profile, S: DerivationStore<P> + Drop, W: Waiters<P> + Drop>(
 fn add_live_threads<P: Profile, S: DerivationStore<P> + Drop, W: Waiters<P> + Drop>(
     alloc: Global,
     out: &mut String,
+    naming: &Naming<'_>,
     kernel: &Kernel<P, S, W>,
 ) -> Result<(), AllocError>
     ensures { OnOk result (string_bytes out.new ≡ string_bytes out.old
-        ++ spec.live_line (threads P.profile kernel.now)) }
+        ++ spec.live_line (naming_view naming.now) (threads P.profile kernel.now)) }
 {
     let threads = live_threads::<P, S, W>(alloc, kernel)?;
-    add_live(out, threads.as_slice())
+    add_live(out, naming, threads.as_slice())
 }
 
 /// Adds that no live thread is at the address.
@@ -53,11 +55,11 @@ pub fn add_no_thread<P: Profile, S: DerivationStore<P> + Drop, W: Waiters<P> + D
     alloc: Global,
     out: &mut String,
     kernel: &Kernel<P, S, W>,
-    asked: Asked<'_>,
+    asked: Asked<'_, '_>,
 ) -> Result<(), AllocError>
     ensures { OnOk result (string_bytes out.new ≡ string_bytes out.old
-        ++ spec.no_thread_lines P.profile kernel.now (asked_view asked.entry)) }
+        ++ spec.no_thread_lines (asked_texts asked.entry) P.profile kernel.now (asked_view asked.entry)) }
 {
     add_address(out, asked)?;
-    add_live_threads::<P, S, W>(alloc, out, kernel)
+    add_live_threads::<P, S, W>(alloc, out, asked.naming, kernel)
 }

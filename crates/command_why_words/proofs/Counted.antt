@@ -21,7 +21,8 @@ use Rattle.kernel_abstract.specs.declared.reason.Reason.TheVariants.{NoThread, N
 use Rattle.kernel_abstract.specs.declared.reason.Word.{Word}
 use Rattle.kernel_abstract.specs.declared.reason.Word.TheVariants.{Invoked, Root, Index, SourceIndex}
 use Rattle.setup_report.specs.State.{threads}
-use Rattle.setup_report.specs.Text.{numbers_text}
+use Rattle.setup_report.specs.Naming.{Texts}
+use Rattle.setup_report.specs.Text.{threads_text}
 use Rattle.setup_report_laws.specs.Laws.{IsOneLine}
 use Rattle.setup_report_laws.proofs.OneLine.{both_lines, number_line}
 use Rattle.command_why_words.specs.Limits.{threads_told}
@@ -34,188 +35,188 @@ use Rattle.command_why_words.specs.Facts.{nothing_in, fact_lines, kind_lines, ri
 use Rattle.command_why_words.specs.Lookups.{start_line, no_root_lines, lookup_text, way_to, lookup_line, miss_text, would_text, hint_text, hint_line, hint_of, held_path, missed_lines, not_found_lines, no_depth_lines}
 use Rattle.command_why_words.specs.Reasons.{asked_thread_text, more_text, live_line, no_thread_line, does_text, not_ready_lines, reason_lines}
 use Rattle.command_why_words.specs.Retypes.{used_text, number_text, retyped_text}
-use Rattle.command_why_words.specs.Laws.{AreOneLineNames, HasLines}
+use Rattle.command_why_words.specs.Laws.{AreOneLineNames, AreOneLineTexts, HasLines}
 use Rattle.command_why_words.proofs.Texts as one_line
 
 -- ---- texts of so many lines, one behind another
 
-record Has (a : AskedView) (low high : ℕ) (text : List ℕ) : Type 0 where
+record Has (texts : Texts) (a : AskedView) (low high : ℕ) (text : List ℕ) : Type 0 where
   lines : List (List ℕ)
   is : text ≡ flat_map reason_line lines
-  apart : AreOneLineNames a → Each IsOneLine lines
+  apart : AreOneLineTexts texts → AreOneLineNames a → Each IsOneLine lines
   least : low ≤ length lines
   most : length lines ≤ high
 
-one : (a : AskedView) (text : List ℕ) → (AreOneLineNames a → IsOneLine text) → Has a 1 1 (reason_line text)
-one a text line =
+one : (texts : Texts) (a : AskedView) (text : List ℕ) → (AreOneLineTexts texts → AreOneLineNames a → IsOneLine text) → Has texts a 1 1 (reason_line text)
+one texts a text line =
     record {
       lines = text ∷ [];
       is = sym (append-nil (reason_line text));
-      apart = λ names. (line names, tt);
+      apart = λ told names. (line told names, tt);
       least = omega arith;
       most = omega arith;
     }
 
-nothing : (a : AskedView) → Has a 0 0 []
-nothing a = record { lines = []; is = refl; apart = λ names. tt; least = omega arith; most = omega arith }
+nothing : (texts : Texts) (a : AskedView) → Has texts a 0 0 []
+nothing texts a = record { lines = []; is = refl; apart = λ told names. tt; least = omega arith; most = omega arith }
 
-both : (a : AskedView) (low high least most : ℕ) (text more : List ℕ) → Has a low high text → Has a least most more → Has a (low + least) (high + most) (text ++ more)
-both a low high least most text more h k =
+both : (texts : Texts) (a : AskedView) (low high least most : ℕ) (text more : List ℕ) → Has texts a low high text → Has texts a least most more → Has texts a (low + least) (high + most) (text ++ more)
+both texts a low high least most text more h k =
     record {
       lines = h.lines ++ k.lines;
       is = (λ i. h.is i ++ k.is i) ∙ sym (flat_map-append reason_line h.lines k.lines);
-      apart = λ names. each-append IsOneLine h.lines k.lines (h.apart names) (k.apart names);
+      apart = λ told names. each-append IsOneLine h.lines k.lines (h.apart told names) (k.apart told names);
       least = omega (arith, length-append h.lines k.lines, h.least, k.least);
       most = omega (arith, length-append h.lines k.lines, h.most, k.most);
     }
 
-within : (a : AskedView) (low high least most : ℕ) (text : List ℕ) → least ≤ low → high ≤ most → Has a low high text → Has a least most text
-within a low high least most text l m h =
+within : (texts : Texts) (a : AskedView) (low high least most : ℕ) (text : List ℕ) → least ≤ low → high ≤ most → Has texts a low high text → Has texts a least most text
+within texts a low high least most text l m h =
     record { lines = h.lines; is = h.is; apart = h.apart; least = omega (arith, h.least); most = omega (arith, h.most) }
 
 -- ---- the parts of a text
 
-module _ (a : AskedView) where
-  two : (first second : List ℕ) → (AreOneLineNames a → IsOneLine first) → (AreOneLineNames a → IsOneLine second) → Has a 1 4 (reason_line first ++ reason_line second)
-  two first second h k = within a 2 2 1 4 (reason_line first ++ reason_line second) (omega arith) (omega arith) (both a 1 1 1 1 (reason_line first) (reason_line second) (one a first h) (one a second k))
+module _ (texts : Texts) (a : AskedView) where
+  two : (first second : List ℕ) → (AreOneLineTexts texts → AreOneLineNames a → IsOneLine first) → (AreOneLineTexts texts → AreOneLineNames a → IsOneLine second) → Has texts a 1 4 (reason_line first ++ reason_line second)
+  two first second h k = within texts a 2 2 1 4 (reason_line first ++ reason_line second) (omega arith) (omega arith) (both texts a 1 1 1 1 (reason_line first) (reason_line second) (one texts a first h) (one texts a second k))
 
-  single : (text : List ℕ) → (AreOneLineNames a → IsOneLine text) → Has a 1 4 (reason_line text)
-  single text h = within a 1 1 1 4 (reason_line text) (omega arith) (omega arith) (one a text h)
+  single : (text : List ℕ) → (AreOneLineTexts texts → AreOneLineNames a → IsOneLine text) → Has texts a 1 4 (reason_line text)
+  single text h = within texts a 1 1 1 4 (reason_line text) (omega arith) (omega arith) (one texts a text h)
 
-  fact : (word : Word) (held : Held) (said : List ℕ) → (AreOneLineNames a → IsOneLine said) → Has a 1 4 (fact_lines a word held said)
-  fact word held said h = two (led_said a word held) said (λ names. one_line.led_line a names word held) h
+  fact : (word : Word) (held : Held) (said : List ℕ) → (AreOneLineTexts texts → AreOneLineNames a → IsOneLine said) → Has texts a 1 4 (fact_lines texts a word held said)
+  fact word held said h = two (led_said texts a word held) said (λ told names. one_line.led_line texts a told names word held) h
 
-  three : (word : Word) (held : Held) (second third : List ℕ) → (AreOneLineNames a → IsOneLine second) → (AreOneLineNames a → IsOneLine third) → Has a 1 4 (fact_lines a word held second ++ reason_line third)
+  three : (word : Word) (held : Held) (second third : List ℕ) → (AreOneLineTexts texts → AreOneLineNames a → IsOneLine second) → (AreOneLineTexts texts → AreOneLineNames a → IsOneLine third) → Has texts a 1 4 (fact_lines texts a word held second ++ reason_line third)
   three word held second third h k =
-      within a 3 3 1 4 (fact_lines a word held second ++ reason_line third) (omega arith) (omega arith)
-      (both a 2 2 1 1 (fact_lines a word held second) (reason_line third)
-      (both a 1 1 1 1 (reason_line (led_said a word held)) (reason_line second) (one a (led_said a word held) (λ names. one_line.led_line a names word held)) (one a second h))
-      (one a third k))
+      within texts a 3 3 1 4 (fact_lines texts a word held second ++ reason_line third) (omega arith) (omega arith)
+      (both texts a 2 2 1 1 (fact_lines texts a word held second) (reason_line third)
+      (both texts a 1 1 1 1 (reason_line (led_said texts a word held)) (reason_line second) (one texts a (led_said texts a word held) (λ told names. one_line.led_line texts a told names word held)) (one texts a second h))
+      (one texts a third k))
 
-  start : (word : Word) (from : Held) → Has a 1 1 (start_line a word from)
+  start : (word : Word) (from : Held) → Has texts a 1 1 (start_line texts a word from)
   start word from =
-      let whole = word_said a word ++ (codes " is looked up from the thread's root " ++ text.slot_and_content from) in
-      let index = word_said a word ++ (codes " " ++ (depth_said a word ++ (codes " is looked up from " ++ text.slot_and_content from))) in
-      elim (is_whole word) as (λ b. Has a 1 1 (cond b (reason_line whole) (reason_line index))) [
-        | true ↦ one a whole (λ names. one_line.whole_start_line a names word from)
-        | false ↦ one a index (λ names. one_line.index_start_line a names word from)
+      let whole = word_said a word ++ (codes " is looked up from the thread's root " ++ text.slot_and_content texts from) in
+      let index = word_said a word ++ (codes " " ++ (depth_said a word ++ (codes " is looked up from " ++ text.slot_and_content texts from))) in
+      elim (is_whole word) as (λ b. Has texts a 1 1 (cond b (reason_line whole) (reason_line index))) [
+        | true ↦ one texts a whole (λ told names. one_line.whole_start_line texts a told names word from)
+        | false ↦ one texts a index (λ told names. one_line.index_start_line texts a told names word from)
       ]
 
-  no_root : (word : Word) (from : Held) → Has a 2 2 (no_root_lines a word from)
+  no_root : (word : Word) (from : Held) → Has texts a 2 2 (no_root_lines texts a word from)
   no_root word from =
-      let whole = start_line a word from ++ reason_line (codes "the thread has no capability space") in
-      let led = led_said a (root_of word) from in
+      let whole = start_line texts a word from ++ reason_line (codes "the thread has no capability space") in
+      let led = led_said texts a (root_of word) from in
       let said = word_key word ++ codes " is looked up from a CNode's capability" in
-      elim (is_whole word) as (λ b. Has a 2 2 (cond b whole (reason_line led ++ reason_line said))) [
-        | true ↦ both a 1 1 1 1 (start_line a word from) (reason_line (codes "the thread has no capability space")) (start word from) (one a (codes "the thread has no capability space") (λ names. refl))
-        | false ↦ both a 1 1 1 1 (reason_line led) (reason_line said) (one a led (λ names. one_line.led_line a names (root_of word) from))
-            (one a said (λ names. both_lines (word_key word) (codes " is looked up from a CNode's capability") (one_line.key_line word) refl))
+      elim (is_whole word) as (λ b. Has texts a 2 2 (cond b whole (reason_line led ++ reason_line said))) [
+        | true ↦ both texts a 1 1 1 1 (start_line texts a word from) (reason_line (codes "the thread has no capability space")) (start word from) (one texts a (codes "the thread has no capability space") (λ told names. refl))
+        | false ↦ both texts a 1 1 1 1 (reason_line led) (reason_line said) (one texts a led (λ told names. one_line.led_line texts a told names (root_of word) from))
+            (one texts a said (λ told names. both_lines (word_key word) (codes " is looked up from a CNode's capability") (one_line.key_line word) refl))
       ]
 
-  way_on : (between : List Held) (last : Option Held) → Has a 0 1 (way_to between last)
-  way_on between None = within a 0 0 0 1 [] (omega arith) (omega arith) (nothing a)
-  way_on between (Some last) = within a 1 1 0 1 (reason_line (lookup_text between last)) (omega arith) (omega arith) (one a (lookup_text between last) (λ names. one_line.way_line between last))
+  way_on : (between : List Held) (last : Option Held) → Has texts a 0 1 (way_to texts between last)
+  way_on between None = within texts a 0 0 0 1 [] (omega arith) (omega arith) (nothing texts a)
+  way_on between (Some last) = within texts a 1 1 0 1 (reason_line (lookup_text texts between last)) (omega arith) (omega arith) (one texts a (lookup_text texts between last) (λ told names. one_line.way_line texts told between last))
 
-  way : (slots : List Held) → Has a 0 1 (lookup_line slots)
-  way [] = within a 0 0 0 1 [] (omega arith) (omega arith) (nothing a)
+  way : (slots : List Held) → Has texts a 0 1 (lookup_line texts slots)
+  way [] = within texts a 0 0 0 1 [] (omega arith) (omega arith) (nothing texts a)
   way (first ∷ rest) = way_on (take (length rest - 1) rest) (slice_get rest (length rest - 1))
 
-  hint : (word : Word) (h : Option Hint) → Has a 0 1 (hint_line word h)
-  hint word None = within a 0 0 0 1 [] (omega arith) (omega arith) (nothing a)
+  hint : (word : Word) (h : Option Hint) → Has texts a 0 1 (hint_line texts word h)
+  hint word None = within texts a 0 0 0 1 [] (omega arith) (omega arith) (nothing texts a)
   hint word (Some (Depth depth slot)) =
-      let said = hint_text (depth_key word) depth (codes " would name slot ") slot in
-      within a 1 1 0 1 (reason_line said) (omega arith) (omega arith) (one a said (λ names. one_line.hint_line (depth_key word) depth (codes " would name slot ") slot (one_line.depth_key_line word) refl))
+      let said = hint_text texts (depth_key word) depth (codes " would name slot ") slot in
+      within texts a 1 1 0 1 (reason_line said) (omega arith) (omega arith) (one texts a said (λ told names. one_line.hint_line texts told (depth_key word) depth (codes " would name slot ") slot (one_line.depth_key_line word) refl))
   hint word (Some (Number number slot)) =
-      let said = hint_text (word_key word) number (would_text word) slot in
-      within a 1 1 0 1 (reason_line said) (omega arith) (omega arith) (one a said (λ names. one_line.hint_line (word_key word) number (would_text word) slot (one_line.key_line word) (one_line.would_line word)))
+      let said = hint_text texts (word_key word) number (would_text word) slot in
+      within texts a 1 1 0 1 (reason_line said) (omega arith) (omega arith) (one texts a said (λ told names. one_line.hint_line texts told (word_key word) number (would_text word) slot (one_line.key_line word) (one_line.would_line word)))
 
-  missed : (p : ProfileName) (v : Shown) (word : Word) (from : Held) (m : Miss) → Has a 1 4 (missed_lines p v a word from m)
+  missed : (p : ProfileName) (v : Shown) (word : Word) (from : Held) (m : Miss) → Has texts a 1 4 (missed_lines texts p v a word from m)
   missed p v word from m =
-      let slots = lookup_line (held_path p v (key_words a.call.op) word from) in
-      let last = hint_line word (hint_of p v (key_words a.call.op) word from) in
-      within a 2 4 1 4 (missed_lines p v a word from m) (omega arith) (omega arith)
-      (both a 1 1 1 3 (start_line a word from) (slots ++ (reason_line (miss_text m) ++ last)) (start word from)
-      (both a 0 1 1 2 slots (reason_line (miss_text m) ++ last) (way (held_path p v (key_words a.call.op) word from))
-      (both a 1 1 0 1 (reason_line (miss_text m)) last (one a (miss_text m) (λ names. one_line.miss_line m)) (hint word (hint_of p v (key_words a.call.op) word from)))))
+      let slots = lookup_line texts (held_path p v (key_words a.call.op) word from) in
+      let last = hint_line texts word (hint_of p v (key_words a.call.op) word from) in
+      within texts a 2 4 1 4 (missed_lines texts p v a word from m) (omega arith) (omega arith)
+      (both texts a 1 1 1 3 (start_line texts a word from) (slots ++ (reason_line (miss_text m) ++ last)) (start word from)
+      (both texts a 0 1 1 2 slots (reason_line (miss_text m) ++ last) (way (held_path p v (key_words a.call.op) word from))
+      (both texts a 1 1 0 1 (reason_line (miss_text m)) last (one texts a (miss_text m) (λ told names. one_line.miss_line m)) (hint word (hint_of p v (key_words a.call.op) word from)))))
 
-  not_found : (p : ProfileName) (v : Shown) (word : Word) (from : Held) (m : Miss) → Has a 1 4 (not_found_lines p v a word from m)
-  not_found p v word from miss.NoRoot = within a 2 2 1 4 (no_root_lines a word from) (omega arith) (omega arith) (no_root word from)
+  not_found : (p : ProfileName) (v : Shown) (word : Word) (from : Held) (m : Miss) → Has texts a 1 4 (not_found_lines texts p v a word from m)
+  not_found p v word from miss.NoRoot = within texts a 2 2 1 4 (no_root_lines texts a word from) (omega arith) (omega arith) (no_root word from)
   not_found p v word from m = missed p v word from m
 
-  no_depth : (p : ProfileName) (v : Shown) (word : Word) (from : Held) (most : ℕ) → Has a 1 4 (no_depth_lines p v a word from most)
+  no_depth : (p : ProfileName) (v : Shown) (word : Word) (from : Held) (most : ℕ) → Has texts a 1 4 (no_depth_lines texts p v a word from most)
   no_depth p v word from most =
       let said = depth_said a word ++ (codes " is not from 1 to " ++ decimal most) in
-      let last = hint_line word (hint_of p v (key_words a.call.op) word from) in
-      within a 1 2 1 4 (reason_line said ++ last) (omega arith) (omega arith)
-      (both a 1 1 0 1 (reason_line said) last (one a said (λ names. one_line.depth_and a names word (codes " is not from 1 to " ++ decimal most) (number_line most)))
+      let last = hint_line texts word (hint_of p v (key_words a.call.op) word from) in
+      within texts a 1 2 1 4 (reason_line said ++ last) (omega arith) (omega arith)
+      (both texts a 1 1 0 1 (reason_line said) last (one texts a said (λ told names. one_line.depth_and texts a told names word (codes " is not from 1 to " ++ decimal most) (number_line most)))
       (hint word (hint_of p v (key_words a.call.op) word from)))
 
-  no_thread : Has a 1 1 (no_thread_line a)
+  no_thread : Has texts a 1 1 (no_thread_line texts a)
   unfolding no_thread_line
   no_thread =
-      one a (codes "no live thread is at " ++ asked_thread_text a) (λ names. one_line.thread_line a names)
+      one texts a (codes "no live thread is at " ++ asked_thread_text texts a) (λ told names. one_line.thread_line texts a told names)
 
-  live : (list : List ℕ) → Has a 1 1 (live_line list)
+  live : (list : List ℕ) → Has texts a 1 1 (live_line texts list)
   unfolding live_line
-  live [] = one a (codes "no thread is live") (λ names. refl)
+  live [] = one texts a (codes "no thread is live") (λ told names. refl)
   live (first ∷ rest) =
-      one a (codes "live threads:" ++ (numbers_text (take threads_told (first ∷ rest)) ++ more_text (length (first ∷ rest))))
-      (λ names. one_line.live_threads_line threads_told (first ∷ rest))
+      one texts a (codes "live threads:" ++ (threads_text texts (take threads_told (first ∷ rest)) ++ more_text (length (first ∷ rest))))
+      (λ told names. one_line.live_threads_line texts told threads_told (first ∷ rest))
 
-  not_ready : (state : ThreadState) → Has a 1 4 (not_ready_lines a state)
+  not_ready : (state : ThreadState) → Has texts a 1 4 (not_ready_lines texts a state)
   not_ready state =
-      two (codes "thread " ++ (asked_thread_text a ++ (codes " " ++ does_text state))) (codes "a call is made by a thread that is ready")
-      (λ names. one_line.thread_and a names (codes " " ++ does_text state) (one_line.does_line state)) (λ names. refl)
+      two (codes "thread " ++ (asked_thread_text texts a ++ (codes " " ++ does_text texts state))) (codes "a call is made by a thread that is ready")
+      (λ told names. one_line.thread_and texts a told names (codes " " ++ does_text texts state) (one_line.does_line texts told state)) (λ told names. refl)
 
-  kind : (held : Held) (wanted : Kind) → Has a 1 4 (kind_lines a held wanted)
+  kind : (held : Held) (wanted : Kind) → Has texts a 1 4 (kind_lines texts a held wanted)
   kind held wanted =
       fact Invoked held (an_op a.call.op ++ (codes " is made by " ++ kind_text wanted))
-      (λ names. one_line.op_and a.call.op (codes " is made by " ++ kind_text wanted) (one_line.kind_line wanted))
+      (λ told names. one_line.op_and a.call.op (codes " is made by " ++ kind_text wanted) (one_line.kind_line wanted))
 
-  right : (held : Held) (needed : Right) → Has a 1 4 (right_lines a held needed)
+  right : (held : Held) (needed : Right) → Has texts a 1 4 (right_lines texts a held needed)
   right held needed =
       fact Invoked held (an_op a.call.op ++ (codes " needs the right " ++ right_words needed))
-      (λ names. one_line.op_and a.call.op (codes " needs the right " ++ right_words needed) (one_line.right_line needed))
+      (λ told names. one_line.op_and a.call.op (codes " needs the right " ++ right_words needed) (one_line.right_line needed))
 
-  children : (source : Held) (child : ℕ) → Has a 1 4 (children_lines a source child)
+  children : (source : Held) (child : ℕ) → Has texts a 1 4 (children_lines texts a source child)
   children source child =
-      three SourceIndex source (codes "it has children, the first of them in slot " ++ decimal child) (an_op a.call.op ++ codes " is made of an untyped capability only while it has no children")
-      (λ names. number_line child) (λ names. one_line.op_and a.call.op (codes " is made of an untyped capability only while it has no children") refl)
+      three SourceIndex source (codes "it has children, the first of them in slot " ++ texts.slot child) (an_op a.call.op ++ codes " is made of an untyped capability only while it has no children")
+      (λ told names. told.1 child) (λ told names. one_line.op_and a.call.op (codes " is made of an untyped capability only while it has no children") refl)
 
 -- ---- each reason
 
-counted : (p : ProfileName) (v : Shown) (a : AskedView) (reason : Reason) → Has a 1 4 (reason_lines p v a reason)
-counted p v a NoThread =
-    within a 2 2 1 4 (no_thread_line a ++ live_line (threads p v)) (omega arith) (omega arith)
-    (both a 1 1 1 1 (no_thread_line a) (live_line (threads p v)) (no_thread a) (live a (threads p v)))
-counted p v a (NotReady state) = not_ready a state
-counted p v a (NotFound word from m) = not_found a p v word from m
-counted p v a (NoDepth word from most) = no_depth a p v word from most
-counted p v a (NoCapability slot wanted) = kind a (nothing_in slot) wanted
-counted p v a (OtherKind found wanted) = kind a found wanted
-counted p v a (NoRight found needed) = right a found needed
-counted p v a (LongGuard word node size most) = fact a word node (guard_text a size (radix_of node.cap) most) (λ names. one_line.guard_line a names size (radix_of node.cap) most)
-counted p v a (HasChildren source child) = children a source child
-counted p v a (IsFull held) = fact a Index held (codes "the slot to fill has to be empty") (λ names. refl)
-counted p v a (IsEmpty slot) = fact a SourceIndex (nothing_in slot) (codes "the source has to be full") (λ names. refl)
-counted p v a (HasBadge held) = fact a SourceIndex held (badge_text a.call.op) (λ names. one_line.badge_line a.call.op)
-counted p v a (NotAllRights held) = fact a Index held (codes "a cancel_badged names an endpoint's capability with all four rights") (λ names. refl)
-counted p v a (NoSpace held) = fact a Root held (codes "a thread's capability space begins at a CNode's capability") (λ names. refl)
-counted p v a NoKind = single a (number_text a NoKind) (λ names. one_line.number_text_line a names NoKind)
-counted p v a (NoSize below) = single a (number_text a (NoSize below)) (λ names. one_line.number_text_line a names (NoSize below))
-counted p v a (TooLarge k bits most) = single a (number_text a (TooLarge k bits most)) (λ names. one_line.number_text_line a names (TooLarge k bits most))
-counted p v a (TooSmall k least) = single a (number_text a (TooSmall k least)) (λ names. one_line.number_text_line a names (TooSmall k least))
-counted p v a (NoCount most) = single a (number_text a (NoCount most)) (λ names. one_line.number_text_line a names (NoCount most))
-counted p v a (NoNode word found) = fact a word found (retyped_text a (NoNode word found)) (λ names. one_line.objects_line a names (NoNode word found))
-counted p v a (NoOffset word node) = fact a word node (retyped_text a (NoOffset word node)) (λ names. one_line.objects_line a names (NoOffset word node))
-counted p v a (FewSlots word node) = fact a word node (retyped_text a (FewSlots word node)) (λ names. one_line.objects_line a names (FewSlots word node))
-counted p v a (SomeFull word node number full) =
-    fact a word node (retyped_text a (SomeFull word node number full)) (λ names. one_line.objects_line a names (SomeFull word node number full))
-counted p v a (NoRoom untyped has_children begin bits room) =
-    three a Invoked untyped (used_text untyped has_children begin) (retyped_text a (NoRoom untyped has_children begin bits room))
-    (λ names. one_line.used_line untyped has_children begin) (λ names. one_line.objects_line a names (NoRoom untyped has_children begin bits room))
+counted : (texts : Texts) (p : ProfileName) (v : Shown) (a : AskedView) (reason : Reason) → Has texts a 1 4 (reason_lines texts p v a reason)
+counted texts p v a NoThread =
+    within texts a 2 2 1 4 (no_thread_line texts a ++ live_line texts (threads p v)) (omega arith) (omega arith)
+    (both texts a 1 1 1 1 (no_thread_line texts a) (live_line texts (threads p v)) (no_thread texts a) (live texts a (threads p v)))
+counted texts p v a (NotReady state) = not_ready texts a state
+counted texts p v a (NotFound word from m) = not_found texts a p v word from m
+counted texts p v a (NoDepth word from most) = no_depth texts a p v word from most
+counted texts p v a (NoCapability slot wanted) = kind texts a (nothing_in slot) wanted
+counted texts p v a (OtherKind found wanted) = kind texts a found wanted
+counted texts p v a (NoRight found needed) = right texts a found needed
+counted texts p v a (LongGuard word node size most) = fact texts a word node (guard_text a size (radix_of node.cap) most) (λ told names. one_line.guard_line texts a told names size (radix_of node.cap) most)
+counted texts p v a (HasChildren source child) = children texts a source child
+counted texts p v a (IsFull held) = fact texts a Index held (codes "the slot to fill has to be empty") (λ told names. refl)
+counted texts p v a (IsEmpty slot) = fact texts a SourceIndex (nothing_in slot) (codes "the source has to be full") (λ told names. refl)
+counted texts p v a (HasBadge held) = fact texts a SourceIndex held (badge_text a.call.op) (λ told names. one_line.badge_line a.call.op)
+counted texts p v a (NotAllRights held) = fact texts a Index held (codes "a cancel_badged names an endpoint's capability with all four rights") (λ told names. refl)
+counted texts p v a (NoSpace held) = fact texts a Root held (codes "a thread's capability space begins at a CNode's capability") (λ told names. refl)
+counted texts p v a NoKind = single texts a (number_text a NoKind) (λ told names. one_line.number_text_line texts a told names NoKind)
+counted texts p v a (NoSize below) = single texts a (number_text a (NoSize below)) (λ told names. one_line.number_text_line texts a told names (NoSize below))
+counted texts p v a (TooLarge k bits most) = single texts a (number_text a (TooLarge k bits most)) (λ told names. one_line.number_text_line texts a told names (TooLarge k bits most))
+counted texts p v a (TooSmall k least) = single texts a (number_text a (TooSmall k least)) (λ told names. one_line.number_text_line texts a told names (TooSmall k least))
+counted texts p v a (NoCount most) = single texts a (number_text a (NoCount most)) (λ told names. one_line.number_text_line texts a told names (NoCount most))
+counted texts p v a (NoNode word found) = fact texts a word found (retyped_text texts a (NoNode word found)) (λ told names. one_line.objects_line texts a told names (NoNode word found))
+counted texts p v a (NoOffset word node) = fact texts a word node (retyped_text texts a (NoOffset word node)) (λ told names. one_line.objects_line texts a told names (NoOffset word node))
+counted texts p v a (FewSlots word node) = fact texts a word node (retyped_text texts a (FewSlots word node)) (λ told names. one_line.objects_line texts a told names (FewSlots word node))
+counted texts p v a (SomeFull word node number full) =
+    fact texts a word node (retyped_text texts a (SomeFull word node number full)) (λ told names. one_line.objects_line texts a told names (SomeFull word node number full))
+counted texts p v a (NoRoom untyped has_children begin bits room) =
+    three texts a Invoked untyped (used_text untyped has_children begin) (retyped_text texts a (NoRoom untyped has_children begin bits room))
+    (λ told names. one_line.used_line untyped has_children begin) (λ told names. one_line.objects_line texts a told names (NoRoom untyped has_children begin bits room))
 
-pub reason_counted : (p : ProfileName) (v : Shown) (a : AskedView) (reason : Reason) → HasLines a 1 4 (reason_lines p v a reason)
-reason_counted p v a reason =
-    let h = counted p v a reason in
-    record { lines = h.lines; is = h.is; apart = λ names. All-from_recursion IsOneLine h.lines (h.apart names); least = h.least; most = h.most }
+pub reason_counted : (texts : Texts) (p : ProfileName) (v : Shown) (a : AskedView) (reason : Reason) → HasLines texts a 1 4 (reason_lines texts p v a reason)
+reason_counted texts p v a reason =
+    let h = counted texts p v a reason in
+    record { lines = h.lines; is = h.is; apart = λ told names. All-from_recursion IsOneLine h.lines (h.apart told names); least = h.least; most = h.most }

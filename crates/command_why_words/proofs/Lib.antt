@@ -2,3 +2,4 @@ mod Counted
 mod Keyed
 mod Spelt
 mod Texts
+mod Told

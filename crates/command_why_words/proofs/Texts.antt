@@ -1,9 +1,10 @@
--- The texts of reasons have no line feed, where the names of the call's table have none.
-use Rattle.std.proofs.Common.{◌≡◌, ℕ, zero, suc, ◌-◌, ◌^◌, nat_lt, Bool, true, false, cond, List, [], ◌∷◌, ◌++◌, length, take, Option, None, Some, refl}
+-- The texts of reasons have no line feed, where the names of the call's table, and what is told of objects and slots, have none.
+use Rattle.std.proofs.Common.{◌≡◌, ℕ, zero, suc, ◌-◌, ◌^◌, ◌==◌, ◌&&◌, nat_lt, Bool, true, false, not, cond, List, [], ◌∷◌, ◌++◌, length, take, Option, None, Some, refl}
 use Rattle.std.specs.Prelude.{codes}
 use Rattle.std.specs.Fmt.{decimal}
+use Rattle.std.specs.List.{list_all}
 use Rattle.cap_core.specs.declared.capability.Cap.{Cap}
-use Rattle.cap_core.specs.declared.capability.Cap.TheVariants.{Null}
+use Rattle.cap_core.specs.declared.capability.Cap.TheVariants.{Null, Untyped, Endpoint, CNode, Tcb}
 use Rattle.cap_core.specs.declared.capability.Guard.{Guard}
 use Rattle.cap_core.specs.declared.capability.Kind.{Kind}
 use Rattle.cap_core.specs.declared.capability.Kind.TheVariants as kind
@@ -20,7 +21,9 @@ use Rattle.kernel_abstract.specs.declared.reason.Reason.{Reason}
 use Rattle.kernel_abstract.specs.declared.reason.Reason.TheVariants.{NoKind, NoSize, TooLarge, TooSmall, NoNode, NoOffset, NoCount, FewSlots, SomeFull, NoRoom}
 use Rattle.kernel_abstract.specs.declared.reason.Word.{Word}
 use Rattle.kernel_abstract.specs.declared.reason.Word.TheVariants.{Invoked}
-use Rattle.setup_report.specs.Text.{numbers_text}
+use Rattle.setup_report.specs.declared.objects.Object.{Object}
+use Rattle.setup_report.specs.Naming.{Texts}
+use Rattle.setup_report.specs.Text.{cap_text, rights_text, threads_text}
 use Rattle.setup_report_laws.specs.Laws.{IsOneLine}
 use Rattle.setup_report_laws.proofs.OneLine.{both_lines, number_line, number_and, capability_line}
 use Rattle.command_why_words.specs.Limits.{threads_told}
@@ -33,7 +36,7 @@ use Rattle.command_why_words.specs.Facts.{right_words, badge_text, long_text, gu
 use Rattle.command_why_words.specs.Lookups.{by_text, held_slots_text, lookup_text, guard_lookup_text as found_guard_text, miss_text, would_text, hint_text}
 use Rattle.command_why_words.specs.Reasons.{asked_thread_text, more_text, does_text}
 use Rattle.command_why_words.specs.Retypes.{region_bits, used_text, number_text, room_text, retyped_text}
-use Rattle.command_why_words.specs.Laws.{AreOneLineNames}
+use Rattle.command_why_words.specs.Laws.{AreOneLineNames, AreOneLineTexts}
 
 -- ---- keys, operations and kinds
 
@@ -77,12 +80,6 @@ pub badge_line : (op : Op) → IsOneLine (badge_text op)
 badge_line (CapMutate cap index depth src_root src_index src_depth word) = refl
 badge_line op = refl
 
-pub does_line : (state : ThreadState) → IsOneLine (does_text state)
-does_line Ready = refl
-does_line Inactive = refl
-does_line (Sending endpoint) = number_line endpoint
-does_line (Receiving endpoint) = number_line endpoint
-
 -- ---- numbers
 
 power_line : (bits : ℕ) → IsOneLine (power_text bits)
@@ -101,46 +98,82 @@ last_line bits =
       | false ↦ number_and bits (codes " - 1") refl
     ]
 
-numbers_line : (numbers : List ℕ) → IsOneLine (numbers_text numbers)
-numbers_line [] = refl
-numbers_line (n ∷ numbers) = number_and n (numbers_text numbers) (numbers_line numbers)
+more_line : (many : ℕ) → IsOneLine (more_text many)
+more_line many =
+    elim (nat_lt threads_told many) as (λ b. IsOneLine (cond b (codes " and " ++ (decimal (many - threads_told) ++ codes " more")) (codes ""))) [
+      | true ↦ number_and (many - threads_told) (codes " more") refl
+      | false ↦ refl
+    ]
 
-pub live_threads_line : (count : ℕ) (list : List ℕ) → IsOneLine (codes "live threads:" ++ (numbers_text (take count list) ++ more_text (length list)))
-live_threads_line count list = both_lines (numbers_text (take count list)) (more_text (length list)) (numbers_line (take count list)) (more_line (length list))
-  where
-    more_line : (many : ℕ) → IsOneLine (more_text many)
-    more_line many =
-        elim (nat_lt threads_told many) as (λ b. IsOneLine (cond b (codes " and " ++ (decimal (many - threads_told) ++ codes " more")) (codes ""))) [
-          | true ↦ number_and (many - threads_told) (codes " more") refl
-          | false ↦ refl
-        ]
+-- ---- objects and slots
 
--- ---- slots
+second : (a b : Bool) → (a && b) ≡ true → b ≡ true
+second true b h = h
+second false b h = absurd cc
 
-content_line : (cap : Cap) → IsOneLine (content_text cap)
-content_line Null = refl
-content_line cap = capability_line cap
-
-slot_line : (held : Held) → IsOneLine (slot_and_content held)
-unfolding slot_and_content
-slot_line held = number_and held.slot (codes ": " ++ content_text held.cap) (content_line held.cap)
-
-slots_line : (slots : List Held) → IsOneLine (held_slots_text slots)
-slots_line [] = refl
-slots_line (held ∷ slots) = number_and held.slot (held_slots_text slots) (slots_line slots)
+-- the second of two texts
+behind_line : (text more : List ℕ) → IsOneLine (text ++ more) → IsOneLine more
+behind_line [] more h = h
+behind_line (byte ∷ text) more h = behind_line text more (second (not (byte == 10)) (list_all (λ b. not (b == 10)) (text ++ more)) h)
 
 by_line : (count : ℕ) → IsOneLine (by_text count)
 by_line zero = refl
 by_line (suc zero) = refl
 by_line (suc (suc count)) = refl
 
-pub way_line : (between : List Held) (last : Held) → IsOneLine (lookup_text between last)
-unfolding lookup_text
-way_line between last =
-    both_lines (by_text (length between)) (held_slots_text between ++ (codes " to " ++ slot_and_content last)) (by_line (length between))
-    (both_lines (held_slots_text between) (codes " to " ++ slot_and_content last) (slots_line between) (slot_line last))
+module _ (texts : Texts) (told : AreOneLineTexts texts) where
+  pub does_line : (state : ThreadState) → IsOneLine (does_text texts state)
+  does_line Ready = refl
+  does_line Inactive = refl
+  does_line (Sending endpoint) = told.0 (Object.Endpoint endpoint)
+  does_line (Receiving endpoint) = told.0 (Object.Endpoint endpoint)
 
--- ---- why a lookup ends, and what would lead to a slot
+  threads_line : (list : List ℕ) → IsOneLine (threads_text texts list)
+  threads_line [] = refl
+  threads_line (thread ∷ list) = both_lines (texts.object (Object.Thread thread)) (threads_text texts list) (told.0 (Object.Thread thread)) (threads_line list)
+
+  pub live_threads_line : (count : ℕ) (list : List ℕ) → IsOneLine (codes "live threads:" ++ (threads_text texts (take count list) ++ more_text (length list)))
+  live_threads_line count list = both_lines (threads_text texts (take count list)) (more_text (length list)) (threads_line (take count list)) (more_line (length list))
+
+  -- what is told of a capability behind its object is told alike by addresses
+  cap_line : (cap : Cap) → IsOneLine (cap_text texts cap)
+  cap_line Null = refl
+  cap_line (Untyped base bits free) =
+      let rest = codes " bits " ++ (decimal bits ++ (codes " free " ++ decimal free)) in
+      both_lines (texts.object (Object.Region base bits)) rest (told.0 (Object.Region base bits)) (behind_line (decimal base) rest (capability_line (Untyped base bits free)))
+  cap_line (Endpoint base badge rights) =
+      let rest = codes " badge " ++ (decimal badge.0 ++ (codes " rights " ++ rights_text rights)) in
+      both_lines (texts.object (Object.Endpoint base)) rest (told.0 (Object.Endpoint base)) (behind_line (decimal base) rest (capability_line (Endpoint base badge rights)))
+  cap_line (CNode base radix guard) =
+      let rest = codes " radix " ++ (decimal radix ++ (codes " guard " ++ (decimal guard.value ++ (codes " size " ++ decimal guard.size)))) in
+      both_lines (texts.object (Object.CNode base)) rest (told.0 (Object.CNode base)) (behind_line (decimal base) rest (capability_line (CNode base radix guard)))
+  cap_line (Tcb base) = told.0 (Object.Thread base)
+
+  pub content_line : (cap : Cap) → IsOneLine (content_text texts cap)
+  content_line Null = refl
+  content_line cap = cap_line cap
+
+  pub slot_line : (held : Held) → IsOneLine (slot_and_content texts held)
+  unfolding slot_and_content
+  slot_line held = both_lines (texts.slot held.slot) (codes ": " ++ content_text texts held.cap) (told.1 held.slot) (content_line held.cap)
+
+  slots_line : (slots : List Held) → IsOneLine (held_slots_text texts slots)
+  slots_line [] = refl
+  slots_line (held ∷ slots) = both_lines (texts.slot held.slot) (held_slots_text texts slots) (told.1 held.slot) (slots_line slots)
+
+  pub way_line : (between : List Held) (last : Held) → IsOneLine (lookup_text texts between last)
+  unfolding lookup_text
+  way_line between last =
+      both_lines (by_text (length between)) (held_slots_text texts between ++ (codes " to " ++ slot_and_content texts last)) (by_line (length between))
+      (both_lines (held_slots_text texts between) (codes " to " ++ slot_and_content texts last) (slots_line between) (slot_line last))
+
+  pub hint_line : (key : List ℕ) (number : ℕ) (would : List ℕ) (slot : ℕ) → IsOneLine key → IsOneLine would → IsOneLine (hint_text texts key number would slot)
+  unfolding hint_text
+  hint_line key number would slot h k =
+      both_lines key (codes " " ++ (decimal number ++ (would ++ texts.slot slot))) h
+      (number_and number (would ++ texts.slot slot) (both_lines would (texts.slot slot) k (told.1 slot)))
+
+-- ---- why a lookup ends
 
 found_guard_line : (guard : Guard) (left read : ℕ) → IsOneLine (found_guard_text guard left read)
 unfolding found_guard_text
@@ -161,12 +194,6 @@ miss_line (OtherGuard node left read) = found_guard_line (guard_of node.cap) lef
 miss_line (TooFewBits node left) = number_and (radix_of node.cap) (codes "; bits left behind the guard: " ++ decimal left) (number_line left)
 miss_line (BitsLeft found left) = number_line left
 
-pub hint_line : (key : List ℕ) (number : ℕ) (would : List ℕ) (slot : ℕ) → IsOneLine key → IsOneLine would → IsOneLine (hint_text key number would slot)
-unfolding hint_text
-hint_line key number would slot h k =
-    both_lines key (codes " " ++ (decimal number ++ (would ++ decimal slot))) h
-    (number_and number (would ++ decimal slot) (both_lines would (decimal slot) k (number_line slot)))
-
 -- ---- retypes
 
 pub used_line : (untyped : Held) (has_children : Bool) (start : ℕ) → IsOneLine (used_text untyped has_children start)
@@ -183,7 +210,7 @@ room_line bits room = both_lines (power_text bits) (codes " bytes it has room fo
 
 -- ---- what speaks of the call
 
-module _ (a : AskedView) (names : AreOneLineNames a) where
+module _ (texts : Texts) (a : AskedView) (told : AreOneLineTexts texts) (names : AreOneLineNames a) where
   name_line : (name : Option (List ℕ)) → ((text : List ℕ) → name ≡ Some text → IsOneLine text) → IsOneLine (name_text name)
   name_line None h = refl
   name_line (Some text) h = h text refl
@@ -207,31 +234,32 @@ module _ (a : AskedView) (names : AreOneLineNames a) where
   unfolding depth_said
   depth_and word rest h = said_and (depth_key word) rest (depth_key_line word) h
 
-  pub thread_line : IsOneLine (codes "no live thread is at " ++ asked_thread_text a)
+  spelt_line : (by_name : Bool) → IsOneLine (cond by_name (codes "") (name_text (name_at a.table (codes "thread"))))
+  spelt_line true = refl
+  spelt_line false = name_line (name_at a.table (codes "thread")) (names (codes "thread"))
+
+  pub thread_line : IsOneLine (asked_thread_text texts a)
   unfolding asked_thread_text asked_thread_name
   thread_line =
-      let name = name_text (name_at a.table (codes "thread")) in
-      number_and a.call.thread name (name_line (name_at a.table (codes "thread")) (names (codes "thread")))
+      let thread = Object.Thread a.call.thread in
+      both_lines (texts.object thread) (cond texts.by_name (codes "") (name_text (name_at a.table (codes "thread")))) (told.0 thread) (spelt_line texts.by_name)
 
-  pub thread_and : (rest : List ℕ) → IsOneLine rest → IsOneLine (asked_thread_text a ++ rest)
-  unfolding asked_thread_text asked_thread_name
-  thread_and rest h =
-      let name = name_text (name_at a.table (codes "thread")) in
-      both_lines (decimal a.call.thread ++ name) rest (number_and a.call.thread name (name_line (name_at a.table (codes "thread")) (names (codes "thread")))) h
+  pub thread_and : (rest : List ℕ) → IsOneLine rest → IsOneLine (asked_thread_text texts a ++ rest)
+  thread_and rest h = both_lines (asked_thread_text texts a) rest thread_line h
 
-  pub led_line : (word : Word) (held : Held) → IsOneLine (led_said a word held)
+  pub led_line : (word : Word) (held : Held) → IsOneLine (led_said texts a word held)
   unfolding led_said
   led_line word held =
-      word_and word (codes " " ++ (verb word ++ (codes " " ++ slot_and_content held)))
-      (both_lines (verb word) (codes " " ++ slot_and_content held) (verb_line word) (slot_line held))
+      word_and word (codes " " ++ (verb word ++ (codes " " ++ slot_and_content texts held)))
+      (both_lines (verb word) (codes " " ++ slot_and_content texts held) (verb_line word) (slot_line texts told held))
 
-  pub whole_start_line : (word : Word) (from : Held) → IsOneLine (word_said a word ++ (codes " is looked up from the thread's root " ++ slot_and_content from))
-  whole_start_line word from = word_and word (codes " is looked up from the thread's root " ++ slot_and_content from) (slot_line from)
+  pub whole_start_line : (word : Word) (from : Held) → IsOneLine (word_said a word ++ (codes " is looked up from the thread's root " ++ slot_and_content texts from))
+  whole_start_line word from = word_and word (codes " is looked up from the thread's root " ++ slot_and_content texts from) (slot_line texts told from)
 
-  pub index_start_line : (word : Word) (from : Held) → IsOneLine (word_said a word ++ (codes " " ++ (depth_said a word ++ (codes " is looked up from " ++ slot_and_content from))))
+  pub index_start_line : (word : Word) (from : Held) → IsOneLine (word_said a word ++ (codes " " ++ (depth_said a word ++ (codes " is looked up from " ++ slot_and_content texts from))))
   index_start_line word from =
-      word_and word (codes " " ++ (depth_said a word ++ (codes " is looked up from " ++ slot_and_content from)))
-      (depth_and word (codes " is looked up from " ++ slot_and_content from) (slot_line from))
+      word_and word (codes " " ++ (depth_said a word ++ (codes " is looked up from " ++ slot_and_content texts from)))
+      (depth_and word (codes " is looked up from " ++ slot_and_content texts from) (slot_line texts told from))
 
   pub guard_line : (size radix most : ℕ) → IsOneLine (guard_text a size radix most)
   unfolding guard_text long_text data_said
@@ -255,7 +283,7 @@ module _ (a : AskedView) (names : AreOneLineNames a) where
   number_text_line (NoCount most) = said_and (codes "count") (codes " is not from 1 to " ++ decimal most) refl (number_line most)
   number_text_line reason = refl
 
-  pub objects_line : (reason : Reason) → IsOneLine (retyped_text a reason)
+  pub objects_line : (reason : Reason) → IsOneLine (retyped_text texts a reason)
   unfolding retyped_text
   objects_line (NoNode word found) = refl
   objects_line (NoOffset word node) =
@@ -267,8 +295,9 @@ module _ (a : AskedView) (names : AreOneLineNames a) where
       both_lines (last_text (radix_of node.cap)) (codes ", and " ++ said) (last_line (radix_of node.cap))
       (said_and (codes "count") (codes " from " ++ offset) refl (said_and (codes "offset") (codes " on is past them") refl refl))
   objects_line (SomeFull word node number full) =
-      number_and number (codes " stands at " ++ (decimal full.slot ++ (codes " and is full: " ++ content_text full.cap)))
-      (number_and full.slot (codes " and is full: " ++ content_text full.cap) (content_line full.cap))
+      let content = codes " and is full: " ++ content_text texts full.cap in
+      number_and number (codes " stands at " ++ (texts.slot full.slot ++ content))
+      (both_lines (texts.slot full.slot) content (told.1 full.slot) (content_line texts told full.cap))
   objects_line (NoRoom untyped has_children start bits room) =
       let said = key_said a (codes "count") ++ codes " is more" in
       both_lines (room_text bits room) (codes ", and " ++ said) (room_line bits room) (said_and (codes "count") (codes " is more") refl refl)

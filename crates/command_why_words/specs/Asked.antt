@@ -5,6 +5,7 @@ use Rattle.toml.specs.View.{table_view}
 use Rattle.kernel_abstract.specs.declared.call.Call.{Call}
 use Rattle.kernel_abstract.specs.declared.reason.Held.{Held}
 use Rattle.kernel_abstract.specs.declared.reason.Word.{Word}
+use Rattle.setup_report.specs.Naming.{Texts, naming_view}
 use Rattle.command_why_words.specs.declared.asked.Asked.{Asked}
 use Rattle.command_why_words.specs.Names.{name_at}
 use Rattle.command_why_words.specs.Keys.{key_words, word_of}
@@ -19,6 +20,10 @@ pub record AskedView : Type 0 where
 -- a call that was asked about, with its table
 abbrev pub asked_view : Asked → AskedView
 asked_view a = record { call = a.call.now; table = option_map (λ t. table_view t.now) a.table }
+
+-- how objects and slots are told where it is asked about
+abbrev pub asked_texts : Asked → Texts
+asked_texts a = naming_view a.naming.now
 
 -- a key of the call with its word
 unfoldable pub key_said : AskedView → List ℕ → List ℕ
@@ -39,5 +44,5 @@ unfoldable pub asked_thread_name : AskedView → Option (List ℕ)
 asked_thread_name a = name_at a.table (codes "thread")
 
 -- a word, and the slot that it leads to or names, with what is in it
-unfoldable pub led_said : AskedView → Word → Held → List ℕ
-led_said a word held = led_text (word_said a word) word held
+unfoldable pub led_said : Texts → AskedView → Word → Held → List ℕ
+led_said texts a word held = led_text texts (word_said a word) word held

@@ -10,6 +10,7 @@ use Rattle.kernel_abstract.specs.declared.reason.Right.{Right}
 use Rattle.kernel_abstract.specs.declared.reason.Right.TheVariants.{Write, Read}
 use Rattle.kernel_abstract.specs.declared.reason.Word.{Word}
 use Rattle.kernel_abstract.specs.declared.reason.Word.TheVariants.{Invoked, SourceIndex}
+use Rattle.setup_report.specs.Naming.{Texts}
 use Rattle.command_why_words.specs.Text.{reason_line, an_op, kind_text}
 use Rattle.command_why_words.specs.Asked.{AskedView, data_said, led_said}
 
@@ -17,19 +18,19 @@ abbrev pub nothing_in : ℕ → Held
 nothing_in slot = record { slot = slot; cap = Null }
 
 -- where a word leads to, and what had to be so
-abbrev pub fact_lines : AskedView → Word → Held → List ℕ → List ℕ
-fact_lines a word held fact = reason_line (led_said a word held) ++ reason_line fact
+abbrev pub fact_lines : Texts → AskedView → Word → Held → List ℕ → List ℕ
+fact_lines texts a word held fact = reason_line (led_said texts a word held) ++ reason_line fact
 
 -- the invoked capability is of another kind, or not there
-abbrev pub kind_lines : AskedView → Held → Kind → List ℕ
-kind_lines a held wanted = fact_lines a Invoked held (an_op a.call.op ++ (codes " is made by " ++ kind_text wanted))
+abbrev pub kind_lines : Texts → AskedView → Held → Kind → List ℕ
+kind_lines texts a held wanted = fact_lines texts a Invoked held (an_op a.call.op ++ (codes " is made by " ++ kind_text wanted))
 
 abbrev pub right_words : Right → List ℕ
 right_words Write = codes "Write (w)"
 right_words Read = codes "Read (r)"
 
-abbrev pub right_lines : AskedView → Held → Right → List ℕ
-right_lines a held needed = fact_lines a Invoked held (an_op a.call.op ++ (codes " needs the right " ++ right_words needed))
+abbrev pub right_lines : Texts → AskedView → Held → Right → List ℕ
+right_lines texts a held needed = fact_lines texts a Invoked held (an_op a.call.op ++ (codes " needs the right " ++ right_words needed))
 
 -- a badge that can't be set
 abbrev pub badge_text : Op → List ℕ
@@ -43,7 +44,10 @@ long_text size radix most =
 unfoldable pub guard_text : AskedView → ℕ → ℕ → ℕ → List ℕ
 guard_text a size radix most = data_said a ++ (codes " is a guard of " ++ long_text size radix most)
 
-abbrev pub children_lines : AskedView → Held → ℕ → List ℕ
-children_lines a source child =
-    fact_lines a SourceIndex source (codes "it has children, the first of them in slot " ++ decimal child)
+abbrev pub first_child_text : Texts → ℕ → List ℕ
+first_child_text texts child = codes "it has children, the first of them in slot " ++ texts.slot child
+
+abbrev pub children_lines : Texts → AskedView → Held → ℕ → List ℕ
+children_lines texts a source child =
+    fact_lines texts a SourceIndex source (first_child_text texts child)
     ++ reason_line (an_op a.call.op ++ codes " is made of an untyped capability only while it has no children")

@@ -7,6 +7,7 @@ use Rattle.kernel_abstract.specs.declared.reason.Held.{Held}
 use Rattle.kernel_abstract.specs.declared.reason.Word.TheVariants.{Invoked}
 use Rattle.kernel_abstract.specs.declared.reason.Reason.{Reason}
 use Rattle.kernel_abstract.specs.declared.reason.Reason.TheVariants.{NoKind, NoSize, TooLarge, TooSmall, NoNode, NoOffset, NoCount, FewSlots, SomeFull, NoRoom}
+use Rattle.setup_report.specs.Naming.{Texts}
 use Rattle.command_why_words.specs.Text.{reason_line, content_text, object_text, radix_of, power_text, last_text}
 use Rattle.command_why_words.specs.Asked.{AskedView, key_said}
 use Rattle.command_why_words.specs.Facts.{fact_lines}
@@ -38,31 +39,31 @@ unfoldable pub room_text : ℕ → ℕ → List ℕ
 room_text bits room = codes "of objects of " ++ (power_text bits ++ (codes " bytes it has room for " ++ decimal room))
 
 -- what is said of the slots to fill, and of the room for the objects
-unfoldable pub retyped_text : AskedView → Reason → List ℕ
-retyped_text a (NoNode word found) = codes "a retype fills slots of a CNode"
-retyped_text a (NoOffset word node) =
+unfoldable pub retyped_text : Texts → AskedView → Reason → List ℕ
+retyped_text texts a (NoNode word found) = codes "a retype fills slots of a CNode"
+retyped_text texts a (NoOffset word node) =
     codes "it has slots 0 to " ++ (last_text (radix_of node.cap) ++ (codes ", and " ++ (key_said a (codes "offset") ++ codes " is past them")))
-retyped_text a (FewSlots word node) =
+retyped_text texts a (FewSlots word node) =
     codes "it has slots 0 to " ++ (last_text (radix_of node.cap) ++ (codes ", and " ++ (key_said a (codes "count") ++ (codes " from " ++ (key_said a (codes "offset") ++ codes " on is past them")))))
-retyped_text a (SomeFull word node number full) =
-    codes "its slot " ++ (decimal number ++ (codes " stands at " ++ (decimal full.slot ++ (codes " and is full: " ++ content_text full.cap))))
-retyped_text a (NoRoom untyped has_children start bits room) =
+retyped_text texts a (SomeFull word node number full) =
+    codes "its slot " ++ (decimal number ++ (codes " stands at " ++ (texts.slot full.slot ++ (codes " and is full: " ++ content_text texts full.cap))))
+retyped_text texts a (NoRoom untyped has_children start bits room) =
     room_text bits room ++ (codes ", and " ++ (key_said a (codes "count") ++ codes " is more"))
-retyped_text a reason = codes ""
+retyped_text texts a reason = codes ""
 
 -- ---- each reason
 
-abbrev pub retype_lines : AskedView → Reason → List ℕ
-retype_lines a (NoNode word found) = fact_lines a word found (retyped_text a (NoNode word found))
-retype_lines a (NoOffset word node) = fact_lines a word node (retyped_text a (NoOffset word node))
-retype_lines a (FewSlots word node) = fact_lines a word node (retyped_text a (FewSlots word node))
-retype_lines a (SomeFull word node number full) = fact_lines a word node (retyped_text a (SomeFull word node number full))
-retype_lines a (NoRoom untyped has_children start bits room) =
-    fact_lines a Invoked untyped (used_text untyped has_children start)
-    ++ reason_line (retyped_text a (NoRoom untyped has_children start bits room))
-retype_lines a NoKind = reason_line (number_text a NoKind)
-retype_lines a (NoSize below) = reason_line (number_text a (NoSize below))
-retype_lines a (TooLarge kind bits most) = reason_line (number_text a (TooLarge kind bits most))
-retype_lines a (TooSmall kind least) = reason_line (number_text a (TooSmall kind least))
-retype_lines a (NoCount most) = reason_line (number_text a (NoCount most))
-retype_lines a reason = codes ""
+abbrev pub retype_lines : Texts → AskedView → Reason → List ℕ
+retype_lines texts a (NoNode word found) = fact_lines texts a word found (retyped_text texts a (NoNode word found))
+retype_lines texts a (NoOffset word node) = fact_lines texts a word node (retyped_text texts a (NoOffset word node))
+retype_lines texts a (FewSlots word node) = fact_lines texts a word node (retyped_text texts a (FewSlots word node))
+retype_lines texts a (SomeFull word node number full) = fact_lines texts a word node (retyped_text texts a (SomeFull word node number full))
+retype_lines texts a (NoRoom untyped has_children start bits room) =
+    fact_lines texts a Invoked untyped (used_text untyped has_children start)
+    ++ reason_line (retyped_text texts a (NoRoom untyped has_children start bits room))
+retype_lines texts a NoKind = reason_line (number_text a NoKind)
+retype_lines texts a (NoSize below) = reason_line (number_text a (NoSize below))
+retype_lines texts a (TooLarge kind bits most) = reason_line (number_text a (TooLarge kind bits most))
+retype_lines texts a (TooSmall kind least) = reason_line (number_text a (TooSmall kind least))
+retype_lines texts a (NoCount most) = reason_line (number_text a (NoCount most))
+retype_lines texts a reason = codes ""

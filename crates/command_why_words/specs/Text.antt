@@ -1,4 +1,4 @@
--- The parts of a line. Numbers are decimal.
+-- The parts of a line: objects and slots as `texts` tells them. Numbers are decimal.
 use Rattle.std.specs.Prelude.{codes, ℕ, ◌-◌, ◌^◌, List, ◌++◌, if◌then◌else◌, nat_lt, Option, None, Some}
 use Rattle.std.specs.Fmt.{decimal}
 use Rattle.cap_core.specs.declared.capability.Cap.{Cap}
@@ -10,6 +10,7 @@ use Rattle.kernel_abstract.specs.declared.call.Op.{Op}
 use Rattle.kernel_abstract.specs.declared.call.Op.TheVariants.{NbSend, NbRecv}
 use Rattle.setup_values.specs.Operations.{op_text}
 use Rattle.setup_format.specs.Operations.{op_name}
+use Rattle.setup_report.specs.Naming.{Texts}
 use Rattle.setup_report.specs.Text.{cap_text}
 use Rattle.kernel_abstract.specs.declared.reason.Held.{Held}
 use Rattle.kernel_abstract.specs.declared.reason.Word.{Word}
@@ -28,19 +29,19 @@ unfoldable pub key_value_text : List ℕ → ℕ → Option (List ℕ) → List 
 key_value_text key value name = key ++ (codes " " ++ (decimal value ++ name_text name))
 
 -- a slot with what is in it
-abbrev pub content_text : Cap → List ℕ
-content_text Null = codes "empty"
-content_text cap = cap_text cap
+abbrev pub content_text : Texts → Cap → List ℕ
+content_text texts Null = codes "empty"
+content_text texts cap = cap_text texts cap
 
-unfoldable pub slot_and_content : Held → List ℕ
-slot_and_content held = codes "slot " ++ (decimal held.slot ++ (codes ": " ++ content_text held.cap))
+unfoldable pub slot_and_content : Texts → Held → List ℕ
+slot_and_content texts held = codes "slot " ++ (texts.slot held.slot ++ (codes ": " ++ content_text texts held.cap))
 
 -- where a word leads to, or what an index names
 abbrev pub verb : Word → List ℕ
 verb word = if is_whole word then codes "leads to" else codes "names"
 
-abbrev pub led_text : List ℕ → Word → Held → List ℕ
-led_text said word held = said ++ (codes " " ++ (verb word ++ (codes " " ++ slot_and_content held)))
+abbrev pub led_text : Texts → List ℕ → Word → Held → List ℕ
+led_text texts said word held = said ++ (codes " " ++ (verb word ++ (codes " " ++ slot_and_content texts held)))
 
 -- an operation with its article
 abbrev pub article : Op → List ℕ

@@ -1,6 +1,6 @@
 //! The lines of reasons that are about the slots a call names, and the capabilities in them.
 ghost use Rattle.std.specs.Prelude.{◌≡◌, ◌++◌, OnOk, string_bytes};
-ghost use Rattle.command_why_words.specs.Asked.{asked_view};
+ghost use Rattle.command_why_words.specs.Asked.{asked_texts, asked_view};
 ghost use Rattle.command_why_words.specs.Facts.{nothing_in};
 ghost use Rattle.command_why_words.specs.Reasons as spec;
 
@@ -20,9 +20,13 @@ fn nothing_in(slot: u64) -> Held
 }
 
 /// Adds the lines of a reason that is about the invoked capability, about those that a call names, or about a retype.
-pub fn add_capability(out: &mut String, asked: Asked<'_>, reason: Reason) -> Result<(), AllocError>
+pub fn add_capability(
+    out: &mut String,
+    asked: Asked<'_, '_>,
+    reason: Reason,
+) -> Result<(), AllocError>
     ensures { OnOk result (string_bytes out.new ≡ string_bytes out.old
-        ++ spec.capability_lines (asked_view asked.entry) reason) }
+        ++ spec.capability_lines (asked_texts asked.entry) (asked_view asked.entry) reason) }
 {
     match reason {
         Reason::NoCapability { slot, wanted } => add_kind(out, asked, nothing_in(slot), wanted),
@@ -40,9 +44,9 @@ pub fn add_capability(out: &mut String, asked: Asked<'_>, reason: Reason) -> Res
 }
 
 /// Adds the lines of a reason that is about a slot with one fact, or about a retype.
-fn add_named(out: &mut String, asked: Asked<'_>, reason: Reason) -> Result<(), AllocError>
+fn add_named(out: &mut String, asked: Asked<'_, '_>, reason: Reason) -> Result<(), AllocError>
     ensures { OnOk result (string_bytes out.new ≡ string_bytes out.old
-        ++ spec.named_lines (asked_view asked.entry) reason) }
+        ++ spec.named_lines (asked_texts asked.entry) (asked_view asked.entry) reason) }
 {
     match reason {
         Reason::IsFull(held) => add_fact(

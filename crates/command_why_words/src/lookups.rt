@@ -1,7 +1,8 @@
 //! The lines of a lookup that fails.
 ghost use Rattle.std.specs.Prelude.{◌≡◌, ◌≤◌, ◌-◌, ◌++◌, length, take, OnOk, Some, string_bytes};
 ghost use Rattle.cap_core.specs.Numbers.{word_bits};
-ghost use Rattle.command_why_words.specs.Asked.{asked_view};
+ghost use Rattle.setup_report.specs.Naming.{naming_view};
+ghost use Rattle.command_why_words.specs.Asked.{asked_texts, asked_view};
 ghost use Rattle.command_why_words.specs.Text.{reason_line};
 ghost use Rattle.command_why_words.specs.Lookups as spec;
 
@@ -13,16 +14,23 @@ use crate::words::{depth_key, depth_of, is_whole, key_of, root_of, value_of};
 use cap_core::{Guard, Profile};
 use ipc_core::Waiters;
 use kernel_core::{Held, Hint, Kernel, Miss, Word};
+use setup_report::Naming;
 use slot_core::CapStore;
 use std::alloc::{AllocError, Global};
 use std::fmt::{self, Write};
 
 /// Adds from which slot on a word is looked up.
-fn add_start(out: &mut String, asked: Asked<'_>, word: Word, from: Held) -> Result<(), AllocError>
-    ensures { OnOk result (string_bytes out.new ≡ string_bytes out.old ++ spec.start_line (asked_view asked.entry) word from) }
+fn add_start(
+    out: &mut String,
+    asked: Asked<'_, '_>,
+    word: Word,
+    from: Held,
+) -> Result<(), AllocError>
+    ensures { OnOk result (string_bytes out.new ≡ string_bytes out.old ++ spec.start_line (asked_texts asked.entry) (asked_view asked.entry) word from) }
 {
     let said = word_said(asked, word);
-    let slot = SlotText(from);
+    let (naming, held) = (asked.naming, from);
+    let slot = SlotText { naming, held };
     if is_whole(word) {
         writeln!(out, "  {said} is looked up from the thread's root {slot}")
     } else {
@@ -32,8 +40,13 @@ fn add_start(out: &mut String, asked: Asked<'_>, word: Word, from: Held) -> Resu
 }
 
 /// Adds that a lookup begins at no CNode.
-fn add_no_root(out: &mut String, asked: Asked<'_>, word: Word, from: Held) -> Result<(), AllocError>
-    ensures { OnOk result (string_bytes out.new ≡ string_bytes out.old ++ spec.no_root_lines (asked_view asked.entry) word from) }
+fn add_no_root(
+    out: &mut String,
+    asked: Asked<'_, '_>,
+    word: Word,
+    from: Held,
+) -> Result<(), AllocError>
+    ensures { OnOk result (string_bytes out.new ≡ string_bytes out.old ++ spec.no_root_lines (asked_texts asked.entry) (asked_view asked.entry) word from) }
 {
     if is_whole(word) {
         add_start(out, asked, word, from)?;
@@ -56,47 +69,72 @@ fn by_text(count: usize) -> &'static str
     }
 }
 
-/// The address of each slot after a space.
+/// A slot after a space.
 #[derive(Clone, Copy)]
-struct SlotsText<'a>(&'a [Held]);
+struct NextSlotText<'a, 'n> {
+    naming: &'a Naming<'n>,
+    held: Held,
+}
 
-impl fmt::Display for SlotsText<'_> {
-    ghost output = { λ s. Some (spec.held_slots_text s.0.now) };
+impl fmt::Display for NextSlotText<'_, '_> {
+    ghost output = { λ s. Some (spec.next_slot_text (naming_view s.naming.now) s.held) };
 
     fn fmt<W: fmt::Write>(&self, f: &mut fmt::Formatter<W>) -> fmt::Result {
-        for held in self.0 {
-            let slot = held.slot;
-            write!(f, " {slot}")?;
+        let slot = self.naming.slot(self.held.slot);
+        write!(f, " {slot}")
+    }
+}
+
+/// Each of some slots after a space.
+#[derive(Clone, Copy)]
+struct SlotsText<'a, 'n> {
+    naming: &'a Naming<'n>,
+    slots: &'a [Held],
+}
+
+impl fmt::Display for SlotsText<'_, '_> {
+    ghost output = { λ s. Some (spec.held_slots_text (naming_view s.naming.now) s.slots.now) };
+
+    fn fmt<W: fmt::Write>(&self, f: &mut fmt::Formatter<W>) -> fmt::Result {
+        for held in self.slots {
+            let naming = self.naming;
+            let next = NextSlotText {
+                naming,
+                held: *held,
+            };
+            write!(f, "{next}")?;
         }
         Ok(())
     }
 }
 
 /// Adds the way of a lookup, where it comes to a slot.
-fn add_way(out: &mut String, path: &[Held]) -> Result<(), AllocError>
-    ensures { OnOk result (string_bytes out.new ≡ string_bytes out.old ++ spec.lookup_line path.now) }
+fn add_way(out: &mut String, naming: &Naming<'_>, path: &[Held]) -> Result<(), AllocError>
+    ensures { OnOk result (string_bytes out.new ≡ string_bytes out.old ++ spec.lookup_line (naming_view naming.now) path.now) }
 {
     match path {
         [] => Ok(()),
-        [_, rest @ ..] => add_way_on(out, rest),
+        [_, rest @ ..] => add_way_on(out, naming, rest),
     }
 }
 
 /// A way to a slot, by those before it.
 #[derive(Clone, Copy)]
-struct WayText<'a> {
+struct WayText<'a, 'n> {
+    naming: &'a Naming<'n>,
     between: &'a [Held],
     last: Held,
 }
 
-impl fmt::Display for WayText<'_> {
-    ghost output = { λ w. Some (spec.lookup_text w.between.now w.last) };
+impl fmt::Display for WayText<'_, '_> {
+    ghost output = { λ w. Some (spec.lookup_text (naming_view w.naming.now) w.between.now w.last) };
 
     #[tactic(auto, unfolding(crate::specs::Lookups::lookup_text))]
     fn fmt<W: fmt::Write>(&self, f: &mut fmt::Formatter<W>) -> fmt::Result {
-        let by = by_text(self.between.len());
-        let slots = SlotsText(self.between);
-        let last = SlotText(self.last);
+        let (naming, slots, held) = (self.naming, self.between, self.last);
+        let by = by_text(slots.len());
+        let slots = SlotsText { naming, slots };
+        let last = SlotText { naming, held };
         write!(f, "it comes{by}{slots} to {last}")
     }
 }
@@ -113,15 +151,19 @@ fn without_last(slots: &[Held]) -> &[Held]
 }
 
 /// Adds the way of a lookup behind its first slot.
-fn add_way_on(out: &mut String, rest: &[Held]) -> Result<(), AllocError>
-    ensures { OnOk result (string_bytes out.new ≡ string_bytes out.old ++ spec.way_on rest.now) }
+fn add_way_on(out: &mut String, naming: &Naming<'_>, rest: &[Held]) -> Result<(), AllocError>
+    ensures { OnOk result (string_bytes out.new ≡ string_bytes out.old ++ spec.way_on (naming_view naming.now) rest.now) }
 {
     match rest.last() {
         None => Ok(()),
         Some(last) => {
             let between = without_last(rest);
             let last = *last;
-            let way = WayText { between, last };
+            let way = WayText {
+                naming,
+                between,
+                last,
+            };
             writeln!(out, "  {way}")
         }
     }
@@ -203,29 +245,35 @@ fn would_text(word: Word) -> &'static str
 
 /// What would lead to a slot.
 #[derive(Clone, Copy)]
-struct HintText {
+struct HintText<'a> {
+    naming: &'a Naming<'a>,
     key: &'static str,
     number: u64,
     would: &'static str,
     slot: u64,
 }
 
-impl fmt::Display for HintText {
-    ghost output = { λ h. Some (spec.hint_text h.key.now h.number h.would.now h.slot) };
+impl fmt::Display for HintText<'_> {
+    ghost output = { λ h. Some (spec.hint_text (naming_view h.naming.now) h.key.now h.number h.would.now h.slot) };
 
     #[tactic(auto, unfolding(crate::specs::Lookups::hint_text))]
     fn fmt<W: fmt::Write>(&self, f: &mut fmt::Formatter<W>) -> fmt::Result {
         let key = self.key;
         let number = self.number;
         let would = self.would;
-        let slot = self.slot;
+        let slot = self.naming.slot(self.slot);
         write!(f, "{key} {number}{would}{slot}")
     }
 }
 
 /// Adds what would lead to a slot.
-fn add_hint(out: &mut String, word: Word, hint: Option<Hint>) -> Result<(), AllocError>
-    ensures { OnOk result (string_bytes out.new ≡ string_bytes out.old ++ spec.hint_line word hint) }
+fn add_hint(
+    out: &mut String,
+    naming: &Naming<'_>,
+    word: Word,
+    hint: Option<Hint>,
+) -> Result<(), AllocError>
+    ensures { OnOk result (string_bytes out.new ≡ string_bytes out.old ++ spec.hint_line (naming_view naming.now) word hint) }
 {
     match hint {
         None => Ok(()),
@@ -234,6 +282,7 @@ fn add_hint(out: &mut String, word: Word, hint: Option<Hint>) -> Result<(), Allo
             let number = depth as u64;
             let would = " would name slot ";
             let text = HintText {
+                naming,
                 key,
                 number,
                 would,
@@ -245,6 +294,7 @@ fn add_hint(out: &mut String, word: Word, hint: Option<Hint>) -> Result<(), Allo
             let key = key_of(word);
             let would = would_text(word);
             let text = HintText {
+                naming,
                 key,
                 number,
                 would,
@@ -288,21 +338,22 @@ fn add_missed<P: Profile, S: CapStore<P> + Drop, W: Waiters<P> + Drop>(
     alloc: Global,
     out: &mut String,
     kernel: &Kernel<P, S, W>,
-    asked: Asked<'_>,
+    asked: Asked<'_, '_>,
     word: Word,
     from: Held,
     miss: Miss,
 ) -> Result<(), AllocError>
     ensures { OnOk result (string_bytes out.new ≡ string_bytes out.old
-        ++ spec.missed_lines P.profile kernel.now (asked_view asked.entry) word from miss) }
+        ++ spec.missed_lines (asked_texts asked.entry) P.profile kernel.now (asked_view asked.entry) word from miss) }
 {
     let words = key_words(&asked.call.op);
     let bits = levels::<P>(&words, word);
     let path = kernel.lookup_path(alloc, from.slot, value_of(&words, word), bits)?;
     add_start(out, asked, word, from)?;
-    add_way(out, path.as_slice())?;
+    add_way(out, asked.naming, path.as_slice())?;
     add_miss(out, miss)?;
-    add_hint(out, word, hint_of::<P, S, W>(kernel, &words, word, from))
+    let hint = hint_of::<P, S, W>(kernel, &words, word, from);
+    add_hint(out, asked.naming, word, hint)
 }
 
 /// Adds the lines of a lookup that fails.
@@ -310,13 +361,13 @@ pub fn add_not_found<P: Profile, S: CapStore<P> + Drop, W: Waiters<P> + Drop>(
     alloc: Global,
     out: &mut String,
     kernel: &Kernel<P, S, W>,
-    asked: Asked<'_>,
+    asked: Asked<'_, '_>,
     word: Word,
     from: Held,
     miss: Miss,
 ) -> Result<(), AllocError>
     ensures { OnOk result (string_bytes out.new ≡ string_bytes out.old
-        ++ spec.not_found_lines P.profile kernel.now (asked_view asked.entry) word from miss) }
+        ++ spec.not_found_lines (asked_texts asked.entry) P.profile kernel.now (asked_view asked.entry) word from miss) }
 {
     match miss {
         Miss::NoRoot => add_no_root(out, asked, word, from),
@@ -328,16 +379,17 @@ pub fn add_not_found<P: Profile, S: CapStore<P> + Drop, W: Waiters<P> + Drop>(
 pub fn add_no_depth<P: Profile, S: CapStore<P> + Drop, W: Waiters<P> + Drop>(
     out: &mut String,
     kernel: &Kernel<P, S, W>,
-    asked: Asked<'_>,
+    asked: Asked<'_, '_>,
     word: Word,
     from: Held,
     most: u32,
 ) -> Result<(), AllocError>
     ensures { OnOk result (string_bytes out.new ≡ string_bytes out.old
-        ++ spec.no_depth_lines P.profile kernel.now (asked_view asked.entry) word from most) }
+        ++ spec.no_depth_lines (asked_texts asked.entry) P.profile kernel.now (asked_view asked.entry) word from most) }
 {
     let depth = depth_said(asked, word);
     writeln!(out, "  {depth} is not from 1 to {most}")?;
     let words = key_words(&asked.call.op);
-    add_hint(out, word, hint_of::<P, S, W>(kernel, &words, word, from))
+    let hint = hint_of::<P, S, W>(kernel, &words, word, from);
+    add_hint(out, asked.naming, word, hint)
 }

@@ -1,6 +1,6 @@
 //! The lines of reasons that are about the objects of a retype.
 ghost use Rattle.std.specs.Prelude.{◌≡◌, ◌++◌, OnOk, Some, string_bytes};
-ghost use Rattle.command_why_words.specs.Asked.{asked_view};
+ghost use Rattle.command_why_words.specs.Asked.{asked_texts, asked_view};
 ghost use Rattle.command_why_words.specs.Text.{reason_line};
 ghost use Rattle.command_why_words.specs.Facts.{fact_lines};
 ghost use Rattle.command_why_words.specs.Retypes as spec;
@@ -15,12 +15,12 @@ use std::fmt::{self, Write};
 
 /// What is said of the numbers of a retype.
 #[derive(Clone, Copy)]
-struct NumberText<'a> {
-    asked: Asked<'a>,
+struct NumberText<'a, 'n> {
+    asked: Asked<'a, 'n>,
     reason: Reason,
 }
 
-impl fmt::Display for NumberText<'_> {
+impl fmt::Display for NumberText<'_, '_> {
     ghost output = { λ n. Some (spec.number_text (asked_view n.asked) n.reason) };
 
     #[tactic(auto, unfolding(crate::specs::Retypes::number_text))]
@@ -79,13 +79,13 @@ impl fmt::Display for RoomText {
 
 /// What is said of the slots to fill, and of the room for the objects.
 #[derive(Clone, Copy)]
-struct ObjectsText<'a> {
-    asked: Asked<'a>,
+struct ObjectsText<'a, 'n> {
+    asked: Asked<'a, 'n>,
     reason: Reason,
 }
 
-impl fmt::Display for ObjectsText<'_> {
-    ghost output = { λ o. Some (spec.retyped_text (asked_view o.asked) o.reason) };
+impl fmt::Display for ObjectsText<'_, '_> {
+    ghost output = { λ o. Some (spec.retyped_text (asked_texts o.asked) (asked_view o.asked) o.reason) };
 
     #[tactic(auto, unfolding(crate::specs::Retypes::retyped_text))]
     fn fmt<W: fmt::Write>(&self, f: &mut fmt::Formatter<W>) -> fmt::Result {
@@ -106,8 +106,10 @@ impl fmt::Display for ObjectsText<'_> {
                 )
             }
             Reason::SomeFull { number, full, .. } => {
-                let slot = full.slot;
-                let content = ContentText(full.cap);
+                let naming = self.asked.naming;
+                let slot = naming.slot(full.slot);
+                let cap = full.cap;
+                let content = ContentText { naming, cap };
                 write!(
                     f,
                     "its slot {number} stands at {slot} and is full: {content}"
@@ -162,7 +164,7 @@ impl fmt::Display for UsedText {
 }
 
 /// Adds what is said of the numbers of a retype.
-fn add_number(out: &mut String, asked: Asked<'_>, reason: Reason) -> Result<(), AllocError>
+fn add_number(out: &mut String, asked: Asked<'_, '_>, reason: Reason) -> Result<(), AllocError>
     ensures { OnOk result (string_bytes out.new ≡ string_bytes out.old
         ++ reason_line (spec.number_text (asked_view asked.entry) reason)) }
 {
@@ -171,9 +173,9 @@ fn add_number(out: &mut String, asked: Asked<'_>, reason: Reason) -> Result<(), 
 }
 
 /// Adds what is said of the slots to fill, and of the room for the objects.
-fn add_objects(out: &mut String, asked: Asked<'_>, reason: Reason) -> Result<(), AllocError>
+fn add_objects(out: &mut String, asked: Asked<'_, '_>, reason: Reason) -> Result<(), AllocError>
     ensures { OnOk result (string_bytes out.new ≡ string_bytes out.old
-        ++ reason_line (spec.retyped_text (asked_view asked.entry) reason)) }
+        ++ reason_line (spec.retyped_text (asked_texts asked.entry) (asked_view asked.entry) reason)) }
 {
     let text = ObjectsText { asked, reason };
     writeln!(out, "  {text}")
@@ -182,13 +184,13 @@ fn add_objects(out: &mut String, asked: Asked<'_>, reason: Reason) -> Result<(),
 /// Adds where the CNode's word leads to, and what is said of the slots to fill.
 fn add_slots(
     out: &mut String,
-    asked: Asked<'_>,
+    asked: Asked<'_, '_>,
     word: Word,
     node: Held,
     reason: Reason,
 ) -> Result<(), AllocError>
     ensures { OnOk result (string_bytes out.new ≡ string_bytes out.old
-        ++ fact_lines (asked_view asked.entry) word node (spec.retyped_text (asked_view asked.entry) reason)) }
+        ++ fact_lines (asked_texts asked.entry) (asked_view asked.entry) word node (spec.retyped_text (asked_texts asked.entry) (asked_view asked.entry) reason)) }
 {
     add_led(out, asked, word, node)?;
     add_objects(out, asked, reason)
@@ -197,13 +199,13 @@ fn add_slots(
 /// Adds how much of the untyped region counts as used, and for how many objects it has room.
 fn add_room(
     out: &mut String,
-    asked: Asked<'_>,
+    asked: Asked<'_, '_>,
     used: UsedText,
     reason: Reason,
 ) -> Result<(), AllocError>
     ensures { OnOk result (string_bytes out.new ≡ string_bytes out.old
-        ++ (fact_lines (asked_view asked.entry) Word.Invoked used.untyped (spec.used_text used.untyped used.has_children used.start)
-        ++ reason_line (spec.retyped_text (asked_view asked.entry) reason))) }
+        ++ (fact_lines (asked_texts asked.entry) (asked_view asked.entry) Word.Invoked used.untyped (spec.used_text used.untyped used.has_children used.start)
+        ++ reason_line (spec.retyped_text (asked_texts asked.entry) (asked_view asked.entry) reason))) }
 {
     add_led(out, asked, Word::Invoked, used.untyped)?;
     writeln!(out, "  {used}")?;
@@ -211,9 +213,9 @@ fn add_room(
 }
 
 /// Adds the lines of a reason that is about the objects of a retype; none of any other.
-pub fn add_retype(out: &mut String, asked: Asked<'_>, reason: Reason) -> Result<(), AllocError>
+pub fn add_retype(out: &mut String, asked: Asked<'_, '_>, reason: Reason) -> Result<(), AllocError>
     ensures { OnOk result (string_bytes out.new ≡ string_bytes out.old
-        ++ spec.retype_lines (asked_view asked.entry) reason) }
+        ++ spec.retype_lines (asked_texts asked.entry) (asked_view asked.entry) reason) }
 {
     match reason {
         Reason::NoKind

@@ -1,12 +1,13 @@
-//! The parts of a line.
+//! The parts of a line. Objects and slots stand as a naming tells them.
 ghost use Rattle.std.specs.Prelude.{◌≡◌, Some, None, option_copied};
+ghost use Rattle.setup_report.specs.Naming.{naming_view};
 ghost use Rattle.command_why_words.specs.Text as text;
 
 use crate::words::is_whole;
 use cap_core::{Cap, Guard, Kind};
 use kernel_core::{Held, Op, Word};
 use setup_format::op_name;
-use setup_report::CapText;
+use setup_report::{CapText, Naming};
 use std::fmt;
 
 /// The name by which a value is spelt, after `@`, where it has one.
@@ -46,16 +47,20 @@ impl fmt::Display for KeyText<'_> {
 
 /// What is in a slot.
 #[derive(Clone, Copy)]
-pub struct ContentText(pub Cap);
+pub struct ContentText<'a> {
+    pub naming: &'a Naming<'a>,
+    pub cap: Cap,
+}
 
-impl fmt::Display for ContentText {
-    ghost output = { λ c. Some (text.content_text c.0) };
+impl fmt::Display for ContentText<'_> {
+    ghost output = { λ c. Some (text.content_text (naming_view c.naming.now) c.cap) };
 
     fn fmt<W: fmt::Write>(&self, f: &mut fmt::Formatter<W>) -> fmt::Result {
-        match self.0 {
+        match self.cap {
             Cap::Null => write!(f, "empty"),
             cap => {
-                let cap = CapText(cap);
+                let naming = self.naming;
+                let cap = CapText { naming, cap };
                 write!(f, "{cap}")
             }
         }
@@ -64,15 +69,20 @@ impl fmt::Display for ContentText {
 
 /// A slot with what is in it.
 #[derive(Clone, Copy)]
-pub struct SlotText(pub Held);
+pub struct SlotText<'a> {
+    pub naming: &'a Naming<'a>,
+    pub held: Held,
+}
 
-impl fmt::Display for SlotText {
-    ghost output = { λ s. Some (text.slot_and_content s.0) };
+impl fmt::Display for SlotText<'_> {
+    ghost output = { λ s. Some (text.slot_and_content (naming_view s.naming.now) s.held) };
 
     #[tactic(auto, unfolding(crate::specs::Text::slot_and_content))]
     fn fmt<W: fmt::Write>(&self, f: &mut fmt::Formatter<W>) -> fmt::Result {
-        let slot = self.0.slot;
-        let content = ContentText(self.0.cap);
+        let naming = self.naming;
+        let slot = naming.slot(self.held.slot);
+        let cap = self.held.cap;
+        let content = ContentText { naming, cap };
         write!(f, "slot {slot}: {content}")
     }
 }

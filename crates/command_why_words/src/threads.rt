@@ -1,16 +1,17 @@
 //! The lines of reasons that are about the calling thread.
 ghost use Rattle.command_why_words.specs.Limits.{threads_told};
 ghost use Rattle.std.specs.Prelude.{◌≡◌, ◌++◌, take, OnOk, Some, string_bytes};
-ghost use Rattle.command_why_words.specs.Asked.{asked_view};
+ghost use Rattle.setup_report.specs.Naming.{naming_view};
+ghost use Rattle.command_why_words.specs.Asked.{asked_texts, asked_view};
 ghost use Rattle.command_why_words.specs.Reasons as spec;
 
 use crate::asked::{Asked, thread_name};
 use kernel_core::ThreadState;
-use setup_report::NumbersText;
+use setup_report::{Naming, Object, ThreadsText};
 use std::alloc::AllocError;
 use std::fmt::{self, Write};
 
-/// How many live threads are told by their addresses.
+/// How many live threads are told.
 pub const THREADS_TOLD: usize = 8;
 
 /// How many live threads there are besides.
@@ -43,27 +44,33 @@ fn first_threads(threads: &[u64]) -> &[u64]
 
 /// Adds the line of the live threads.
 #[tactic(auto, unfolding(crate::specs::Reasons::live_line))]
-pub fn add_live(out: &mut String, threads: &[u64]) -> Result<(), AllocError>
-    ensures { OnOk result (string_bytes out.new ≡ string_bytes out.old ++ spec.live_line threads.now) }
+pub fn add_live(out: &mut String, naming: &Naming<'_>, threads: &[u64]) -> Result<(), AllocError>
+    ensures { OnOk result (string_bytes out.new ≡ string_bytes out.old
+        ++ spec.live_line (naming_view naming.now) threads.now) }
 {
     if threads.is_empty() {
         return writeln!(out, "  no thread is live");
     }
-    let first = NumbersText(first_threads(threads));
     let more = MoreText(threads.len());
+    let threads = first_threads(threads);
+    let first = ThreadsText { naming, threads };
     writeln!(out, "  live threads:{first}{more}")
 }
 
-/// The address of the calling thread.
+/// The calling thread: as it is told and, where objects are told by their addresses, by the name that spells it.
 #[derive(Clone, Copy)]
-struct ThreadText<'a>(Asked<'a>);
+struct ThreadText<'a, 'n>(Asked<'a, 'n>);
 
-impl fmt::Display for ThreadText<'_> {
-    ghost output = { λ t. Some (spec.asked_thread_text (asked_view t.0)) };
+impl fmt::Display for ThreadText<'_, '_> {
+    ghost output = { λ t. Some (spec.asked_thread_text (asked_texts t.0) (asked_view t.0)) };
 
     #[tactic(auto, unfolding(crate::specs::Reasons::asked_thread_text))]
     fn fmt<W: fmt::Write>(&self, f: &mut fmt::Formatter<W>) -> fmt::Result {
-        let thread = self.0.call.thread;
+        let naming = self.0.naming;
+        let thread = naming.object(Object::Thread(self.0.call.thread));
+        if naming.is_by_name() {
+            return write!(f, "{thread}");
+        }
         let name = thread_name(self.0);
         write!(f, "{thread}{name}")
     }
@@ -71,9 +78,9 @@ impl fmt::Display for ThreadText<'_> {
 
 /// Adds at which address no live thread is.
 #[tactic(auto, unfolding(crate::specs::Reasons::no_thread_line))]
-pub fn add_address(out: &mut String, asked: Asked<'_>) -> Result<(), AllocError>
+pub fn add_address(out: &mut String, asked: Asked<'_, '_>) -> Result<(), AllocError>
     ensures { OnOk result (string_bytes out.new ≡ string_bytes out.old
-        ++ spec.no_thread_line (asked_view asked.entry)) }
+        ++ spec.no_thread_line (asked_texts asked.entry) (asked_view asked.entry)) }
 {
     let thread = ThreadText(asked);
     writeln!(out, "  no live thread is at {thread}")
@@ -81,17 +88,24 @@ pub fn add_address(out: &mut String, asked: Asked<'_>) -> Result<(), AllocError>
 
 /// What a thread does.
 #[derive(Clone, Copy)]
-struct DoesText(ThreadState);
+struct DoesText<'a> {
+    naming: &'a Naming<'a>,
+    state: ThreadState,
+}
 
-impl fmt::Display for DoesText {
-    ghost output = { λ d. Some (spec.does_text d.0) };
+impl fmt::Display for DoesText<'_> {
+    ghost output = { λ d. Some (spec.does_text (naming_view d.naming.now) d.state) };
 
     fn fmt<W: fmt::Write>(&self, f: &mut fmt::Formatter<W>) -> fmt::Result {
-        match self.0 {
+        match self.state {
             ThreadState::Ready => write!(f, "is ready"),
             ThreadState::Inactive => write!(f, "is inactive"),
-            ThreadState::Sending(endpoint) => write!(f, "waits to send on endpoint {endpoint}"),
-            ThreadState::Receiving(endpoint) => {
+            ThreadState::Sending(address) => {
+                let endpoint = self.naming.object(Object::Endpoint(address));
+                write!(f, "waits to send on endpoint {endpoint}")
+            }
+            ThreadState::Receiving(address) => {
+                let endpoint = self.naming.object(Object::Endpoint(address));
                 write!(f, "waits to receive on endpoint {endpoint}")
             }
         }
@@ -101,14 +115,15 @@ impl fmt::Display for DoesText {
 /// Adds that the calling thread is not ready.
 pub fn add_not_ready(
     out: &mut String,
-    asked: Asked<'_>,
+    asked: Asked<'_, '_>,
     state: ThreadState,
 ) -> Result<(), AllocError>
     ensures { OnOk result (string_bytes out.new ≡ string_bytes out.old
-        ++ spec.not_ready_lines (asked_view asked.entry) state) }
+        ++ spec.not_ready_lines (asked_texts asked.entry) (asked_view asked.entry) state) }
 {
     let thread = ThreadText(asked);
-    let does = DoesText(state);
+    let naming = asked.naming;
+    let does = DoesText { naming, state };
     writeln!(out, "  thread {thread} {does}")?;
     writeln!(out, "  a call is made by a thread that is ready")
 }

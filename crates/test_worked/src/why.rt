@@ -8,7 +8,10 @@ pub fn why_of(alloc: Global, setup: &[u8]) -> anyhow::Result<(Vec<u8>, Verdict)>
     let mut text = Vec::new(alloc);
     let mut source = ReaderSource::new(setup);
     let mut sink = WriterSink::new(&mut text);
-    let command = Why { call: None };
+    let command = Why {
+        call: None,
+        names: false,
+    };
     let found = run_engine(alloc, &OnSetup { command }, &mut source, &mut sink)?;
     Ok((text, found.verdict))
 }

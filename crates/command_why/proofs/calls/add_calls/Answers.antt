@@ -6,6 +6,7 @@ use Rattle.kernel_abstract.specs.State.{shown}
 use Rattle.kernel_abstract.specs.Step.{step, replies_of, state_after}
 use Rattle.kernel_abstract.proofs.Reached.Runs.{state_after-nil, state_after-snoc, replies_of-nil, replies_of-snoc, reached_after}
 use Rattle.setup_format.specs.Views.{CallView}
+use Rattle.setup_report.specs.Naming.{naming_view}
 use Rattle.command_why.specs.Tables.{call_table}
 use Rattle.command_why.specs.Why.{why_call_lines, calls_lines, reason_lines_of}
 use Rattle.command_why.proofs.Steps.{call_next, take_next, there_is, none_left, written}
@@ -17,7 +18,7 @@ loop-i-init g c =
     record {
       stands = λ A reached same. same ∙ ap shown (sym (state_after-nil p A));
       replies = λ A reached same. c.in_ok-replies.ensures.items ∙ sym (replies_of-nil p A);
-      text = λ A reached same. ap (λ B. string_bytes c.args.out.now ++ calls_lines p (table_view c.args.table.now) c.args.chosen 0 B c.args.setup.now.calls) (state_after-nil p A);
+      text = λ A reached same. ap (λ B. string_bytes c.args.out.now ++ calls_lines (naming_view c.args.naming.now) p (table_view c.args.table.now) c.args.chosen 0 B c.args.setup.now.calls) (state_after-nil p A);
     }
 
 pub loop-i-preserved : goal.loop-i-preserved
@@ -26,6 +27,7 @@ loop-i-preserved g c =
     let calls = c.args.setup.now.calls in
     let table = table_view c.args.table.now in
     let chosen = c.args.chosen in
+    let texts = naming_view c.args.naming.now in
     let i = c.loop-i.i in
     let many : length c.calls-i-end.result.now ≡ length calls = ap length c.calls-i-end.ensures ∙ length-map calls (λ (k : CallView). k.call) in
     let at = there_is calls i (omega (arith, c.loop-i-test.true, many)) in
@@ -46,13 +48,13 @@ loop-i-preserved g c =
           let stands = c.loop-i.invariant.stands A reached same in
           let steps = c.in_ok-reply.ensures.steps B call (reached_after p A made reached) stands at.1 in
           let wrote : string_bytes c.make_call.new.out
-          ≡ string_bytes c.loop-i.out ++ why_call_lines chosen (i + 1) call (step p B call.call).reply (reason_lines_of p (shown B) (record { call = call.call; table = call_table table i })) =
+          ≡ string_bytes c.loop-i.out ++ why_call_lines texts chosen (i + 1) call (step p B call.call).reply (reason_lines_of texts p (shown B) (record { call = call.call; table = call_table table i })) =
           c.in_ok-reply.ensures.text call at.1
-          ∙ (λ k. string_bytes c.loop-i.out ++ why_call_lines chosen (i + 1) call (steps.reply_is k) (reason_lines_of p (stands k) (record { call = call.call; table = call_table table i }))) in
-          ap (λ C. string_bytes c.make_call.new.out ++ calls_lines p table chosen (i + 1) C (drop (i + 1) calls)) (ap (state_after p A) more ∙ state_after-snoc p A made call.call)
+          ∙ (λ k. string_bytes c.loop-i.out ++ why_call_lines texts chosen (i + 1) call (steps.reply_is k) (reason_lines_of texts p (stands k) (record { call = call.call; table = call_table table i }))) in
+          ap (λ C. string_bytes c.make_call.new.out ++ calls_lines texts p table chosen (i + 1) C (drop (i + 1) calls)) (ap (state_after p A) more ∙ state_after-snoc p A made call.call)
           ∙ written (string_bytes c.loop-i.out) (string_bytes c.make_call.new.out) (string_bytes c.args.out.now) _
-          (calls_lines p table chosen (i + 1) (step p B call.call).state (drop (i + 1) calls)) _ (calls_lines p table chosen 0 A calls)
-          wrote (call_next p table chosen calls i call B at.1) (c.loop-i.invariant.text A reached same);
+          (calls_lines texts p table chosen (i + 1) (step p B call.call).state (drop (i + 1) calls)) _ (calls_lines texts p table chosen 0 A calls)
+          wrote (call_next texts p table chosen calls i call B at.1) (c.loop-i.invariant.text A reached same);
     }
 
 pub returns-clause-replies : goal.returns-clause-replies
@@ -70,5 +72,5 @@ returns-clause-text g c = λ A reached same.
     let many : length c.calls-i-end.result.now ≡ length calls = ap length c.calls-i-end.ensures ∙ length-map calls (λ (k : CallView). k.call) in
     let made = map (λ (k : CallView). k.call) (take c.loop-i.i calls) in
     sym (append-nil (string_bytes c.loop-i.out))
-    ∙ ap (λ l. string_bytes c.loop-i.out ++ l) (sym (none_left p (table_view c.args.table.now) c.args.chosen c.loop-i.i (state_after p A made) calls c.loop-i.i (omega (arith, c.loop-i-test.false, many))))
+    ∙ ap (λ l. string_bytes c.loop-i.out ++ l) (sym (none_left (naming_view c.args.naming.now) p (table_view c.args.table.now) c.args.chosen c.loop-i.i (state_after p A made) calls c.loop-i.i (omega (arith, c.loop-i-test.false, many))))
     ∙ c.loop-i.invariant.text A reached same

@@ -4,6 +4,7 @@ use Rattle.kernel_abstract.specs.State.{State, shown}
 use Rattle.kernel_abstract.specs.Step.{replies_of, state_after}
 use Rattle.kernel_abstract.specs.Reached.{IsReached}
 use Rattle.setup_format.specs.Views.{CallView}
+use Rattle.setup_report.specs.Naming.{naming_view}
 use Rattle.command_why.specs.Why.{calls_lines}
 use Rattle.command_why.proofs.calls.add_calls.Given as goal
 
@@ -14,6 +15,6 @@ invariant-loop-i g l =
       stands : (A : State) → IsReached p A → l.initial.kernel ≡ shown A → l.kernel ≡ shown (state_after p A (map (λ (c : CallView). c.call) (take l.i l.setup.calls)));
       replies : (A : State) → IsReached p A → l.initial.kernel ≡ shown A → l.replies.items ≡ replies_of p A (map (λ (c : CallView). c.call) (take l.i l.setup.calls));
       text : (A : State) → IsReached p A → l.initial.kernel ≡ shown A →
-          string_bytes l.out ++ calls_lines p (table_view l.table) l.chosen l.i (state_after p A (map (λ (c : CallView). c.call) (take l.i l.setup.calls))) (drop l.i l.setup.calls)
-          ≡ string_bytes l.initial.out ++ calls_lines p (table_view l.table) l.chosen 0 A l.setup.calls;
+          string_bytes l.out ++ calls_lines (naming_view l.naming) p (table_view l.table) l.chosen l.i (state_after p A (map (λ (c : CallView). c.call) (take l.i l.setup.calls))) (drop l.i l.setup.calls)
+          ≡ string_bytes l.initial.out ++ calls_lines (naming_view l.naming) p (table_view l.table) l.chosen 0 A l.setup.calls;
     }

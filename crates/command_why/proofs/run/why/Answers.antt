@@ -5,6 +5,7 @@ use Rattle.toml.specs.View.{table_view}
 use Rattle.kernel_abstract.specs.Boot.{boot}
 use Rattle.kernel_abstract.specs.State.{shown}
 use Rattle.setup_format.specs.Views.{CallView}
+use Rattle.setup_report.specs.Naming.{naming_view}
 use Rattle.setup_report.specs.Report.{met_count, expectation_count}
 use Rattle.command_check.specs.Program.{replies_to}
 use Rattle.command_why.specs.Why.{calls_lines, why_ending, refused_count, why_of}
@@ -56,7 +57,7 @@ returns-clause-text g c =
     c.as_slice-2.ensures.value ∙ c.in_ok-replies.ensures.replies (boot p plan) (boot_reached p plan c.requires) stands in
     let many : length c.as_slice-2.result.now ≡ length calls =
     ap length again ∙ replies_length p (boot p plan) (map (λ (k : CallView). k.call) calls) ∙ length-map calls (λ (k : CallView). k.call) in
-    let text = calls_lines p (table_view c.args.table.now) c.args.chosen 0 (boot p plan) calls in
+    let text = calls_lines (naming_view c.args.naming.now) p (table_view c.args.table.now) c.args.chosen 0 (boot p plan) calls in
     let told : string_bytes c.add_calls.new.out ≡ text =
     c.in_ok-replies.ensures.text (boot p plan) (boot_reached p plan c.requires) stands
     ∙ ap (λ l. l ++ text) c.new-out.ensures.bytes in
