@@ -6,6 +6,7 @@ use Rattle.std.specs.List.{list_any}
 use Rattle.std.specs.Global.{Vec}
 use Rattle.std.specs.Prelude.{slice_set}
 use Rattle.setup_format.specs.Views.{CallView}
+use Rattle.setup_report.specs.Naming.{Texts}
 use Rattle.query_orders.specs.Answers.{Answered}
 use Rattle.query_orders.specs.declared.exploring.found.FoundAnswer.{FoundAnswer}
 use Rattle.query_orders.specs.Found.{answers_of}
@@ -86,16 +87,16 @@ module _ (numbers : List (List ℕ)) (number : ℕ) where
   abbrev own : List Answered → List Answered
   own answers = filter (is_answer_of numbers number) answers
 
-  lines_alone : (place : ℕ) (expected : Option (List ℕ)) (answers : List Answered) → answer_lines numbers number place expected answers ≡ answer_lines numbers number place expected (own answers)
-  lines_alone place expected [] = refl
-  lines_alone place expected (a ∷ answers) =
-      let line = call_answer_line numbers number place expected a in
+  lines_alone : (texts : Texts) (place : ℕ) (expected : Option (List ℕ)) (answers : List Answered) → answer_lines texts numbers number place expected answers ≡ answer_lines texts numbers number place expected (own answers)
+  lines_alone texts place expected [] = refl
+  lines_alone texts place expected (a ∷ answers) =
+      let line = call_answer_line texts numbers number place expected a in
       elim (is_answer_of numbers number a) as (λ b. is_answer_of numbers number a ≡ b →
-      cond b (line ++ answer_lines numbers number (place + 1) expected answers) (answer_lines numbers number place expected answers) ≡ answer_lines numbers number place expected (cond b (a ∷ own answers) (own answers))) [
+      cond b (line ++ answer_lines texts numbers number (place + 1) expected answers) (answer_lines texts numbers number place expected answers) ≡ answer_lines texts numbers number place expected (cond b (a ∷ own answers) (own answers))) [
         | true ↦ λ h.
-            ap (λ l. line ++ l) (lines_alone (place + 1) expected answers)
-            ∙ sym (ap (λ b. cond b (line ++ answer_lines numbers number (place + 1) expected (own answers)) (answer_lines numbers number place expected (own answers))) h)
-        | false ↦ λ h. lines_alone place expected answers
+            ap (λ l. line ++ l) (lines_alone texts (place + 1) expected answers)
+            ∙ sym (ap (λ b. cond b (line ++ answer_lines texts numbers number (place + 1) expected (own answers)) (answer_lines texts numbers number place expected (own answers))) h)
+        | false ↦ λ h. lines_alone texts place expected answers
       ] refl
 
   any_alone : (t : Answered → Bool) (answers : List Answered) → list_any (λ (a : Answered). is_answer_of numbers number a && t a) answers ≡ list_any (λ (a : Answered). is_answer_of numbers number a && t a) (own answers)
@@ -131,9 +132,9 @@ module _ (numbers : List (List ℕ)) (number : ℕ) where
         ap (λ b. cond (whole && b && not (some_missed numbers number expected answers)) 1 0) (met_same expected)
         ∙ ap (λ b. cond (whole && some_met numbers number expected answers' && not b) 1 0) (missed_same expected)
 
-    pub block_same : (whole : Bool) (call : CallView) → call_block numbers number whole answers call ≡ call_block numbers number whole answers' call
-    block_same whole call =
-        let head = call_head number call.client call.call in
-        ap (λ l. head ++ (l ++ (codes "\n" ++ answer_lines numbers number 1 call.expect answers))) (expectation_same call.expect whole)
+    pub block_same : (texts : Texts) (whole : Bool) (call : CallView) → call_block texts numbers number whole answers call ≡ call_block texts numbers number whole answers' call
+    block_same texts whole call =
+        let head = call_head texts number call.client call.call in
+        ap (λ l. head ++ (l ++ (codes "\n" ++ answer_lines texts numbers number 1 call.expect answers))) (expectation_same call.expect whole)
         ∙ ap (λ l. head ++ (expected_in_orders numbers number call.expect whole answers' ++ (codes "\n" ++ l)))
-        (lines_alone 1 call.expect answers ∙ ap (answer_lines numbers number 1 call.expect) same ∙ sym (lines_alone 1 call.expect answers'))
+        (lines_alone texts 1 call.expect answers ∙ ap (answer_lines texts numbers number 1 call.expect) same ∙ sym (lines_alone texts 1 call.expect answers'))

@@ -2,19 +2,20 @@
 use Rattle.std.proofs.Common.{◌≡◌, ℕ, ◌+◌, ◌≤◌, codes, Bool, true, false, cond, List, ◌++◌, drop, Option, None, Some, sym, ap, ◌∙◌, append_assoc, add-one, arith}
 use Rattle.kernel_abstract.specs.declared.call.Call.{Call}
 use Rattle.setup_format.specs.Views.{CallView}
+use Rattle.setup_report.specs.Naming.{Texts}
 use Rattle.query_orders.specs.Answers.{Answered}
 use Rattle.command_explore_text.specs.Text.{call_head, expected_in_orders, answer_lines, call_block, call_blocks, met_one, expected_one, met_in_orders, expectations_of_calls}
 use Rattle.command_explore_text.proofs.Places.{IsAt}
 
 module _ (numbers : List (List ℕ)) (whole : Bool) (answers : List Answered) (calls : List CallView) (i : ℕ) (a : IsAt calls i) where
-  pub blocks_added : (total before after : List ℕ) → before ++ call_blocks numbers (i + 1) whole answers (drop i calls) ≡ total → after ≡ before ++ call_block numbers (i + 1) whole answers a.view →
-      after ++ call_blocks numbers (i + 1 + 1) whole answers (drop (i + 1) calls) ≡ total
-  blocks_added total before after so now =
-      let block = call_block numbers (i + 1) whole answers a.view in
-      ap (λ t. t ++ call_blocks numbers (i + 1 + 1) whole answers (drop (i + 1) calls)) now
-      ∙ append_assoc before block (call_blocks numbers (i + 1 + 1) whole answers (drop (i + 1) calls))
-      ∙ ap (λ n. before ++ (block ++ call_blocks numbers (i + 1 + 1) whole answers (drop n calls))) (add-one i)
-      ∙ ap (λ l. before ++ call_blocks numbers (i + 1) whole answers l) (sym a.there)
+  pub blocks_added : (texts : Texts) (total before after : List ℕ) → before ++ call_blocks texts numbers (i + 1) whole answers (drop i calls) ≡ total → after ≡ before ++ call_block texts numbers (i + 1) whole answers a.view →
+      after ++ call_blocks texts numbers (i + 1 + 1) whole answers (drop (i + 1) calls) ≡ total
+  blocks_added texts total before after so now =
+      let block = call_block texts numbers (i + 1) whole answers a.view in
+      ap (λ t. t ++ call_blocks texts numbers (i + 1 + 1) whole answers (drop (i + 1) calls)) now
+      ∙ append_assoc before block (call_blocks texts numbers (i + 1 + 1) whole answers (drop (i + 1) calls))
+      ∙ ap (λ n. before ++ (block ++ call_blocks texts numbers (i + 1 + 1) whole answers (drop n calls))) (add-one i)
+      ∙ ap (λ l. before ++ call_blocks texts numbers (i + 1) whole answers l) (sym a.there)
       ∙ so
 
   pub met_added : (total met one : ℕ) → met + met_in_orders numbers (i + 1) whole answers (drop i calls) ≡ total → one ≡ met_one numbers (i + 1) (a.view).expect whole answers →
@@ -46,16 +47,16 @@ pub within_more : (m i one one' : ℕ) → m ≤ i → one ≡ one' → one' ≤
 within_more m i one one' le is small = omega arith
 
 -- the block of a call, written in four parts
-pub block_written : (numbers : List (List ℕ)) (whole : Bool) (answers : List Answered) (number : ℕ) (v call : CallView) → v ≡ call → (client : ℕ) (made : Call) (expected : Option (List ℕ)) (out out1 out2 out3 out4 : List ℕ) →
-    v.client ≡ client → made ≡ v.call → v.expect ≡ expected → out1 ≡ out ++ call_head number client made → out2 ≡ out1 ++ expected_in_orders numbers number expected whole answers → out3 ≡ out2 ++ codes "\n" → out4 ≡ out3 ++ answer_lines numbers number 1 expected answers →
-    out4 ≡ out ++ call_block numbers number whole answers call
-block_written numbers whole answers number v call same client made expected out out1 out2 out3 out4 is_client is_made is_expected w1 w2 w3 w4 =
-    let head = call_head number client made in
+pub block_written : (texts : Texts) (numbers : List (List ℕ)) (whole : Bool) (answers : List Answered) (number : ℕ) (v call : CallView) → v ≡ call → (client : ℕ) (made : Call) (expected : Option (List ℕ)) (out out1 out2 out3 out4 : List ℕ) →
+    v.client ≡ client → made ≡ v.call → v.expect ≡ expected → out1 ≡ out ++ call_head texts number client made → out2 ≡ out1 ++ expected_in_orders numbers number expected whole answers → out3 ≡ out2 ++ codes "\n" → out4 ≡ out3 ++ answer_lines texts numbers number 1 expected answers →
+    out4 ≡ out ++ call_block texts numbers number whole answers call
+block_written texts numbers whole answers number v call same client made expected out out1 out2 out3 out4 is_client is_made is_expected w1 w2 w3 w4 =
+    let head = call_head texts number client made in
     let mark = expected_in_orders numbers number expected whole answers in
-    let lines = answer_lines numbers number 1 expected answers in
+    let lines = answer_lines texts numbers number 1 expected answers in
     w4 ∙ ap (λ l. l ++ lines) (w3 ∙ ap (λ l. l ++ codes "\n") (w2 ∙ ap (λ l. l ++ mark) w1))
     ∙ append_assoc ((out ++ head) ++ mark) (codes "\n") lines ∙ append_assoc (out ++ head) mark (codes "\n" ++ lines) ∙ append_assoc out head (mark ++ (codes "\n" ++ lines))
-    ∙ ap (λ (n : ℕ). out ++ (call_head number n made ++ (mark ++ (codes "\n" ++ lines)))) (sym is_client)
-    ∙ ap (λ (k : Call). out ++ (call_head number v.client k ++ (mark ++ (codes "\n" ++ lines)))) is_made
-    ∙ ap (λ (o : Option (List ℕ)). out ++ (call_head number v.client v.call ++ (expected_in_orders numbers number o whole answers ++ (codes "\n" ++ answer_lines numbers number 1 o answers)))) (sym is_expected)
-    ∙ ap (λ (k : CallView). out ++ call_block numbers number whole answers k) same
+    ∙ ap (λ (n : ℕ). out ++ (call_head texts number n made ++ (mark ++ (codes "\n" ++ lines)))) (sym is_client)
+    ∙ ap (λ (k : Call). out ++ (call_head texts number v.client k ++ (mark ++ (codes "\n" ++ lines)))) is_made
+    ∙ ap (λ (o : Option (List ℕ)). out ++ (call_head texts number v.client v.call ++ (expected_in_orders numbers number o whole answers ++ (codes "\n" ++ answer_lines texts numbers number 1 o answers)))) (sym is_expected)
+    ∙ ap (λ (k : CallView). out ++ call_block texts numbers number whole answers k) same

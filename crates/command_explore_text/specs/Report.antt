@@ -1,10 +1,13 @@
--- The report on every order of the calls that the clients of a set-up make.
+-- The report on every order of the calls that the clients of a set-up make. Threads and endpoints stand as `texts` tells them.
 use Rattle.std.specs.Prelude.{codes, ℕ, ◌+◌, ◌==◌, ◌&&◌, Bool, cond, List, [], ◌++◌, length}
 use Rattle.std.specs.Fmt.{decimal}
 use Rattle.cap_core.specs.declared.profile.ProfileName.{ProfileName}
 use Rattle.kernel_abstract.specs.Boot.{boot}
+use Rattle.kernel_abstract.specs.State.{shown}
+use Rattle.setup_values.specs.Names.{Names}
 use Rattle.setup_values.specs.Told.{profile_text}
 use Rattle.setup_format.specs.Views.{SetupView}
+use Rattle.setup_report.specs.Naming.{Texts, report_texts}
 use Rattle.setup_report.specs.Report.{terminated}
 use Rattle.kernel_lists.specs.Firsts.{firsts}
 use Rattle.query_orders.specs.contracts.answer.AnswerPartialEq.TheImpl as answer_eq
@@ -41,12 +44,12 @@ end_lines first limit met expected e =
 
 -- the report on an exploration, and whether all is well: all orders are explored, each expectation is met in each of them, and
 -- none ends stuck
-unfoldable pub report_on : SetupView → ℕ → ℕ → ExploredView → List ℕ × Bool
-report_on setup first limit e =
+unfoldable pub report_on : Texts → SetupView → ℕ → ℕ → ExploredView → List ℕ × Bool
+report_on texts setup first limit e =
     let numbers = client_numbers_of setup in
     let met = met_in_orders numbers 1 e.whole e.answers setup.calls in
     let expected = expectations_of_calls setup.calls in (
-      explore_head_line setup ++ (call_blocks numbers 1 e.whole e.answers setup.calls ++ (stuck_blocks numbers 1 e.stuck ++ end_lines first limit met expected e)),
+      explore_head_line setup ++ (call_blocks texts numbers 1 e.whole e.answers setup.calls ++ (stuck_blocks texts numbers 1 e.stuck ++ end_lines first limit met expected e)),
       e.whole && (met == expected) && (length e.stuck == 0),
     )
 
@@ -68,6 +71,12 @@ exploration p setup first limit =
       stuck_orders = saturated (orders_before (is_stuck own) p own w begin n);
     }
 
--- the report on them
-unfoldable pub explored_report : ProfileName → SetupView → ℕ → ℕ → List ℕ × Bool
-explored_report p setup first limit = report_on setup (length (first_clients setup first)) limit (exploration p setup first limit)
+-- the texts of a set-up's report: addresses, or the names of its objects. These names do not depend on the state, and only objects
+-- are told; so they are taken from the boot
+abbrev pub texts_at_boot : Bool → ProfileName → Names → SetupView → Texts
+texts_at_boot by_name p names setup = report_texts by_name p names setup.plan (shown (boot p setup.plan))
+
+-- the report on them, by addresses or by names
+unfoldable pub explored_report : Bool → ProfileName → Names → SetupView → ℕ → ℕ → List ℕ × Bool
+explored_report by_name p names setup first limit =
+    report_on (texts_at_boot by_name p names setup) setup (length (first_clients setup first)) limit (exploration p setup first limit)

@@ -1,4 +1,4 @@
--- What is told of calls and of ends over all orders.
+-- What is told of calls and of ends over all orders. Threads and endpoints stand as `texts` tells them.
 use Rattle.std.specs.Prelude.{codes, ℕ, ◌+◌, ◌-◌, ◌^◌, ◌==◌, ◌&&◌, ◌||◌, not, Bool, true, false, cond, List, [], ◌∷◌, ◌++◌, Option, None, Some, is_some}
 use Rattle.std.specs.List.{flat_map, list_any}
 use Rattle.std.specs.Fmt.{decimal}
@@ -8,7 +8,9 @@ use Rattle.kernel_abstract.specs.declared.call.ThreadState.{ThreadState}
 use Rattle.setup_format.specs.Views.{CallView}
 use Rattle.setup_values.specs.Operations.{op_text}
 use Rattle.setup_format.specs.Operations.{op_name}
-use Rattle.setup_report.specs.Text.{reply_text, state_text, begins_as}
+use Rattle.setup_report.specs.declared.objects.Object.{Object}
+use Rattle.setup_report.specs.Naming.{Texts, plain}
+use Rattle.setup_report.specs.Text.{reply_told, reply_text, state_text, begins_as}
 use Rattle.setup_report.specs.Report.{terminated}
 use Rattle.query_orders.specs.declared.answer.Answer.{Answer}
 use Rattle.query_orders.specs.declared.answer.Answer.TheVariants.{Replied, Served, Cancelled, Waits, NotMade}
@@ -20,21 +22,21 @@ use Rattle.command_explore_text.specs.Numbers.{call_number_at, order_text}
 -- ---- answers
 
 -- what a call comes to, as text
-abbrev pub call_answer_text : Answer → List ℕ
-call_answer_text (Replied reply) = reply_text reply
-call_answer_text (Served reply) = codes "waiting then " ++ reply_text reply
-call_answer_text Cancelled = codes "waiting then cancelled"
-call_answer_text Waits = codes "waiting"
-call_answer_text NotMade = codes "not made"
+abbrev pub call_answer_text : Texts → Answer → List ℕ
+call_answer_text texts (Replied reply) = reply_told texts reply
+call_answer_text texts (Served reply) = codes "waiting then " ++ reply_told texts reply
+call_answer_text texts Cancelled = codes "waiting then cancelled"
+call_answer_text texts Waits = codes "waiting"
+call_answer_text texts NotMade = codes "not made"
 
 abbrev pub reply_meets : List ℕ → Reply → Bool
 reply_meets expected reply = begins_as (reply_text reply) expected
 
--- whether an answer meets an expectation: by its text, or, where the call waited, by what the wait came to
+-- whether an answer meets an expectation: by its text, or, where the call waited, by what the wait came to; either by addresses
 abbrev pub meets_expectation : List ℕ → Answer → Bool
 meets_expectation expected (Replied reply) = reply_meets expected reply
-meets_expectation expected (Served reply) = begins_as (call_answer_text (Served reply)) expected || reply_meets expected reply
-meets_expectation expected Cancelled = begins_as (call_answer_text Cancelled) expected || begins_as (codes "cancelled") expected
+meets_expectation expected (Served reply) = begins_as (call_answer_text plain (Served reply)) expected || reply_meets expected reply
+meets_expectation expected Cancelled = begins_as (call_answer_text plain Cancelled) expected || begins_as (codes "cancelled") expected
 meets_expectation expected Waits = begins_as (codes "waiting") expected
 meets_expectation expected NotMade = begins_as (codes "not made") expected
 
@@ -51,15 +53,15 @@ abbrev pub unmet_order_text : List (List ℕ) → Bool → List ℕ → List ℕ
 unmet_order_text numbers false order = []
 unmet_order_text numbers true order = codes " [not met] by" ++ order_text numbers [] order
 
-abbrev pub call_answer_line : List (List ℕ) → ℕ → ℕ → Option (List ℕ) → Answered → List ℕ
-call_answer_line numbers number place expected a =
-    codes "  " ++ (decimal number ++ (codes "." ++ (decimal place ++ (codes " " ++ (call_answer_text a.answer ++ (unmet_order_text numbers (misses expected a.answer) a.order ++ codes "\n"))))))
+abbrev pub call_answer_line : Texts → List (List ℕ) → ℕ → ℕ → Option (List ℕ) → Answered → List ℕ
+call_answer_line texts numbers number place expected a =
+    codes "  " ++ (decimal number ++ (codes "." ++ (decimal place ++ (codes " " ++ (call_answer_text texts a.answer ++ (unmet_order_text numbers (misses expected a.answer) a.order ++ codes "\n"))))))
 
 -- a line for each answer of a call, with its place among them, from this one on
-abbrev pub answer_lines : List (List ℕ) → ℕ → ℕ → Option (List ℕ) → List Answered → List ℕ
-answer_lines numbers number place expected [] = []
-answer_lines numbers number place expected (a ∷ answers) =
-    cond (is_answer_of numbers number a) (call_answer_line numbers number place expected a ++ answer_lines numbers number (place + 1) expected answers) (answer_lines numbers number place expected answers)
+abbrev pub answer_lines : Texts → List (List ℕ) → ℕ → ℕ → Option (List ℕ) → List Answered → List ℕ
+answer_lines texts numbers number place expected [] = []
+answer_lines texts numbers number place expected (a ∷ answers) =
+    cond (is_answer_of numbers number a) (call_answer_line texts numbers number place expected a ++ answer_lines texts numbers number (place + 1) expected answers) (answer_lines texts numbers number place expected answers)
 
 -- ---- expectations
 
@@ -102,35 +104,38 @@ expectations_of_calls (call ∷ calls) = expected_one call.expect + expectations
 
 -- ---- calls
 
-abbrev pub call_head : ℕ → ℕ → Call → List ℕ
-call_head number client call = decimal number ++ (codes " client " ++ (decimal client ++ (codes ": " ++ (decimal call.thread ++ (codes " " ++ op_text (op_name call.op))))))
+abbrev pub call_head : Texts → ℕ → ℕ → Call → List ℕ
+call_head texts number client call =
+    decimal number ++ (codes " client " ++ (decimal client ++ (codes ": " ++ (texts.object (Object.Thread call.thread) ++ (codes " " ++ op_text (op_name call.op))))))
 
 -- a call with all that it comes to
-abbrev pub call_block : List (List ℕ) → ℕ → Bool → List Answered → CallView → List ℕ
-call_block numbers number whole answers call =
-    call_head number call.client call.call ++ (expected_in_orders numbers number call.expect whole answers ++ (codes "\n" ++ answer_lines numbers number 1 call.expect answers))
+abbrev pub call_block : Texts → List (List ℕ) → ℕ → Bool → List Answered → CallView → List ℕ
+call_block texts numbers number whole answers call =
+    call_head texts number call.client call.call
+    ++ (expected_in_orders numbers number call.expect whole answers ++ (codes "\n" ++ answer_lines texts numbers number 1 call.expect answers))
 
-abbrev pub call_blocks : List (List ℕ) → ℕ → Bool → List Answered → List CallView → List ℕ
-call_blocks numbers number whole answers [] = []
-call_blocks numbers number whole answers (call ∷ calls) = call_block numbers number whole answers call ++ call_blocks numbers (number + 1) whole answers calls
+abbrev pub call_blocks : Texts → List (List ℕ) → ℕ → Bool → List Answered → List CallView → List ℕ
+call_blocks texts numbers number whole answers [] = []
+call_blocks texts numbers number whole answers (call ∷ calls) =
+    call_block texts numbers number whole answers call ++ call_blocks texts numbers (number + 1) whole answers calls
 
 -- ---- ends
 
-abbrev pub reason_text : Option ThreadState → List ℕ
-reason_text None = codes "gone"
-reason_text (Some state) = state_text state
+abbrev pub reason_text : Texts → Option ThreadState → List ℕ
+reason_text texts None = codes "gone"
+reason_text texts (Some state) = state_text texts state
 
-abbrev pub left_line : List (List ℕ) → LeftCall → List ℕ
-left_line numbers call =
-    terminated (codes "  " ++ (decimal (call_number_at numbers call.client call.place) ++ (codes " " ++ (decimal call.thread ++ (codes " " ++ reason_text call.state)))))
+abbrev pub left_line : Texts → List (List ℕ) → LeftCall → List ℕ
+left_line texts numbers call =
+    terminated (codes "  " ++ (decimal (call_number_at numbers call.client call.place) ++ (codes " " ++ (texts.object (Object.Thread call.thread) ++ (codes " " ++ reason_text texts call.state)))))
 
-abbrev pub stuck_block : List (List ℕ) → ℕ → StuckEnd → List ℕ
-stuck_block numbers place s =
-    codes "stuck." ++ (decimal place ++ (codes " by" ++ (order_text numbers [] s.order ++ (codes "\n" ++ flat_map (left_line numbers) s.left))))
+abbrev pub stuck_block : Texts → List (List ℕ) → ℕ → StuckEnd → List ℕ
+stuck_block texts numbers place s =
+    codes "stuck." ++ (decimal place ++ (codes " by" ++ (order_text numbers [] s.order ++ (codes "\n" ++ flat_map (left_line texts numbers) s.left))))
 
-abbrev pub stuck_blocks : List (List ℕ) → ℕ → List StuckEnd → List ℕ
-stuck_blocks numbers place [] = []
-stuck_blocks numbers place (s ∷ stuck) = stuck_block numbers place s ++ stuck_blocks numbers (place + 1) stuck
+abbrev pub stuck_blocks : Texts → List (List ℕ) → ℕ → List StuckEnd → List ℕ
+stuck_blocks texts numbers place [] = []
+stuck_blocks texts numbers place (s ∷ stuck) = stuck_block texts numbers place s ++ stuck_blocks texts numbers (place + 1) stuck
 
 -- a count that goes up to 2^64 - 1
 abbrev pub capped_count_text : ℕ → List ℕ

@@ -1,5 +1,6 @@
 //! What a call comes to, as text, and whether that meets an expectation.
 ghost use Rattle.std.specs.Prelude.{◌≡◌, ◌++◌, ◌||◌, Some, IfOk, OnOk, option_copied, string_bytes};
+ghost use Rattle.setup_report.specs.Naming.{naming_view, plain};
 ghost use Rattle.setup_report.specs.Text.{begins_as};
 ghost use Rattle.query_orders.specs.Found.{answer_of, answers_of};
 ghost use Rattle.command_explore_text.specs.Numbers.{numbers_in};
@@ -8,25 +9,29 @@ ghost use Rattle.command_explore_text.specs.Text as spec;
 use crate::numbers::{add_order, number_at};
 use kernel_core::Reply;
 use query_orders::{Answer, FoundAnswer};
-use setup_report::ReplyText;
+use setup_report::{Naming, ReplyText};
 use std::alloc::{AllocError, Global};
 use std::fmt::{self, Write};
 
 /// What a call comes to in an order.
 #[derive(Clone, Copy)]
-pub struct AnswerText(pub Answer);
+pub struct AnswerText<'a> {
+    pub naming: &'a Naming<'a>,
+    pub answer: Answer,
+}
 
-impl fmt::Display for AnswerText {
-    ghost output = { λ a. Some (spec.call_answer_text a.0) };
+impl fmt::Display for AnswerText<'_> {
+    ghost output = { λ a. Some (spec.call_answer_text (naming_view a.naming.now) a.answer) };
 
     fn fmt<W: fmt::Write>(&self, f: &mut fmt::Formatter<W>) -> fmt::Result {
-        match self.0 {
+        let naming = self.naming;
+        match self.answer {
             Answer::Replied(reply) => {
-                let reply = ReplyText(reply);
+                let reply = ReplyText { naming, reply };
                 write!(f, "{reply}")
             }
             Answer::Served(reply) => {
-                let reply = ReplyText(reply);
+                let reply = ReplyText { naming, reply };
                 write!(f, "waiting then {reply}")
             }
             Answer::Cancelled => write!(f, "waiting then cancelled"),
@@ -48,19 +53,21 @@ fn begins_as(shown: &str, expected: &str) -> bool
     }
 }
 
-/// Whether a reply's text is the expected one, or begins with it followed by a space.
+/// Whether a reply's text by addresses is the expected one, or begins with it followed by a space.
 fn reply_meets(alloc: Global, reply: Reply, expected: &str) -> Result<bool, AllocError>
     ensures { IfOk result (λ met. met ≡ spec.reply_meets expected.now reply) }
 {
-    let text = ReplyText(reply).to_string(alloc)?;
+    let naming = &Naming::plain();
+    let text = ReplyText { naming, reply }.to_string(alloc)?;
     Ok(begins_as(text.as_str(), expected))
 }
 
-/// Whether the text of an answer is the expected one, or begins with it followed by a space.
+/// Whether the text of an answer by addresses is the expected one, or begins with it followed by a space.
 fn text_meets(alloc: Global, answer: Answer, expected: &str) -> Result<bool, AllocError>
-    ensures { IfOk result (λ met. met ≡ begins_as (spec.call_answer_text answer) expected.now) }
+    ensures { IfOk result (λ met. met ≡ begins_as (spec.call_answer_text plain answer) expected.now) }
 {
-    let text = AnswerText(answer).to_string(alloc)?;
+    let naming = &Naming::plain();
+    let text = AnswerText { naming, answer }.to_string(alloc)?;
     Ok(begins_as(text.as_str(), expected))
 }
 
@@ -130,6 +137,7 @@ pub fn misses(alloc: Global, answer: Answer, expected: Option<&str>) -> Result<b
 fn add_answer(
     alloc: Global,
     out: &mut String,
+    naming: &Naming<'_>,
     numbers: &[Vec<usize>],
     number: usize,
     place: usize,
@@ -137,9 +145,12 @@ fn add_answer(
     answer: &FoundAnswer,
 ) -> Result<(), AllocError>
     ensures { OnOk result (string_bytes out.new ≡ string_bytes out.old
-        ++ spec.call_answer_line (numbers_in numbers.now) number place (option_copied expected.entry) (answer_of answer.now)) }
+        ++ spec.call_answer_line (naming_view naming.now) (numbers_in numbers.now) number place (option_copied expected.entry) (answer_of answer.now)) }
 {
-    let text = AnswerText(answer.answer);
+    let text = AnswerText {
+        naming,
+        answer: answer.answer,
+    };
     write!(out, "  {number}.{place} {text}")?;
     if misses(alloc, answer.answer, expected)? {
         write!(out, " [not met] by")?;
@@ -152,19 +163,20 @@ fn add_answer(
 pub fn add_answers(
     alloc: Global,
     out: &mut String,
+    naming: &Naming<'_>,
     numbers: &[Vec<usize>],
     number: usize,
     expected: Option<&str>,
     answers: &[FoundAnswer],
 ) -> Result<(), AllocError>
     ensures { OnOk result (string_bytes out.new ≡ string_bytes out.old
-        ++ spec.answer_lines (numbers_in numbers.now) number 1 (option_copied expected.entry) (answers_of answers.now)) }
+        ++ spec.answer_lines (naming_view naming.now) (numbers_in numbers.now) number 1 (option_copied expected.entry) (answers_of answers.now)) }
 {
     let mut place = 0;
     for answer in answers {
         if is_of(numbers, number, answer) {
             place += 1;
-            add_answer(alloc, out, numbers, number, place, expected, answer)?;
+            add_answer(alloc, out, naming, numbers, number, place, expected, answer)?;
         }
     }
     Ok(())

@@ -2,6 +2,7 @@
 ghost use Rattle.std.specs.Prelude.{◌≡◌, ◌++◌, ◌<◌, IfOk, OnOk, Some, length, option_copied, slice_get, string_bytes};
 ghost use Rattle.query_orders.specs.Found.{answers_of};
 ghost use Rattle.setup_format.specs.Views.{CallView};
+ghost use Rattle.setup_report.specs.Naming.{naming_view};
 ghost use Rattle.command_explore_text.specs.Numbers.{numbers_in};
 ghost use Rattle.command_explore_text.specs.Text as spec;
 
@@ -11,15 +12,21 @@ use crate::rows::{answer_rows, row_of};
 use kernel_core::Call;
 use query_orders::FoundAnswer;
 use setup_format::{Setup, op_name};
-use setup_report::ExpectationCount;
+use setup_report::{ExpectationCount, Naming, Object};
 use std::alloc::{AllocError, Global};
 use std::fmt::Write;
 
 /// Adds the beginning of a call's line: its number, its client, its thread and its operation.
-fn add_head(out: &mut String, number: usize, client: u32, call: &Call) -> Result<(), AllocError>
-    ensures { OnOk result (string_bytes out.new ≡ string_bytes out.old ++ spec.call_head number client call.now) }
+fn add_head(
+    out: &mut String,
+    naming: &Naming<'_>,
+    number: usize,
+    client: u32,
+    call: &Call,
+) -> Result<(), AllocError>
+    ensures { OnOk result (string_bytes out.new ≡ string_bytes out.old ++ spec.call_head (naming_view naming.now) number client call.now) }
 {
-    let thread = call.thread;
+    let thread = naming.object(Object::Thread(call.thread));
     let op = op_name(&call.op).text();
     write!(out, "{number} client {client}: {thread} {op}")
 }
@@ -64,6 +71,7 @@ fn add_mark(
 fn add_call(
     alloc: Global,
     out: &mut String,
+    naming: &Naming<'_>,
     setup: &Setup,
     i: usize,
     number: usize,
@@ -73,16 +81,16 @@ fn add_call(
 ) -> Result<ExpectationCount, AllocError>
     requires { i < length setup.now.calls }
     ensures lines { IfOk result (λ e. (call : CallView) → slice_get setup.now.calls i ≡ Some call → string_bytes out.new ≡ string_bytes out.old
-        ++ spec.call_block (numbers_in numbers.now) number is_whole (answers_of answers.now) call) }
+        ++ spec.call_block (naming_view naming.now) (numbers_in numbers.now) number is_whole (answers_of answers.now) call) }
     ensures met { IfOk result (λ e. (call : CallView) → slice_get setup.now.calls i ≡ Some call
         → e.met ≡ spec.met_one (numbers_in numbers.now) number call.expect is_whole (answers_of answers.now)) }
     ensures expected { IfOk result (λ e. (call : CallView) → slice_get setup.now.calls i ≡ Some call → e.expected ≡ spec.expected_one call.expect) }
 {
     let expected = setup.expect(i);
-    add_head(out, number, setup.client_of(i), &setup.calls()[i])?;
+    add_head(out, naming, number, setup.client_of(i), &setup.calls()[i])?;
     let count = add_mark(alloc, out, numbers, number, expected, is_whole, answers)?;
     writeln!(out)?;
-    add_answers(alloc, out, numbers, number, expected, answers)?;
+    add_answers(alloc, out, naming, numbers, number, expected, answers)?;
     Ok(count)
 }
 
@@ -90,13 +98,14 @@ fn add_call(
 pub fn add_calls(
     alloc: Global,
     out: &mut String,
+    naming: &Naming<'_>,
     setup: &Setup,
     numbers: &[Vec<usize>],
     is_whole: bool,
     answers: &[FoundAnswer],
 ) -> Result<ExpectationCount, AllocError>
     ensures lines { OnOk result (string_bytes out.new ≡ string_bytes out.old
-        ++ spec.call_blocks (numbers_in numbers.now) 1 is_whole (answers_of answers.now) setup.now.calls) }
+        ++ spec.call_blocks (naming_view naming.now) (numbers_in numbers.now) 1 is_whole (answers_of answers.now) setup.now.calls) }
     ensures met { IfOk result (λ e. e.met ≡ spec.met_in_orders (numbers_in numbers.now) 1 is_whole (answers_of answers.now) setup.now.calls) }
     ensures expected { IfOk result (λ e. e.expected ≡ spec.expectations_of_calls setup.now.calls) }
 {
@@ -105,7 +114,7 @@ pub fn add_calls(
     let mut expected = 0;
     for i in 0..setup.calls().len() {
         let row = row_of(rows.as_slice(), i + 1, answers);
-        let one = add_call(alloc, out, setup, i, i + 1, numbers, is_whole, row)?;
+        let one = add_call(alloc, out, naming, setup, i, i + 1, numbers, is_whole, row)?;
         met += one.met;
         expected += one.expected;
     }

@@ -9,6 +9,7 @@ mod ends;
 pub mod laws;
 mod making;
 mod marks;
+mod naming;
 mod numbers;
 mod rows;
 mod run;

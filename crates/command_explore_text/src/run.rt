@@ -2,6 +2,8 @@
 ghost use Rattle.std.specs.Prelude.{◌≡◌, ◌++◌, ◌==◌, ◌&&◌, IfOk, OnOk, length, string_bytes};
 ghost use Rattle.kernel_abstract.specs.Plan.{IsPlan};
 ghost use Rattle.query_orders.specs.Found.{stuck_of};
+ghost use Rattle.setup_report.specs.Naming.{naming_view};
+ghost use Rattle.setup_values.specs.Names.{names_view};
 ghost use Rattle.command_explore_text.specs.Report as spec;
 ghost use Rattle.command_explore_text.specs.Views.{explored_view};
 
@@ -9,6 +11,7 @@ use crate::calls::add_calls;
 use crate::clients::{calls_of_clients, first_clients};
 use crate::ends::add_stuck;
 use crate::marks::CountText;
+use crate::naming::naming_at_boot;
 use crate::numbers::numbers_of_clients;
 use crate::unmet::unmet_answers;
 use cap_core::Profile;
@@ -17,8 +20,8 @@ use ipc_core::MakeWaiters;
 use kernel_core::Kernel;
 use query_orders::{Explored, FoundStuck, explore};
 use setup_format::Setup;
-use setup_report::ExpectationCount;
-use setup_values::profile_text;
+use setup_report::{ExpectationCount, Naming};
+use setup_values::{Name, profile_text};
 use slot_core::{DerivationStore, MakeStore};
 use std::alloc::{AllocError, Global};
 use std::fmt::Write;
@@ -92,12 +95,13 @@ fn is_well(is_whole: bool, count: ExpectationCount, stuck: &[FoundStuck]) -> boo
 #[tactic(auto, unfolding(crate::specs::Report::report_on))]
 fn explored_text(
     alloc: Global,
+    naming: &Naming<'_>,
     setup: &Setup,
     explored: &Explored,
     first: usize,
     limit: u64,
 ) -> Result<ExploredText, AllocError>
-    ensures { IfOk result (λ r. (r.text.items, r.is_well) ≡ spec.report_on setup.now first limit (explored_view explored.now)) }
+    ensures { IfOk result (λ r. (r.text.items, r.is_well) ≡ spec.report_on (naming_view naming.now) setup.now first limit (explored_view explored.now)) }
 {
     let lists = numbers_of_clients(alloc, setup)?;
     let numbers = lists.as_slice();
@@ -106,8 +110,8 @@ fn explored_text(
     let is_whole = explored.layer.nodes().is_empty();
     let mut out = String::new(alloc);
     add_head(&mut out, setup)?;
-    let count = add_calls(alloc, &mut out, setup, numbers, is_whole, answers)?;
-    add_stuck(alloc, &mut out, numbers, stuck)?;
+    let count = add_calls(alloc, &mut out, naming, setup, numbers, is_whole, answers)?;
+    add_stuck(alloc, &mut out, naming, numbers, stuck)?;
     add_end(&mut out, explored, first, limit, count)?;
     Ok(ExploredText {
         text: out.into_bytes(),
@@ -143,7 +147,8 @@ pub fn explore_setup<P: Profile, S: MakeStore<P> + DerivationStore<P>, W: MakeWa
 
 /// Explores every order of the calls that the clients of a set-up make, from its boot on, and reports on it. The first calls
 /// of the set-up, as many as `first` says, are made before the clients begin. Where the states are more than the limit, the
-/// report is on the orders of as many calls as it allows.
+/// report is on the orders of as many calls as it allows. Threads and endpoints are told by their addresses, or, where
+/// `by_name` says so, by their names; expectations are compared by addresses either way.
 ///
 /// # Errors
 ///
@@ -151,15 +156,18 @@ pub fn explore_setup<P: Profile, S: MakeStore<P> + DerivationStore<P>, W: MakeWa
 #[tactic(auto, unfolding(crate::specs::Report::explored_report))]
 pub fn explored_report<P: Profile, S: MakeStore<P> + DerivationStore<P>, W: MakeWaiters<P>>(
     alloc: Global,
+    by_name: bool,
+    names: &[Name],
     setup: &Setup,
     first: usize,
     limit: u64,
 ) -> Result<ExploredText, AllocError>
     requires { IsPlan P.profile setup.now.plan }
-    ensures { IfOk result (λ r. (r.text.items, r.is_well) ≡ spec.explored_report P.profile setup.now first limit) }
+    ensures { IfOk result (λ r. (r.text.items, r.is_well) ≡ spec.explored_report by_name P.profile (names_view names.now) setup.now first limit) }
 {
     let begin = first_clients(alloc, setup, first)?;
     let explored = explore_setup::<P, S, W>(alloc, setup, first, limit)?;
-    let told = explored_text(alloc, setup, &explored, begin.len(), limit)?;
+    let naming = naming_at_boot::<P, S, W>(alloc, by_name, names, setup)?;
+    let told = explored_text(alloc, &naming, setup, &explored, begin.len(), limit)?;
     Ok(told)
 }

@@ -7,6 +7,7 @@ use crate::numbers::{add_order, number_at};
 use command_core::CallNote;
 use query_orders::FoundAnswer;
 use setup_format::{Setup, asks};
+use setup_report::Naming;
 use std::alloc::{AllocError, Global};
 
 /// What is expected of the call with a number, from 1 on; nothing where there is no such call.
@@ -22,8 +23,8 @@ pub fn expected_of(setup: &Setup, number: usize) -> Option<&str>
     }
 }
 
-/// Adds what is told of an answer, where it does not meet the expectation of its call: also the first order with it. Of an
-/// expectation that asks nothing is told.
+/// Adds what is told of an answer, where it does not meet the expectation of its call: also the first order with it. Both are
+/// told by addresses, by which they are compared. Of an expectation that asks nothing is told.
 fn add_unmet(
     alloc: Global,
     unmet: &mut Vec<CallNote>,
@@ -38,7 +39,10 @@ fn add_unmet(
     if asks(expected) || !misses(alloc, answer.answer, Some(expected))? {
         return Ok(());
     }
-    let shown = AnswerText(answer.answer);
+    let shown = AnswerText {
+        naming: &Naming::plain(),
+        answer: answer.answer,
+    };
     let mut text = format!(in alloc; "{shown}, and not {expected}, in the order")?;
     add_order(alloc, &mut text, numbers, &answer.order)?;
     unmet.push(CallNote { call, text })?;
