@@ -1,5 +1,5 @@
 -- What a settled book shows, and that its history is a run of the clients from the state of its opening.
-use Rattle.std.proofs.Common.{◌≡◌, ℕ, ◌<◌, ◌≤◌, List, [], All, Vec, Global, Option, Result, Ok, Err, IfOk, length, map, slice_get, Some, None, ap, sym, ◌∙◌, subst}
+use Rattle.std.proofs.Common.{◌≡◌, ℕ, ◌<◌, ◌≤◌, List, [], All, Vec, Global, Option, Result, Ok, Err, IfOk, IsOk, length, map, slice_get, Some, None, refl, ap, sym, ◌∙◌, subst}
 use Rattle.std.proofs.lemmas.List.{length-map}
 use Rattle.std.proofs.Props.{props}
 use mathlib.Core.Logic.{∥∥₁_elim}
@@ -15,8 +15,11 @@ use Rattle.kernel_shared.specs.declared.driving.Stop.{Stop}
 use Rattle.kernel_shared.specs.Driving.{EachThree, IsDriven}
 use Rattle.kernel_shared.specs.Laws.{Lawful, StandsAfter, entry_calls, replies_in}
 use Rattle.kernel_shared.specs.ClientStates.{ClientState, client_state}
-use Rattle.setup_format.specs.Views.{CallView}
-use Rattle.setup_threads.specs.SharedReport.{shared_report_of}
+use Rattle.setup_format.specs.Faults.{Fault}
+use Rattle.setup_format.specs.Laws.{setup_in}
+use Rattle.setup_format.specs.Setups.{read_of_bytes, setup_of_bytes}
+use Rattle.setup_format.specs.Views.{CallView, ReadView, SetupView}
+use Rattle.setup_format.proofs.Grammar.Reads.{reads_its_setup}
 use Rattle.command_threads.specs.Private.Begun.{IsSharedFrom}
 use Rattle.command_threads.specs.Private.Settled.{AreSettled, IsFinished}
 use Rattle.command_threads.specs.SharedRuns.{client_calls}
@@ -27,12 +30,12 @@ use Rattle.command_threads.proofs.Histories.{IsMade, beginnings, each_made, unle
 text_set : (x y : List ℕ) → IsProp (x ≡ y)
 text_set x y = hlevel props
 
--- the report of a history and of the kernel of a book is that of the state after the book's calls
-pub book_shows : (p : ProfileName) (A : State) (o k : Shown) (later h : List Entry) (n : ℕ) → IsReached p A → o ≡ shown A → ∥ StandsAfter p o later k ∥₁
-    → shared_report_of p n h k ≡ shared_report_of p n h (shown (state_after p A (entry_calls later)))
-book_shows p A o k later h n reached is b =
-    ∥∥₁_elim b (text_set (shared_report_of p n h k) (shared_report_of p n h (shown (state_after p A (entry_calls later)))))
-    (λ s. ap (shared_report_of p n h) (s.stands A reached is))
+-- a text of the kernel of a book is that of the state after the book's calls
+pub book_shows : (p : ProfileName) (A : State) (o k : Shown) (later : List Entry) (text : Shown → List ℕ) → IsReached p A → o ≡ shown A → ∥ StandsAfter p o later k ∥₁
+    → text k ≡ text (shown (state_after p A (entry_calls later)))
+book_shows p A o k later text reached is b =
+    ∥∥₁_elim b (text_set (text k) (text (shown (state_after p A (entry_calls later)))))
+    (λ s. ap text (s.stands A reached is))
 
 -- ---- the history of a book
 
@@ -78,3 +81,9 @@ run_settled ends p A calls o limit many_clients client many stopped olds lists d
 pub ok_both : {A F : Type 0} (P Q R : A → Type 0) (r : Result A F) → IfOk r P → IfOk r Q → ((v : A) → P v → Q v → R v) → IfOk r R
 ok_both P Q R (Ok v) p q f = f v p q
 ok_both P Q R (Err e) p q f = tt
+
+-- ---- bytes that were read are those of a set-up
+
+pub accepted_is : (bytes : List ℕ) (read : ReadView) → read_of_bytes bytes ≡ Ok read → IsOk (setup_of_bytes bytes)
+accepted_is bytes read is =
+    subst (λ (r : Result SetupView Fault). IsOk r) (reads_its_setup bytes) (subst (λ (r : Result ReadView Fault). IsOk (setup_in r)) (sym is) refl)

@@ -1,5 +1,5 @@
 -- What the program writes for the bytes that it reads where the clients of a set-up share one kernel, and its verdict.
-use Rattle.std.specs.Prelude.{◌≡◌, ℕ, ◌<◌, ◌≤◌, ◌==◌, ◌⊎◌, min, true, List, [], ◌∷◌, ◌++◌, map, filter, length, take, Result, Ok, Err}
+use Rattle.std.specs.Prelude.{◌≡◌, ℕ, ◌<◌, ◌≤◌, ◌==◌, ◌⊎◌, min, Bool, true, List, [], ◌∷◌, ◌++◌, map, filter, length, take, Result, Ok, Err}
 use Rattle.cap_core.specs.declared.profile.ProfileName.{ProfileName}
 use Rattle.kernel_abstract.specs.declared.call.Call.{Call}
 use Rattle.kernel_abstract.specs.Boot.{boot}
@@ -7,11 +7,13 @@ use Rattle.kernel_abstract.specs.State.{State, shown}
 use Rattle.kernel_abstract.specs.Step.{replies_of, state_after}
 use Rattle.kernel_shared.specs.declared.entry.Entry.{Entry}
 use Rattle.kernel_shared.specs.Laws.{entry_calls, replies_in, are_entries_numbered}
-use Rattle.setup_format.specs.Views.{SetupView, CallView}
+use Rattle.setup_values.specs.Names.{Names}
+use Rattle.setup_format.specs.Views.{SetupView, CallView, ReadView}
 use Rattle.setup_format.specs.Faults.{Fault}
-use Rattle.setup_format.specs.Setups.{setup_of_bytes}
+use Rattle.setup_format.specs.Setups.{read_of_bytes}
 use Rattle.setup_format.specs.Refusal.{refusal_line}
-use Rattle.setup_threads.specs.SharedReport.{shared_report_of}
+use Rattle.setup_report.specs.Naming.{Texts, report_texts}
+use Rattle.setup_threads.specs.SharedReport.{shared_report_told}
 use Rattle.command_check.specs.Notes.{noted, unmet_at}
 use Rattle.command_check.specs.Program.{verdict_on}
 use Rattle.command_core.specs.Devices.{Gave, Took}
@@ -72,25 +74,30 @@ pub record IsSharedRun (ends : ℕ → ℕ → Type 0) (first : ℕ) (p : Profil
 abbrev pub history_state : ProfileName → SetupView → List Entry → State
 history_state p setup history = state_after p (boot p setup.plan) (entry_calls history)
 
+-- the texts of its report: addresses, or the names of the objects in the state after its calls
+abbrev pub history_texts : Bool → ProfileName → Names → SetupView → List Entry → Texts
+history_texts by_name p names setup history = report_texts by_name p names setup.plan (shown (history_state p setup history))
+
 -- the report of a history, and its verdict: all calls of the set-up are made, or not all
-abbrev pub IsReportOf : ProfileName → SetupView → List Entry → List ℕ → Verdict → Type 0
-IsReportOf p setup history text verdict =
-    (text ≡ shared_report_of p (length setup.calls) history (shown (history_state p setup history)))
+abbrev pub IsReportOf : Bool → ProfileName → Names → SetupView → List Entry → List ℕ → Verdict → Type 0
+IsReportOf by_name p names setup history text verdict =
+    (text ≡ shared_report_told (history_texts by_name p names setup history) p (length setup.calls) history (shown (history_state p setup history)))
     × (verdict ≡ verdict_on (length history) (length setup.calls))
 
 -- the report of some shared run of the set-up
-abbrev pub IsOutcomeIn : (ℕ → ℕ → Type 0) → ℕ → ProfileName → SetupView → List ℕ → Verdict → Type 0
-IsOutcomeIn ends first p setup text verdict =
-    (history : List Entry) × IsSharedRun ends first p setup history × IsReportOf p setup history text verdict
+abbrev pub IsOutcomeIn : Bool → (ℕ → ℕ → Type 0) → ℕ → ProfileName → Names → SetupView → List ℕ → Verdict → Type 0
+IsOutcomeIn by_name ends first p names setup text verdict =
+    (history : List Entry) × IsSharedRun ends first p setup history × IsReportOf by_name p names setup history text verdict
 
 -- or the line by which it is refused
-abbrev pub IsOutcome : (ℕ → ℕ → Type 0) → ℕ → Result SetupView Fault → List ℕ → Verdict → Type 0
-IsOutcome ends first (Ok setup) text verdict = IsOutcomeIn ends first setup.profile setup text verdict
-IsOutcome ends first (Err fault) text verdict = (text ≡ refusal_line fault) × (verdict ≡ Refused)
+abbrev pub IsOutcome : Bool → (ℕ → ℕ → Type 0) → ℕ → Result ReadView Fault → List ℕ → Verdict → Type 0
+IsOutcome by_name ends first (Ok read) text verdict = IsOutcomeIn by_name ends first read.setup.profile read.names read.setup text verdict
+IsOutcome by_name ends first (Err fault) text verdict = (text ≡ refusal_line fault) × (verdict ≡ Refused)
 
--- what is right to write for the bytes of an input, in the profile that its set-up names, where so many calls are made first
-unfoldable pub IsSharedProgram : (ℕ → ℕ → Type 0) → ℕ → List ℕ → List ℕ → Verdict → Type 0
-IsSharedProgram ends first input text verdict = IsOutcome ends first (setup_of_bytes input) text verdict
+-- what is right to write for the bytes of an input, by addresses or by names, in the profile that its set-up names, where so many
+-- calls are made first
+unfoldable pub IsSharedProgram : Bool → (ℕ → ℕ → Type 0) → ℕ → List ℕ → List ℕ → Verdict → Type 0
+IsSharedProgram by_name ends first input text verdict = IsOutcome by_name ends first (read_of_bytes input) text verdict
 
 -- the number, from 1 on, of the call of a set-up that an entry of a history carries
 abbrev pub number_of : SetupView → Entry → ℕ
@@ -102,22 +109,23 @@ unmet_in setup [] = []
 unmet_in setup (e ∷ es) = unmet_at (number_of setup e) (expectation_of setup.calls (number_of setup e)) e.reply ++ unmet_in setup es
 
 -- the report of some shared run of the set-up, and the numbers of the calls whose expectation is not met in its history
-abbrev pub IsToldIn : (ℕ → ℕ → Type 0) → ℕ → ProfileName → SetupView → List ℕ → Verdict → List ℕ → Type 0
-IsToldIn ends first p setup text verdict unmet =
-    (history : List Entry) × IsSharedRun ends first p setup history × IsReportOf p setup history text verdict
+abbrev pub IsToldIn : Bool → (ℕ → ℕ → Type 0) → ℕ → ProfileName → Names → SetupView → List ℕ → Verdict → List ℕ → Type 0
+IsToldIn by_name ends first p names setup text verdict unmet =
+    (history : List Entry) × IsSharedRun ends first p setup history × IsReportOf by_name p names setup history text verdict
     × (unmet ≡ unmet_in setup history)
 
 -- or of no call, where the set-up is refused
-abbrev pub IsToldOf : (ℕ → ℕ → Type 0) → ℕ → Result SetupView Fault → List ℕ → Verdict → List ℕ → Type 0
-IsToldOf ends first (Ok setup) text verdict unmet = IsToldIn ends first setup.profile setup text verdict unmet
-IsToldOf ends first (Err fault) text verdict unmet = unmet ≡ []
+abbrev pub IsToldOf : Bool → (ℕ → ℕ → Type 0) → ℕ → Result ReadView Fault → List ℕ → Verdict → List ℕ → Type 0
+IsToldOf by_name ends first (Ok read) text verdict unmet =
+    IsToldIn by_name ends first read.setup.profile read.names read.setup text verdict unmet
+IsToldOf by_name ends first (Err fault) text verdict unmet = unmet ≡ []
 
 -- what is right to tell beside the text that is written for the bytes of an input
-unfoldable pub IsToldProgram : (ℕ → ℕ → Type 0) → ℕ → List ℕ → List ℕ → Verdict → List ℕ → Type 0
-IsToldProgram ends first input text verdict unmet = IsToldOf ends first (setup_of_bytes input) text verdict unmet
+unfoldable pub IsToldProgram : Bool → (ℕ → ℕ → Type 0) → ℕ → List ℕ → List ℕ → Verdict → List ℕ → Type 0
+IsToldProgram by_name ends first input text verdict unmet = IsToldOf by_name ends first (read_of_bytes input) text verdict unmet
 
 -- a run from a source to a sink tells of just those calls whose expectation is not met in the history of its report
-abbrev pub TellsUnmet : {S K : Type 0} → (ℕ → ℕ → Type 0) → ℕ → SourceGhosts S → SinkGhosts K → S → S → K → K → Found → Type 0
-TellsUnmet ends first from to source_old source_new sink_old sink_new found = (input text : List ℕ)
+abbrev pub TellsUnmet : {S K : Type 0} → Bool → (ℕ → ℕ → Type 0) → ℕ → SourceGhosts S → SinkGhosts K → S → S → K → K → Found → Type 0
+TellsUnmet by_name ends first from to source_old source_new sink_old sink_new found = (input text : List ℕ)
     × Gave from.left from.given source_old source_new input × Took to.taken to.written sink_old sink_new text
-    × IsToldProgram ends first input text found.verdict (noted found.notes.unmet.items)
+    × IsToldProgram by_name ends first input text found.verdict (noted found.notes.unmet.items)

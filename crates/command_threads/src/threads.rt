@@ -1,6 +1,7 @@
 //! The run of a set-up's clients, over a source and a sink.
 ghost use Rattle.std.specs.Prelude.{◌≡◌, ◌++◌, ◌-◌, List, ℕ, Err, IsOk, [], false, IfOk, IfErr, codes, vec_len};
 ghost use Rattle.command_core.specs.Devices.{Gave};
+ghost use Rattle.setup_values.specs.Names.{names_view};
 ghost use Rattle.setup_format.specs.Refusal.{setup_fault_text};
 ghost use Rattle.setup_format.specs.Setups.{setup_of_bytes};
 ghost use Rattle.kernel_abstract.specs.Plan.{IsPlan};
@@ -23,7 +24,8 @@ use command_core::{
 };
 use ipc_core::{LinkedWaiters, MakeWaiters};
 use kernel_shared::{Gate, Naming};
-use setup_format::{Setup, SetupFault, read_setup};
+use setup_format::{ReadSetup, SetupFault, read};
+use setup_report::Naming as ObjectNaming;
 use setup_threads::history_report;
 use slot_core::{DerivationStore, LinkedStore, MakeStore};
 use std::alloc::Global;
@@ -55,25 +57,27 @@ fn report_on<
     rt: &R,
     alloc: Global,
     blank: Blank,
-    setup: &Setup,
+    by_name: bool,
+    read: &ReadSetup,
     begun: Begun<P, S, W>,
     first: usize,
     gate: &G,
 ) -> Result<Answer, RunFault>
     requires name { blank.name ≡ N.name }
     requires parts { blank.parts ≡ N.parts }
-    requires clients { blank.parts ≡ setup.now.clients }
-    requires plan { IsPlan P.profile setup.now.plan }
-    requires begun { IsBegunKernel P.profile setup.now first begun.replies.items begun.kernel }
-    requires many { vec_len begun.replies ≡ count_first first setup.now }
+    requires clients { blank.parts ≡ read.now.setup.clients }
+    requires plan { IsPlan P.profile read.now.setup.plan }
+    requires begun { IsBegunKernel P.profile read.now.setup first begun.replies.items begun.kernel }
+    requires many { vec_len begun.replies ≡ count_first first read.now.setup }
     requires profile { N.profile ≡ P.profile }
-    requires start { N.start ≡ state_begun P.profile setup.now first }
-    requires opening { N.opening ≡ shown (state_begun P.profile setup.now first) }
-    requires limit { N.limit ≡ setup.now.limit - count_first first setup.now }
-    ensures made { IfOk result (λ made. IsOutcomeIn G.ends first P.profile setup.now made.text.items made.verdict) }
-    ensures told { IfOk result (λ made. IsToldIn G.ends first P.profile setup.now made.text.items made.verdict (noted made.notes.unmet.items)) }
+    requires start { N.start ≡ state_begun P.profile read.now.setup first }
+    requires opening { N.opening ≡ shown (state_begun P.profile read.now.setup first) }
+    requires limit { N.limit ≡ read.now.setup.limit - count_first first read.now.setup }
+    ensures made { IfOk result (λ made. IsOutcomeIn by_name G.ends first P.profile (names_view read.now.names.items) read.now.setup made.text.items made.verdict) }
+    ensures told { IfOk result (λ made. IsToldIn by_name G.ends first P.profile (names_view read.now.names.items) read.now.setup made.text.items made.verdict (noted made.notes.unmet.items)) }
     ensures fault { IfErr result IsOwnFault }
 {
+    let setup = &read.setup;
     let Begun { kernel, replies } = begun;
     let book = shared_run::<N, P, S, W, R, G>(
         rt,
@@ -89,7 +93,17 @@ fn report_on<
     let Ok(history) = whole_history(alloc, setup, replies.as_slice(), later) else {
         return Err(RunFault::Memory);
     };
-    let Ok(text) = history_report(alloc, setup, history.as_slice(), &book.kernel) else {
+    let names = read.names.as_slice();
+    let Ok(naming) = ObjectNaming::in_report::<P, S, W>(
+        alloc,
+        by_name,
+        names,
+        setup.plan(),
+        &book.kernel,
+    ) else {
+        return Err(RunFault::Memory);
+    };
+    let Ok(text) = history_report(alloc, &naming, setup, history.as_slice(), &book.kernel) else {
         return Err(RunFault::Memory);
     };
     let Ok(unmet) = unmet_calls(alloc, setup, history.as_slice()) else {
@@ -103,21 +117,22 @@ fn report_on<
 fn report_by_links<P: Profile + Send + Sync, R: Threads + Wait + Sync, G: Gate + Sync>(
     rt: &R,
     alloc: Global,
-    setup: &Setup,
+    by_name: bool,
+    read: &ReadSetup,
     first: usize,
     gate: &G,
 ) -> Result<Answer, RunFault>
-    requires { IsPlan P.profile setup.now.plan }
-    ensures made { IfOk result (λ made. IsOutcomeIn G.ends first P.profile setup.now made.text.items made.verdict) }
-    ensures told { IfOk result (λ made. IsToldIn G.ends first P.profile setup.now made.text.items made.verdict (noted made.notes.unmet.items)) }
+    requires { IsPlan P.profile read.now.setup.plan }
+    ensures made { IfOk result (λ made. IsOutcomeIn by_name G.ends first P.profile (names_view read.now.names.items) read.now.setup made.text.items made.verdict) }
+    ensures told { IfOk result (λ made. IsToldIn by_name G.ends first P.profile (names_view read.now.names.items) read.now.setup made.text.items made.verdict (noted made.notes.unmet.items)) }
     ensures fault { IfErr result IsOwnFault }
 {
-    let Ok(begun) = begin::<P, LinkedStore<P>, LinkedWaiters<P>>(alloc, setup, first) else {
+    let Ok(begun) = begin::<P, LinkedStore<P>, LinkedWaiters<P>>(alloc, &read.setup, first) else {
         return Err(RunFault::Memory);
     };
-    let blank = Blank::new(u64::from(setup.clients()));
+    let blank = Blank::new(u64::from(read.setup.clients()));
     report_on::<Brand, P, LinkedStore<P>, LinkedWaiters<P>, R, G>(
-        rt, alloc, blank, setup, begun, first, gate,
+        rt, alloc, blank, by_name, read, begun, first, gate,
     )
 }
 
@@ -125,18 +140,21 @@ fn report_by_links<P: Profile + Send + Sync, R: Threads + Wait + Sync, G: Gate +
 fn report_in_profile<R: Threads + Wait + Sync, G: Gate + Sync>(
     rt: &R,
     alloc: Global,
-    setup: &Setup,
+    by_name: bool,
+    read: &ReadSetup,
     first: usize,
     gate: &G,
 ) -> Result<Answer, RunFault>
-    requires { IsPlan setup.now.profile setup.now.plan }
-    ensures made { IfOk result (λ made. IsOutcomeIn G.ends first setup.now.profile setup.now made.text.items made.verdict) }
-    ensures told { IfOk result (λ made. IsToldIn G.ends first setup.now.profile setup.now made.text.items made.verdict (noted made.notes.unmet.items)) }
+    requires { IsPlan read.now.setup.profile read.now.setup.plan }
+    ensures made { IfOk result (λ made. IsOutcomeIn by_name G.ends first read.now.setup.profile (names_view read.now.names.items) read.now.setup made.text.items made.verdict) }
+    ensures told { IfOk result (λ made. IsToldIn by_name G.ends first read.now.setup.profile (names_view read.now.names.items) read.now.setup made.text.items made.verdict (noted made.notes.unmet.items)) }
     ensures fault { IfErr result IsOwnFault }
 {
-    match setup.profile() {
-        ProfileName::Wide => report_by_links::<Wide, R, G>(rt, alloc, setup, first, gate),
-        ProfileName::Narrow => report_by_links::<Narrow, R, G>(rt, alloc, setup, first, gate),
+    match read.setup.profile() {
+        ProfileName::Wide => report_by_links::<Wide, R, G>(rt, alloc, by_name, read, first, gate),
+        ProfileName::Narrow => {
+            report_by_links::<Narrow, R, G>(rt, alloc, by_name, read, first, gate)
+        }
     }
 }
 
@@ -151,7 +169,7 @@ fn refused(alloc: Global, fault: &SetupFault) -> Result<Answer, RunFault>
 }
 
 /// The text that is written for the bytes of an input, and the verdict.
-#[tactic(auto, unfolding(crate::specs::SharedRuns::IsSharedProgram, crate::specs::SharedRuns::IsToldProgram))]
+#[tactic(auto, using(crate::proofs::Reports::accepted_is), unfolding(crate::specs::SharedRuns::IsSharedProgram, crate::specs::SharedRuns::IsToldProgram))]
 fn report_of_input<R: Threads + Wait + Sync, G: Gate + Sync>(
     rt: &R,
     alloc: Global,
@@ -159,35 +177,36 @@ fn report_of_input<R: Threads + Wait + Sync, G: Gate + Sync>(
     input: &[u8],
     gate: &G,
 ) -> Result<Answer, RunFault>
-    ensures made { IfOk result (λ made. IsSharedProgram G.ends first input.now made.text.items made.verdict) }
-    ensures told { IfOk result (λ made. IsToldProgram G.ends first input.now made.text.items made.verdict (noted made.notes.unmet.items)) }
+    ensures made { IfOk result (λ made. IsSharedProgram false G.ends first input.now made.text.items made.verdict) }
+    ensures told { IfOk result (λ made. IsToldProgram false G.ends first input.now made.text.items made.verdict (noted made.notes.unmet.items)) }
     ensures fault { IfErr result IsOwnFault }
     ensures accepted { result ≡ Err RunFault.Thread → IsOk (setup_of_bytes input.now) }
 {
-    match read_setup(alloc, input) {
-        Ok(setup) => report_in_profile(rt, alloc, &setup, first, gate),
+    match read(alloc, input) {
+        Ok(read) => report_in_profile(rt, alloc, false, &read, first, gate),
         Err(SetupFault::Memory) => Err(RunFault::Memory),
         Err(fault) => refused(alloc, &fault),
     }
 }
 
-/// The same with a gate that is always open.
-#[tactic(auto, unfolding(crate::specs::SharedRuns::IsSharedProgram, crate::specs::SharedRuns::IsToldProgram))]
+/// The same with a gate that is always open, by addresses or by names.
+#[tactic(auto, using(crate::proofs::Reports::accepted_is), unfolding(crate::specs::SharedRuns::IsSharedProgram, crate::specs::SharedRuns::IsToldProgram))]
 fn report_of_input_open<R: Threads + Wait + Sync>(
     rt: &R,
     alloc: Global,
+    by_name: bool,
     first: usize,
     input: &[u8],
 ) -> Result<Answer, RunFault>
-    ensures made { IfOk result (λ made. IsSharedProgram (λ _ _. ⊥) first input.now made.text.items made.verdict) }
-    ensures told { IfOk result (λ made. IsToldProgram (λ _ _. ⊥) first input.now made.text.items made.verdict (noted made.notes.unmet.items)) }
+    ensures made { IfOk result (λ made. IsSharedProgram by_name (λ _ _. ⊥) first input.now made.text.items made.verdict) }
+    ensures told { IfOk result (λ made. IsToldProgram by_name (λ _ _. ⊥) first input.now made.text.items made.verdict (noted made.notes.unmet.items)) }
     ensures fault { IfErr result IsOwnFault }
     ensures accepted { result ≡ Err RunFault.Thread → IsOk (setup_of_bytes input.now) }
 {
-    match read_setup(alloc, input) {
-        Ok(setup) => {
-            let gate = OpenGate::among(setup.clients());
-            report_in_profile(rt, alloc, &setup, first, &gate)
+    match read(alloc, input) {
+        Ok(read) => {
+            let gate = OpenGate::among(read.setup.clients());
+            report_in_profile(rt, alloc, by_name, &read, first, &gate)
         }
         Err(SetupFault::Memory) => Err(RunFault::Memory),
         Err(fault) => refused(alloc, &fault),
@@ -216,8 +235,8 @@ pub fn threads_run<R: Threads + Wait + Sync, S: Source, K: Sink, G: Gate + Sync>
 ) -> Result<Found, RunFault>
     requires source { S.failed source.old ≡ false }
     requires sink { K.failed sink.old ≡ false }
-    ensures run { IsRun (IsSharedProgram G.ends first) S.Source K.Sink source.old source.new sink.old sink.new result }
-    ensures unmet { IfOk result (TellsUnmet G.ends first S.Source K.Sink source.old source.new sink.old sink.new) }
+    ensures run { IsRun (IsSharedProgram false G.ends first) S.Source K.Sink source.old source.new sink.old sink.new result }
+    ensures unmet { IfOk result (TellsUnmet false G.ends first S.Source K.Sink source.old source.new sink.old sink.new) }
     ensures accepted { result ≡ Err RunFault.Thread → (input : List ℕ) × Gave S.left S.given source.old source.new input × IsOk (setup_of_bytes input) }
 {
     let input = read_below(alloc, source, INPUT_LIMIT)?;
@@ -227,25 +246,26 @@ pub fn threads_run<R: Threads + Wait + Sync, S: Source, K: Sink, G: Gate + Sync>
 }
 
 /// The same with a gate that is always open, an `OpenGate`, as the program's subcommand `threads` has it: a history lacks
-/// calls only where it is full.
+/// calls only where it is full. If `by_name` is set, objects and slots that have a name in the state after the calls are told by it.
 ///
 /// # Errors
 /// As `threads_run`.
 pub fn threads_run_open<R: Threads + Wait + Sync, S: Source, K: Sink>(
     rt: &R,
     alloc: Global,
+    by_name: bool,
     first: usize,
     source: &mut S,
     sink: &mut K,
 ) -> Result<Found, RunFault>
     requires source { S.failed source.old ≡ false }
     requires sink { K.failed sink.old ≡ false }
-    ensures run { IsRun (IsSharedProgram (λ _ _. ⊥) first) S.Source K.Sink source.old source.new sink.old sink.new result }
-    ensures unmet { IfOk result (TellsUnmet (λ _ _. ⊥) first S.Source K.Sink source.old source.new sink.old sink.new) }
+    ensures run { IsRun (IsSharedProgram by_name (λ _ _. ⊥) first) S.Source K.Sink source.old source.new sink.old sink.new result }
+    ensures unmet { IfOk result (TellsUnmet by_name (λ _ _. ⊥) first S.Source K.Sink source.old source.new sink.old sink.new) }
     ensures accepted { result ≡ Err RunFault.Thread → (input : List ℕ) × Gave S.left S.given source.old source.new input × IsOk (setup_of_bytes input) }
 {
     let input = read_below(alloc, source, INPUT_LIMIT)?;
-    let answer = report_of_input_open(rt, alloc, first, input.as_slice())?;
+    let answer = report_of_input_open(rt, alloc, by_name, first, input.as_slice())?;
     write_all(sink, answer.text.as_slice())?;
     Ok(answer.found())
 }

@@ -1,11 +1,15 @@
-use Rattle.std.proofs.Common.{rules, ◌≡◌, ◌-◌, drop, length, ap, ap₂, subst, sym, ◌∙◌}
+use Rattle.std.proofs.Common.{rules, ◌≡◌, ℕ, List, ◌-◌, drop, length, ap, ap₂, subst, sym, ◌∙◌}
 use Rattle.std.proofs.lemmas.List.{length-map}
 use Rattle.kernel_abstract.specs.Reached.{IsReached}
 use Rattle.kernel_abstract.specs.State.{State, shown}
 use Rattle.kernel_abstract.specs.Boot.{boot}
 use Rattle.kernel_abstract.proofs.Reached.Runs.{reached_after}
 use Rattle.setup_format.specs.Views.{CallView}
-use Rattle.setup_threads.specs.SharedReport.{shared_report_of}
+use Rattle.kernel_abstract.specs.Shown.{Shown}
+use Rattle.kernel_shared.specs.declared.entry.Entry.{Entry}
+use Rattle.setup_values.specs.Names.{names_view}
+use Rattle.setup_report.specs.Naming.{naming_view, report_texts}
+use Rattle.setup_threads.specs.SharedReport.{shared_report_told}
 use Rattle.command_check.specs.Notes.{noted}
 use Rattle.command_check.specs.Program.{verdict_on}
 use Rattle.setup_report.proofs.Runs.{boot_reached}
@@ -19,7 +23,9 @@ pub returns-clause-told : goal.returns-clause-told
 returns-clause-told g c =
     let p = g.P.Profile.profile in
     let ends = g.G.Gate.ends in
-    let setup = c.args.setup.now in
+    let setup = c.args.read.now.setup in
+    let by_name = c.args.by_name in
+    let names = names_view c.args.read.now.names.items in
     let first = c.args.first in
     let replies = c.args.begun.replies in
     let b = c.in_ok-book.book in
@@ -37,9 +43,13 @@ returns-clause-told g c =
     (subst (λ n. IsSharedFrom ends p start (drop c.len.result setup.calls) n later) c.requires.limit
     (subst (λ (A : State). IsSharedFrom ends p A (drop c.len.result setup.calls) g.N.Naming.limit later) c.requires.start c.in_ok-book.ensures.run)) in
     let reached : IsReached p start = reached_after p (boot p setup.plan) (calls_in (first_calls first setup)) (boot_reached p setup.plan c.requires.plan) in
-    let told = ap (λ l. shared_report_of p (length setup.calls) l b.kernel) c.as_slice-2.ensures.value in
-    let shows = book_shows p start g.N.Naming.opening b.kernel later h (length setup.calls) reached c.requires.opening b.stands in
-    let state = ap (λ (A : State). shared_report_of p (length setup.calls) h (shown A)) (state_is first setup replies.items later h whole p) in
+    let text : Shown → List ℕ = λ v. shared_report_told (report_texts by_name p names setup.plan v) p (length setup.calls) h v in
+    let texts : naming_view c.in-Ok-in_report.naming ≡ report_texts by_name p names setup.plan b.kernel =
+    c.in-Ok-in_report.ensures ∙ (λ i. report_texts by_name p (names_view (c.as_slice-names.ensures.value i)) (c.plan.ensures.plan i) b.kernel) in
+    let told : shared_report_told (naming_view c.in-Ok-in_report.naming) p (length setup.calls) c.as_slice-2.result.now b.kernel ≡ text b.kernel =
+    λ i. shared_report_told (texts i) p (length setup.calls) (c.as_slice-2.ensures.value i) b.kernel in
+    let shows = book_shows p start g.N.Naming.opening b.kernel later text reached c.requires.opening b.stands in
+    let state = ap (λ (A : State). text (shown A)) (state_is first setup replies.items later h whole p) in
     let l = c.len-2.ensures in (
       h,
       shared_run_is first setup replies.items later h whole ends p c.requires.begun.answered from,
