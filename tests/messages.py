@@ -31,6 +31,13 @@ NO_VALUE_THERE = "unexpected key or value, expected newline, `#`"
 NO_KEY = "invalid key, expected letters, numbers, `-`, `_` or a quoted key"
 TOO_LARGE = "TOML's integers end at 2^63 - 1; a greater word is written as \"0xFFFFFFFFFFFFFFFF\", in quotes"
 QUOTES = 'a text stands in plain quotes, as "send"'
+
+
+def toml(*words):
+    """What is said of a text that is no TOML document."""
+    return "TOML parse error: " + "; ".join(words)
+
+
 ON_TOP = "is a key of the top table: put it above the first [..]"
 FORMAT_1 = "1, since only a set-up of format 1 is migrated"
 # the most characters of a line that are shown, and how many of a longer one before the place
@@ -217,32 +224,32 @@ SETUPS = [
     (FIRST + untyped(16388, 5), 2,
      ["untyped 1: its base 16388 is no multiple of its size 32"]),
     ("format = 1\nthreads =\n", 2,
-     ["TOML parse error at line 2, column 10", None]),
+     [None]),
     (FIRST + CALL.replace("cap = 4", "cap = 18446744073709551615") + 'op = "recv"\n', 2,
-     ["TOML parse error at line 8, column 7", "number out of range", TOO_LARGE]),
+     [toml("number out of range", TOO_LARGE)]),
     (FIRST + CALL.replace("cap = 4", "cap = 0xFFFFFFFFFFFFFFFF") + 'op = "recv"\n', 2,
-     ["TOML parse error at line 8, column 7", NO_VALUE, TOO_LARGE]),
-    (FIRST + CALL + "op = send\n", 2, ["TOML parse error at line 9, column 6", NO_VALUE, QUOTES]),
-    (FIRST + CALL + "op = \u201csend\u201d\n", 2, ["TOML parse error at line 9, column 6", NO_VALUE, QUOTES]),
-    ("// a comment\n" + FIRST, 2, ["TOML parse error at line 1, column 1", NO_KEY, "a comment begins with #"]),
-    ("format = 1 // one\n" + SIZES, 2, ["TOML parse error at line 1, column 12", NO_VALUE_THERE, "a comment begins with #"]),
-    ("format = 1;\n" + SIZES, 2, ["TOML parse error at line 1, column 11", NO_VALUE_THERE, "a value has no ; behind it"]),
-    ("format = 1 + 1\n" + SIZES, 2, ["TOML parse error at line 1, column 12", NO_VALUE_THERE, "a value is one number, and no sum or product"]),
+     [toml(NO_VALUE, TOO_LARGE)]),
+    (FIRST + CALL + "op = send\n", 2, [toml(NO_VALUE, QUOTES)]),
+    (FIRST + CALL + "op = \u201csend\u201d\n", 2, [toml(NO_VALUE, QUOTES)]),
+    ("// a comment\n" + FIRST, 2, [toml(NO_KEY, "a comment begins with #")]),
+    ("format = 1 // one\n" + SIZES, 2, [toml(NO_VALUE_THERE, "a comment begins with #")]),
+    ("format = 1;\n" + SIZES, 2, [toml(NO_VALUE_THERE, "a value has no ; behind it")]),
+    ("format = 1 + 1\n" + SIZES, 2, [toml(NO_VALUE_THERE, "a value is one number, and no sum or product")]),
     ("format: 1\n" + SIZES, 2,
-     ["TOML parse error at line 1, column 7", "key with no value, expected `=`", "a key has = behind it, as threads = 2"]),
-    (FIRST + CALL + 'op = "send\n', 2, ["TOML parse error at line 9, column 11", "invalid string", "the quotation mark at the end is missing"]),
+     [toml("key with no value, expected `=`", "a key has = behind it, as threads = 2")]),
+    (FIRST + CALL + 'op = "send\n', 2, [toml("invalid string", "the quotation mark at the end is missing")]),
     (FIRST + CALL + 'op = "send"\nwords = [1 2]\n', 2,
-     ["TOML parse error at line 10, column 10", NO_VALUE, "a comma stands between two elements, as [1, 2]"]),
+     [toml(NO_VALUE, "a comma stands between two elements, as [1, 2]")]),
     (FIRST + CALL + 'op = "send"\nlabel = 07\n', 2,
-     ["TOML parse error at line 10, column 9", NO_VALUE, "a decimal number begins with no 0, as 7"]),
+     [toml(NO_VALUE, "a decimal number begins with no 0, as 7")]),
     ("format = 2\n" + SIZES + "[names]\nep = 4\nep = 5\n", 2,
-     ["TOML parse error at line 8, column 1", "duplicate key", "ep stands in line 7 already"]),
-    ("format = 2\n" + SIZES + "[names]\n" + 2 * ("k" * 100 + " = 4\n"), 2, ["TOML parse error at line 8, column 1", "duplicate key"]),
+     [toml("duplicate key", "ep stands in line 7 already")]),
+    ("format = 2\n" + SIZES + "[names]\n" + 2 * ("k" * 100 + " = 4\n"), 2, [toml("duplicate key")]),
     ('{"format": 2}\n', 2,
-     ["TOML parse error at line 1, column 1", NO_KEY, "this looks like JSON; a set-up is TOML, with lines as threads = 2"]),
-    (FIRST + "# caf\udce9\n", 2, ["TOML parse error at line 6, column 6", "invalid UTF-8", "save the text as UTF-8"]),
+     [toml(NO_KEY, "this looks like JSON; a set-up is TOML, with lines as threads = 2")]),
+    (FIRST + "# caf\udce9\n", 2, [toml("invalid UTF-8", "save the text as UTF-8")]),
     (FIRST.encode("utf-16").decode("utf-8", "surrogateescape"), 2,
-     ["TOML parse error at line 1, column 1", "invalid UTF-8", "this looks like UTF-16; save the text as UTF-8"]),
+     [toml("invalid UTF-8", "this looks like UTF-16; save the text as UTF-8")]),
 ]
 
 COMMANDS = ["check", "marks", "trace", "threads", "migrate", "why", "audit", "explore", "tree", "new", "import"]
@@ -294,7 +301,7 @@ STREAMS = [
     (["trace"], FIRST, "/dev/full", 3, ["writing failed", "standard output: No space left on device (os error 28)"]),
     (["trace"], FIRST + CALL + 'op = "nbsend"\nexpect = "delivered to 2048"\n', "/dev/null", 1,
      ['error: call 1: dropped, and not delivered to 2048; no reply to nbsend begins with "delivered to 2048"' + DELIVERY]),
-    (["trace"], "format = 1\nthreads =\n", "/dev/null", 2, ["TOML parse error at line 2, column 10", None]),
+    (["trace"], "format = 1\nthreads =\n", "/dev/null", 2, [None]),
     (["migrate"], FIRST, "/dev/null", 0, []),
     (["migrate"], SECOND, "/dev/null", 2, [f"top, key format: the value is 2; it has to be {FORMAT_1}"]),
     (["migrate"], FIRST.replace("1", "3", 1), "/dev/null", 2, [f"top, key format: the value is 3; it has to be {FORMAT_1}"]),
@@ -303,9 +310,9 @@ STREAMS = [
     (["migrate"], SECOND + '[[call]]\nthread = 2048\nop = "recv"\n', "/dev/null", 2,
      [f"top, key format: the value is 2; it has to be {FORMAT_1}"]),
     (["migrate"], FIRST + "zzz = 1\n", "/dev/null", 2, [f'top: there is no key "zzz"; the keys are {KEYS}']),
-    (["migrate"], "format = 1\nthreads =\n", "/dev/null", 2, ["TOML parse error at line 2, column 10", None]),
+    (["migrate"], "format = 1\nthreads =\n", "/dev/null", 2, [None]),
     (["why", "--call", "5"], FIRST, "/dev/null", 4, ["command line refused", "--call 5: the set-up has 0 calls"]),
-    (["why", "--call", "5"], "format = 1\nthreads =\n", "/dev/null", 2, ["TOML parse error at line 2, column 10", None]),
+    (["why", "--call", "5"], "format = 1\nthreads =\n", "/dev/null", 2, [None]),
     (["audit", "--after", "5"], FIRST, "/dev/null", 4, ["command line refused", "--after 5: the set-up has 0 calls"]),
     (["tree", "--after", "5"], FIRST, "/dev/null", 4, ["command line refused", "--after 5: the set-up has 0 calls"]),
     (["tree", "--after", "0"], FIRST, "/dev/null", 0, []),
@@ -321,7 +328,7 @@ STREAMS = [
     (["new", "--untyped", "0:12"], "", "/dev/null", 4,
      ["command line refused", "no set-up has these objects and regions: a region is not aligned, or overlaps what stands before it, "
       "or no memory has room for all"]),
-    (["tree"], "format = 1\nthreads =\n", "/dev/null", 2, ["TOML parse error at line 2, column 10", None]),
+    (["tree"], "format = 1\nthreads =\n", "/dev/null", 2, [None]),
     (["audit", "--slot", "33", "--after", "0"], FIRST, "/dev/null", 4,
      ["command line refused", "--slot 33: no full slot is there after 0 calls"]),
     (["audit", "--slot", "ep"], FIRST, "/dev/null", 4,
@@ -350,7 +357,7 @@ STREAMS = [
     (["audit", "--never", "2048,4096", "--after", "5"], FIRST, "/dev/null", 4,
      ["command line refused", "--after 5: the set-up has 0 calls"]),
     (["audit", "--never", "2048,4096"], FIRST, "/dev/null", 1, []),
-    (["audit", "--never", "2048,4096"], "format = 1\nthreads =\n", "/dev/null", 2, ["TOML parse error at line 2, column 10", None]),
+    (["audit", "--never", "2048,4096"], "format = 1\nthreads =\n", "/dev/null", 2, [None]),
     (["audit", "--how", "2048,4096", "--never", "2048,4096"], FIRST, "/dev/null", 4,
      ["command line refused", "--how goes with none of --ever, --never and --slot"]),
     (["audit", "--how", "2048,4096", "--policy", "/dev/null"], FIRST, "/dev/null", 4,
@@ -380,11 +387,11 @@ STREAMS = [
     (["audit", "--names", "--after", "1"], FIRST, "/dev/null", 4,
      ["command line refused", "--after 1: the set-up has 0 calls"]),
     (["audit", "--slot", "32", "--without", "2048"], FIRST, "/dev/null", 4,
-     ["command line refused", "--slot goes neither with --without nor with --names"]),
-    (["audit", "--slot", "32", "--names"], FIRST, "/dev/null", 4,
-     ["command line refused", "--slot goes neither with --without nor with --names"]),
+     ["command line refused", "--slot and --without do not go together"]),
     (["audit", "--how", "2048,4096", "--names"], FIRST, "/dev/null", 4,
-     ["command line refused", "--names and --how do not go together"]),
+     ["command line refused", "--names goes neither with --how nor with --witness"]),
+    (["explore", "--names", "--witness", "stuck.1"], FIRST, "/dev/null", 4,
+     ["command line refused", "--names goes neither with --how nor with --witness"]),
     (["audit", "--policy", "p.toml", "--names"], FIRST, "/dev/null", 4,
      ["command line refused", "--policy goes with --after, --how and --states alone"]),
     (["audit", "--messages", "2048"], FIRST, "/dev/null", 4,
@@ -413,7 +420,7 @@ STREAMS = [
      ["command line refused", "--witness 1.1: explore tells no such order"]),
     (["explore", "--witness", "two"], FIRST, "/dev/null", 4,
      ["command line refused", "--witness two: explore tells no such order"]),
-    (["explore"], "format = 1\nthreads =\n", "/dev/null", 2, ["TOML parse error at line 2, column 10", None]),
+    (["explore"], "format = 1\nthreads =\n", "/dev/null", 2, [None]),
     (["explore"], FIRST, "/dev/full", 3, ["writing failed", "standard output: No space left on device (os error 28)"]),
     (["check"], FIRST.replace("1", "3", 1), "/dev/null", 2,
      ["top, key format: the value is 3; it has to be a number from 1 to 2"]),
@@ -469,9 +476,9 @@ def without_place(line):
 
 
 def fits(lines, wanted):
-    """Whether these are the lines that are wanted, but for those that show a part of the text."""
+    """Whether these are the lines that are wanted, but for those that show a part of the text, and for `error:` where one has a place."""
     lines = [without_place(line) for line in lines if not line.startswith(" ")]
-    return len(lines) == len(wanted) and None not in lines and all(w in (None, line) for line, w in zip(lines, wanted))
+    return len(lines) == len(wanted) and None not in lines and all(w is None or line in (w, f"error: {w}") for line, w in zip(lines, wanted))
 
 
 def places_shown(text, lines):
@@ -480,7 +487,7 @@ def places_shown(text, lines):
     text = re.split("[\udc80-\udcff]", text)[0]    # what is UTF-8 of it
     blocks = [line for line in lines if line.startswith(" ") or PLACED.fullmatch(line)]
     for head, bar, shown, marks in zip(*[iter(blocks)] * 4):
-        told = re.fullmatch(r" +--> standard input:(\d+):(\d+)", head) or PLACED.fullmatch(head)
+        told = PLACED.fullmatch(head)
         mark = re.fullmatch(r"( +\| )( *)(\^+)", marks)
         if not told or not mark or bar != mark[1].rstrip():
             return None

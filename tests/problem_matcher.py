@@ -27,7 +27,7 @@ CASES = (
     ("unexpected.toml", LAYOUT.replace('4, expect = "dropped"', "9"), [(7, 3, "warning", "call 1: refused")]),
     ("unknown_key.toml", LAYOUT.replace("threads", "thread"), [(4, 1, "error", 'top: there is no key "thread"')]),
     ("value.toml", LAYOUT.replace('"nbrecv"', '"nbrcv"'), [(8, 20, "error", "call 2, key op")]),
-    ("no_toml.toml", "format = \n", [(1, 10, "error", "invalid value")]),
+    ("no_toml.toml", "format = \n", [(1, 10, "error", "TOML parse error: invalid value")]),
 )
 
 

@@ -79,28 +79,48 @@ fn explain_writing(rt: &impl Eprint, failure: Option<&io::Error>) {
     }
 }
 
-/// Says something that helps to understand an answer, each line of a text in a line of its own. Lines that show a part of
-/// the set-up's text begin with a space, and stand as they are.
-fn note(rt: &impl Eprint, text: &str) {
-    for line in text.lines() {
-        if line.starts_with(' ') {
-            let _ = eprintln!(rt; "{line}");
-        } else {
-            complain(rt, line);
-        }
+/// The place that a line names, where it is the first of the lines that show a part of a text.
+fn place_in(line: &str) -> Option<&str> {
+    if line.starts_with(' ') {
+        line.trim_start().strip_prefix("--> ")
+    } else {
+        None
     }
 }
 
-/// Says the same of one of several files, whose name stands before each line that shows no part of its text.
-fn note_in(rt: &impl Eprint, name: &str, text: &str) {
-    for line in text.lines() {
-        if line.starts_with(' ') {
-            let _ = eprintln!(rt; "{line}");
-        } else {
-            complain(rt, format_args!("{name}: {line}"));
-        }
+/// Says a message that has no place, where there is one; of one of several files behind its name.
+fn note_without_place(rt: &impl Eprint, name: Option<&str>, words: Option<&str>) {
+    match (name, words) {
+        (Some(name), Some(words)) => complain(rt, format_args!("{name}: {words}")),
+        (None, Some(words)) => complain(rt, words),
+        (_, None) => {}
     }
 }
+
+/// Says the messages of a text: a line of words each, and behind it, where it has a place, lines that begin with a space and show
+/// it, of which the first is the place. That stands before the words, as compilers have it, with what kind of message it is. Of one of
+/// several files its name stands before a message that has no place.
+fn note(rt: &impl Eprint, kind: &str, name: Option<&str>, text: &str) {
+    let mut words = None;
+    for line in text.lines() {
+        if let Some(place) = place_in(line) {
+            let said = words.unwrap_or("");
+            let _ = eprintln!(rt; "{place}: {kind}: {said}");
+            words = None;
+        } else if line.starts_with(' ') {
+            let _ = eprintln!(rt; "{line}");
+        } else {
+            note_without_place(rt, name, words);
+            words = Some(line);
+        }
+    }
+    note_without_place(rt, name, words);
+}
+
+/// What kind of message is said of an input that is refused, and of one that is not.
+const ERROR: &str = "error";
+
+const WARNING: &str = "warning";
 
 /// The words that clap's texts have for an option that is none, and that help nobody: it takes no such word as a value.
 const USELESS_TIP: &str = "  tip: to pass '";
@@ -192,11 +212,11 @@ fn formats_of(job: Job) -> Formats {
 /// Says what the options name and the set-up does not have.
 fn note_on_absence<R: Eprint + AllocGlobal>(rt: &R, line: &Line<'_>, found: &Found, bytes: &[u8]) {
     if let Some(text) = &found.notes.absent {
-        note(rt, text.as_str());
+        note(rt, ERROR, None, text.as_str());
         return;
     }
     if let Ok(Some(text)) = absence(rt.alloc(), line, bytes) {
-        note(rt, text.as_str());
+        note(rt, ERROR, None, text.as_str());
     }
 }
 
@@ -213,22 +233,24 @@ fn note_on_layout<R: Eprint + AllocGlobal>(
 ) {
     let (Options { shrink, flows, .. }, name) = (line.options, name_of(line.file));
     if let Ok(words) = layout_words(rt.alloc(), bytes, Reading { shrink, flows }, name) {
-        note(rt, words.as_str());
+        let is_refused = matches!(verdict, Verdict::Refused);
+        let kind = if is_refused { ERROR } else { WARNING };
+        note(rt, kind, None, words.as_str());
     }
     if matches!(verdict, Verdict::Absent) {
-        note(rt, NOT_LAID_OUT);
+        complain(rt, NOT_LAID_OUT);
     }
 }
 
 /// Says why a set-up is refused, also one that was made, or what the options name and it does not have.
 fn note_on_verdict<R: Eprint + AllocGlobal>(rt: &R, line: &Line<'_>, found: &Found, bytes: &[u8]) {
     match (line.job, found.verdict) {
-        (Job::New, Verdict::Refused) => note(rt, REFUSED_TEXT),
+        (Job::New, Verdict::Refused) => complain(rt, REFUSED_TEXT),
         (Job::Import, verdict) => note_on_layout(rt, line, verdict, bytes),
         (_, Verdict::Refused) => {
             let (formats, name) = (formats_of(line.job), name_of(line.file));
             if let Ok(words) = refusal_words(rt.alloc(), bytes, formats, name) {
-                note(rt, words.as_str());
+                note(rt, ERROR, None, words.as_str());
             }
         }
         (_, Verdict::Absent) => note_on_absence(rt, line, found, bytes),
@@ -297,7 +319,7 @@ fn note_on_file<R: Eprint + AllocGlobal>(rt: &R, name: &str, verdict: Verdict, b
     if let Verdict::Refused = verdict
         && let Ok(words) = refusal_words(rt.alloc(), bytes, Formats::All, name)
     {
-        note_in(rt, name, words.as_str());
+        note(rt, ERROR, Some(name), words.as_str());
     }
 }
 

@@ -3,30 +3,33 @@ use crate::message::MAX_SHOWN;
 use setup_positions::NamedText;
 use std::alloc::{AllocError, Global};
 
-const SAVE_AS_UTF8: &str = "save the text as UTF-8\n";
+/// How a message begins that is on a text which is no TOML document.
+const NO_TOML: &str = "TOML parse error";
 
-const IS_UTF16: &str = "this looks like UTF-16; save the text as UTF-8\n";
+const SAVE_AS_UTF8: &str = "save the text as UTF-8";
 
-const IS_JSON: &str = "this looks like JSON; a set-up is TOML, with lines as threads = 2\n";
+const IS_UTF16: &str = "this looks like UTF-16; save the text as UTF-8";
 
-const LACKS_QUOTES: &str = "a text stands in plain quotes, as \"send\"\n";
+const IS_JSON: &str = "this looks like JSON; a set-up is TOML, with lines as threads = 2";
+
+const LACKS_QUOTES: &str = "a text stands in plain quotes, as \"send\"";
 
 const TOO_LARGE: &str =
-    "TOML's integers end at 2^63 - 1; a greater word is written as \"0xFFFFFFFFFFFFFFFF\", in quotes\n";
+    "TOML's integers end at 2^63 - 1; a greater word is written as \"0xFFFFFFFFFFFFFFFF\", in quotes";
 
-const NO_COMMENT: &str = "a comment begins with #\n";
+const NO_COMMENT: &str = "a comment begins with #";
 
-const LACKS_COMMA: &str = "a comma stands between two elements, as [1, 2]\n";
+const LACKS_COMMA: &str = "a comma stands between two elements, as [1, 2]";
 
-const BEGINS_WITH_0: &str = "a decimal number begins with no 0, as 7\n";
+const BEGINS_WITH_0: &str = "a decimal number begins with no 0, as 7";
 
-const NO_COLON: &str = "a key has = behind it, as threads = 2\n";
+const NO_COLON: &str = "a key has = behind it, as threads = 2";
 
-const LACKS_QUOTE: &str = "the quotation mark at the end is missing\n";
+const LACKS_QUOTE: &str = "the quotation mark at the end is missing";
 
-const NO_SEMICOLON: &str = "a value has no ; behind it\n";
+const NO_SEMICOLON: &str = "a value has no ; behind it";
 
-const NO_SUM: &str = "a value is one number, and no sum or product\n";
+const NO_SUM: &str = "a value is one number, and no sum or product";
 
 /// What helps where a value is none that TOML knows, by what stands there.
 fn hint_on_value(there: &str) -> &'static str {
@@ -50,7 +53,7 @@ fn hint_behind(there: &str) -> &'static str {
     }
 }
 
-/// What helps to mend a text, by the words of the fault, its bytes and what stands at the fault; a line, or nothing.
+/// What helps to mend a text, by the words of the fault, its bytes and what stands at the fault, or nothing.
 fn hint(fault: &str, bytes: &[u8], there: &str) -> &'static str {
     match bytes.trim_ascii_start() {
         [0xFF, 0xFE, ..] | [0xFE, 0xFF, ..] => IS_UTF16,
@@ -97,11 +100,14 @@ pub fn text_words(alloc: Global, bytes: &[u8], name: &str) -> Result<String, All
     let excerpt = NamedText { name, text }.excerpt(span);
     match (error.message(), line_of(above, key)) {
         ("duplicate key", Some(line)) if key.len() <= MAX_SHOWN => {
-            format!(in alloc; "{error}{key} stands in line {line} already\n{excerpt}")
+            format!(in alloc;
+                "{NO_TOML}: duplicate key; {key} stands in line {line} already\n{excerpt}"
+            )
         }
         (fault, _) => {
             let hint = hint(fault, bytes, there);
-            format!(in alloc; "{error}{hint}{excerpt}")
+            let then = if hint.is_empty() { "" } else { "; " };
+            format!(in alloc; "{NO_TOML}: {fault}{then}{hint}\n{excerpt}")
         }
     }
 }

@@ -28,7 +28,7 @@ function reasonOf({ from, fromPart, to, toPart, endpoints }) {
 function wordsOf(told) {
   const { from, fromPart, to, toPart, answer } = told;
   if (answer === "possible") return `Not excluded: ${reasonOf(told)}. Whether some calls do it, this does not say.`;
-  if (answer === "possible decided") return `It happens: ${reasonOf(told)}, and sends of ${from} and receives of ${to} alone show it.`;
+  if (answer === "possible decided") return `It can happen: ${reasonOf(told)}, and sends of ${from} and receives of ${to} alone show it.`;
   return answer === "excluded by flow"
     ? `Whatever calls are made by threads that are not trusted: no message of ${from} is ever delivered to ${to}, but by an endpoint that --by `
       + `names, and no word of ${from} ever leads to the control block of ${to}. Of their parts this does not hold.`

@@ -107,7 +107,10 @@ export function callAt(text, line) {
 }
 
 const FAULT = /^set-up refused \d+ at (?:(text)|top key (\S+)|(call|untyped) (\d+) (?:key )?(\S+)|layout (\S+))$/m;
-const LINE = /at line (\d+), column (\d+)/;
+/** A message of standard error that has a place: the name, the line and the column stand before it. */
+const PLACED = "(?! ).*?:(\\d+):\\d+: (?:error|warning): (.*)";
+const LINE = new RegExp(`^${PLACED}$`, "mu");
+const MESSAGE = new RegExp(`^(?:sel4sim: (.*)|${PLACED})$`, "gmu");
 /** The key or the name that standard error tells of. */
 const TOLD = /value of (\S+) is|key "([^"]+)"/;
 /** The key that gives room to what does not fit. */
@@ -115,7 +118,7 @@ const ROOM = { slots: "root_radix", outside: "memory_bits" };
 
 /** What standard error says, line by line, each with the line of the set-up that it shows: from 0 on, and -1 for none. */
 export function wordsTold(errors) {
-  return [...errors.matchAll(/^sel4sim: (.*)(?:\n +--> .*:(\d+):\d+$)?/gmu)].map(([, words, line]) => ({ words, line: Number(line ?? 0) - 1 }));
+  return [...errors.matchAll(MESSAGE)].map(([, plain, line, placed]) => ({ words: plain ?? placed, line: Number(line ?? 0) - 1 }));
 }
 
 /** The line at which a refused set-up has its first fault, by what the program wrote, or -1 where nothing was refused. */

@@ -280,7 +280,7 @@ def marks(test, setups):
         count, line = test.browser.value(MARKS)
         calls = len(re.findall(r"(?m)^\d+ \d+ \w+: ", report))
         fault = re.match(r"set-up refused \d+ at (?:.* key (\S+)|.*)", report)
-        wanted = max(1, len(set(re.findall(r"(?m)^ +--> .*:(\d+):\d+$", errors)))) if fault else calls
+        wanted = max(1, len(set(re.findall(r"(?m)^(?! ).*:(\d+):\d+: error: ", errors)))) if fault else calls
         test.wanted(count == wanted, f"{topic}/{name}: {count} marks, and not {wanted}")
         test.wanted((line is not None) == bool(fault), f"{topic}/{name}: the line {line!r} is marked")
         if fault and fault[1] and re.search(rf"(?m)^\s*{re.escape(fault[1])}\s*=", path.read_text()):

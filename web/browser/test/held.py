@@ -154,7 +154,7 @@ def faulty(test, _):
     browser = test.browser
     for layout in sorted(LAYOUTS.glob("wrong/*.cdl"))[:4]:
         ran = subprocess.run([test.program, "import", layout.name], cwd=layout.parent, stdin=subprocess.DEVNULL, capture_output=True, text=True, timeout=SECONDS)
-        lines = {int(line.rsplit(":", 2)[1]) for line in ran.stderr.splitlines() if line.lstrip().startswith("--> ")}
+        lines = set(map(int, re.findall(r"(?m)^(?! ).*:(\d+):\d+: error: ", ran.stderr)))
         test.choose(layout, "open")
         test.until(f"document.getElementById('name').value === {json.dumps(layout.name)}", f"{layout.name} is not opened")
         test.settle()
