@@ -72,6 +72,7 @@ rows-python:
 	python3 tests/why.py $(program) $(setups)
 	python3 tests/audits.py $(program) $(answers)/audits $(answers)/parts $(answers)/trees
 	python3 tests/names.py $(program) $(answers)/audits $(answers)/parts $(answers)/trees
+	python3 tests/report_names.py $(program) $(setups)/examples $(setups)/capabilities $(setups)/why_lookups $(answers)/explorations $(answers)/trees
 	python3 tests/parts.py $(program) $(answers)/parts 5
 	python3 tests/policies.py $(program) $(answers)/policies $(answers)/policy_faults
 	python3 tests/random_policies.py $(program) 1 60 $(answers)/parts

@@ -72,6 +72,17 @@ LINES = [
     ("audit --never 2048,4096 --names", 1, "never 2048 part 2048+4096 -> 4096 part 2048+4096 possible\n"),
     ("audit --how 2048,4096 --names", 4, REFUSED),
     ("tree --names", 0, "tree 1 wide memory_bits 16 calls 2 after 2\n32 cnode 0 radix 4 "),
+    # names, where the set-up has none
+    ("check --names", 0, "1 2048 send: waiting"),
+    ("check --strict --names", 0, "expected 1 of 1\n"),
+    ("check --names text.toml", 2, "set-up refused 200 at text\n"),
+    ("check --names - text.toml", 2, "-: expected 1 of 1\ntext.toml: set-up refused 200 at text\n"),
+    ("trace --names", 0, "  + endpoint 6144 sending 2048\n"),
+    ("why --names", 0, "refused 0 of 2\nexpected 1 of 1\n"),
+    ("threads --names", 0, "entries 2 of 2\n"),
+    ("explore --names", 0, "explore 1 wide clients 1 calls 2\n"),
+    ("explore --names --witness 2.1", 4, REFUSED),
+    ("audit --slot 32 --names", 0, "audit 1 wide memory_bits 16 calls 2 after 2 slot 32\n"),
     ("audit --without 2048", 0, "audit 1 wide memory_bits 16 calls 2 after 2\nwithout 2048\n"),
     ("audit --without ''", 4, REFUSED),
     # drafts of policies

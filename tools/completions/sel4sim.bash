@@ -32,7 +32,7 @@ _sel4sim() {
             [[ $word == -* ]] || mapfile -t -O "${#COMPREPLY[@]}" COMPREPLY < <(compgen -f -- "$word")
             ;;
         check)
-            COMPREPLY=($(compgen -W '--strict -h --help' -- "$word"))
+            COMPREPLY=($(compgen -W '--strict --names -h --help' -- "$word"))
             [[ $word == -* ]] || mapfile -t -O "${#COMPREPLY[@]}" COMPREPLY < <(compgen -f -- "$word")
             ;;
         marks)
@@ -40,7 +40,7 @@ _sel4sim() {
             [[ $word == -* ]] || mapfile -t -O "${#COMPREPLY[@]}" COMPREPLY < <(compgen -f -- "$word")
             ;;
         trace)
-            COMPREPLY=($(compgen -W '-h --help' -- "$word"))
+            COMPREPLY=($(compgen -W '--names -h --help' -- "$word"))
             [[ $word == -* ]] || mapfile -t -O "${#COMPREPLY[@]}" COMPREPLY < <(compgen -f -- "$word")
             ;;
         migrate)
@@ -48,11 +48,11 @@ _sel4sim() {
             [[ $word == -* ]] || mapfile -t -O "${#COMPREPLY[@]}" COMPREPLY < <(compgen -f -- "$word")
             ;;
         threads)
-            COMPREPLY=($(compgen -W '--first -h --help' -- "$word"))
+            COMPREPLY=($(compgen -W '--first --names -h --help' -- "$word"))
             [[ $word == -* ]] || mapfile -t -O "${#COMPREPLY[@]}" COMPREPLY < <(compgen -f -- "$word")
             ;;
         why)
-            COMPREPLY=($(compgen -W '--call -h --help' -- "$word"))
+            COMPREPLY=($(compgen -W '--call --names -h --help' -- "$word"))
             [[ $word == -* ]] || mapfile -t -O "${#COMPREPLY[@]}" COMPREPLY < <(compgen -f -- "$word")
             ;;
         audit)
@@ -60,7 +60,7 @@ _sel4sim() {
             [[ $word == -* ]] || mapfile -t -O "${#COMPREPLY[@]}" COMPREPLY < <(compgen -f -- "$word")
             ;;
         explore)
-            COMPREPLY=($(compgen -W '--first --states --witness -h --help' -- "$word"))
+            COMPREPLY=($(compgen -W '--first --states --witness --names -h --help' -- "$word"))
             [[ $word == -* ]] || mapfile -t -O "${#COMPREPLY[@]}" COMPREPLY < <(compgen -f -- "$word")
             ;;
         tree)

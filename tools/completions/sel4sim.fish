@@ -5,6 +5,7 @@ complete -c sel4sim -n '__fish_use_subcommand' -s h -l help -d 'Print help'
 complete -c sel4sim -n '__fish_use_subcommand' -F
 complete -c sel4sim -n '__fish_use_subcommand' -a check -d 'Runs a set-up and prints its report'
 complete -c sel4sim -n '__fish_seen_subcommand_from check' -l strict -d 'End with status 1 also where a call is refused and has no expectation'
+complete -c sel4sim -n '__fish_seen_subcommand_from check' -l names -d 'Tell objects by their names, in place of their addresses'
 complete -c sel4sim -n '__fish_seen_subcommand_from check' -s h -l help -d 'Print help'
 complete -c sel4sim -n '__fish_seen_subcommand_from check' -F
 complete -c sel4sim -n '__fish_use_subcommand' -a marks -d 'Runs a set-up and prints which of its expectations are met, and no reply'
@@ -12,6 +13,7 @@ complete -c sel4sim -n '__fish_seen_subcommand_from marks' -l of -x -a '' -d 'Ma
 complete -c sel4sim -n '__fish_seen_subcommand_from marks' -s h -l help -d 'Print help'
 complete -c sel4sim -n '__fish_seen_subcommand_from marks' -F
 complete -c sel4sim -n '__fish_use_subcommand' -a trace -d 'Runs a set-up and prints what each of its calls changed'
+complete -c sel4sim -n '__fish_seen_subcommand_from trace' -l names -d 'Tell objects by their names, in place of their addresses'
 complete -c sel4sim -n '__fish_seen_subcommand_from trace' -s h -l help -d 'Print help'
 complete -c sel4sim -n '__fish_seen_subcommand_from trace' -F
 complete -c sel4sim -n '__fish_use_subcommand' -a migrate -d 'Prints a set-up of format 1 as one of format 2'
@@ -19,10 +21,12 @@ complete -c sel4sim -n '__fish_seen_subcommand_from migrate' -s h -l help -d 'Pr
 complete -c sel4sim -n '__fish_seen_subcommand_from migrate' -F
 complete -c sel4sim -n '__fish_use_subcommand' -a threads -d 'Runs each client of a set-up in a thread of its own and prints what was done, in order'
 complete -c sel4sim -n '__fish_seen_subcommand_from threads' -l first -x -a '' -d 'Make the first N calls before the clients begin'
+complete -c sel4sim -n '__fish_seen_subcommand_from threads' -l names -d 'Tell objects by their names, in place of their addresses'
 complete -c sel4sim -n '__fish_seen_subcommand_from threads' -s h -l help -d 'Print help'
 complete -c sel4sim -n '__fish_seen_subcommand_from threads' -F
 complete -c sel4sim -n '__fish_use_subcommand' -a why -d 'Runs a set-up and prints why its calls are refused'
 complete -c sel4sim -n '__fish_seen_subcommand_from why' -l call -x -a '' -d 'Tell of call N alone'
+complete -c sel4sim -n '__fish_seen_subcommand_from why' -l names -d 'Tell objects by their names, in place of their addresses'
 complete -c sel4sim -n '__fish_seen_subcommand_from why' -s h -l help -d 'Print help'
 complete -c sel4sim -n '__fish_seen_subcommand_from why' -F
 complete -c sel4sim -n '__fish_use_subcommand' -a audit -d 'Runs a set-up and prints who reaches what, who can send to whom, and what a revoke would destroy'
@@ -48,6 +52,7 @@ complete -c sel4sim -n '__fish_use_subcommand' -a explore -d 'Runs the clients o
 complete -c sel4sim -n '__fish_seen_subcommand_from explore' -l first -x -a '' -d 'Make the first N calls before the clients begin'
 complete -c sel4sim -n '__fish_seen_subcommand_from explore' -l states -x -a '' -d 'Keep at most N states'
 complete -c sel4sim -n '__fish_seen_subcommand_from explore' -l witness -x -a '' -d 'Write the set-up of one order: I.J of answer J of call I, or stuck.J'
+complete -c sel4sim -n '__fish_seen_subcommand_from explore' -l names -d 'Tell objects by their names, in place of their addresses'
 complete -c sel4sim -n '__fish_seen_subcommand_from explore' -s h -l help -d 'Print help'
 complete -c sel4sim -n '__fish_seen_subcommand_from explore' -F
 complete -c sel4sim -n '__fish_use_subcommand' -a tree -d 'Runs a set-up and prints each slot below the one that it is derived from'

@@ -83,18 +83,21 @@ text_rule name = record (new_rule name) {
 
 -- the subcommands that take several files
 abbrev pub check_command : App
-check_command = with_rule (with_rule (with_file (codes "check")) more_files_rule) (flag_rule (codes "strict"))
+check_command = with_rule (with_rule (with_rule (with_file (codes "check")) more_files_rule) (flag_rule (codes "strict"))) (flag_rule (codes "names"))
 
 -- the subcommand `marks`, whose files can be marked by the questions of another
 abbrev pub marks_command : App
 marks_command = with_rule (with_rule (with_file (codes "marks")) more_files_rule) (text_rule (codes "of"))
 
 -- the other subcommands that have options
+abbrev pub trace_command : App
+trace_command = with_rule (with_file (codes "trace")) (flag_rule (codes "names"))
+
 abbrev pub threads_command : App
-threads_command = with_rule (with_file (codes "threads")) (number_rule (codes "first"))
+threads_command = with_rule (with_rule (with_file (codes "threads")) (number_rule (codes "first"))) (flag_rule (codes "names"))
 
 abbrev pub why_command : App
-why_command = with_rule (with_file (codes "why")) (number_rule (codes "call"))
+why_command = with_rule (with_rule (with_file (codes "why")) (number_rule (codes "call"))) (flag_rule (codes "names"))
 
 abbrev pub audit_command : App
 audit_command =
@@ -106,8 +109,8 @@ audit_command =
 
 abbrev pub explore_command : App
 explore_command =
-    with_rule (with_rule (with_rule (with_file (codes "explore"))
-    (number_rule (codes "first"))) (number_rule (codes "states"))) (text_rule (codes "witness"))
+    with_rule (with_rule (with_rule (with_rule (with_file (codes "explore"))
+    (number_rule (codes "first"))) (number_rule (codes "states"))) (text_rule (codes "witness"))) (flag_rule (codes "names"))
 
 abbrev pub tree_command : App
 tree_command = with_rule (with_rule (with_rule (with_file (codes "tree")) (number_rule (codes "after"))) (flag_rule (codes "dot"))) (flag_rule (codes "names"))
@@ -123,11 +126,11 @@ import_command =
     with_rule (with_rule (with_rule (with_file (codes "import")) (number_rule (codes "shrink"))) (flag_rule (codes "listing")))
     (flag_rule (codes "flows"))
 
--- `sel4sim`, with the subcommands that take several files or have no options
+-- `sel4sim`, with its first subcommands: those that take several files, `trace` and `migrate`
 abbrev pub plain_command : App
 plain_command =
     and_subcommand (with_file (codes "migrate"))
-    (and_subcommand (with_file (codes "trace")) (and_subcommand marks_command (and_subcommand check_command bare_command)))
+    (and_subcommand trace_command (and_subcommand marks_command (and_subcommand check_command bare_command)))
 
 -- `sel4sim`, with all its subcommands
 unfoldable pub command : App
@@ -271,15 +274,15 @@ agrees_how options =
     && ((asks_threads options || not (options.message || (options.hold || options.loss)))
     && (asks_message options || not (is_some options.badge)))))
 
--- the options go together: `--ever` and `--never` not with each other, and not with `--slot`; `--names` not with `--how`; `--slot`
--- not with `--without` or `--names`; `--messages` needs one of the first two, and `--by` needs `--never` or a question of messages;
+-- the options go together: `--ever` and `--never` not with each other, and not with `--slot`; `--slot` not with `--without`; `--names`
+-- not with `--how` or `--witness`; `--messages` needs one of the first two, and `--by` needs `--never` or a question of messages;
 -- `--draft` needs `--ever`, and goes not with `--names`; `--policy` goes with none of these
 unfoldable pub agrees : Options → Bool
 agrees options =
     not (options.ever && is_some options.never)
     && (not (is_of_parts options && is_some options.slot)
-    && (not (is_some options.slot && (is_some options.without || options.names))
-    && (not (is_some options.how && options.names)
+    && (not (is_some options.slot && is_some options.without)
+    && (not ((is_some options.how || is_some options.witness) && options.names)
     && ((is_of_parts options || not (is_some options.messages))
     && (((is_some options.never || asks_message options) || not (is_some options.by))
     && (not (options.draft && (not options.ever || options.names))

@@ -68,7 +68,7 @@ pub struct Options<'a> {
     pub messages: Option<&'a str>,
     /// `--policy` of `audit`: the name of a file, to whose policy the layout is held.
     pub policy: Option<&'a str>,
-    /// Whether `--names` of `audit` or `tree` is there: objects are told by their names, in place of their addresses.
+    /// Whether `--names` is there: objects are told by their names, in place of their addresses.
     pub names: bool,
     /// `--first` of `explore` and `threads`: how many calls are made before the clients begin.
     pub first: Option<u64>,

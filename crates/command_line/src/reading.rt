@@ -4,7 +4,7 @@ ghost use Rattle.std.specs.Str.{bytes_eq};
 ghost use Rattle.clap.specs.Words.{App, Rule, app_of, fault_of, first_of, found_of, rows_of, subcommand_of, subcommand_rows_of, with_rule};
 ghost use Rattle.clap.specs.Values.{kind_of};
 ghost use Rattle.clap.specs.Walk.{texts};
-ghost use Rattle.command_line.specs.CommandLine.{Explains, ExplainsMatches, Extends, HasOptions, IsArgument, IsCommand, Says, StandsFor, agrees, and_subcommand as and_command, audit_command, bare_command, check_command, command as definition, explore_command, file_asked, file_of, file_rule, files_of, flag_rule, import_command, is_set, job_asked, job_named, job_of, lists_one as lists_one_definition, marks_command, more_behind as more_behind_definition, more_files_in, more_files_rule, more_given, new_command, number_rule, own_rows, plain_command, reads_once, several_asked, several_of, text_rule, threads_command, tree_command, version_rule, why_command, with_file as with_file_definition};
+ghost use Rattle.command_line.specs.CommandLine.{Explains, ExplainsMatches, Extends, HasOptions, IsArgument, IsCommand, Says, StandsFor, agrees, and_subcommand as and_command, audit_command, bare_command, check_command, command as definition, explore_command, file_asked, file_of, file_rule, files_of, flag_rule, import_command, is_set, job_asked, job_named, job_of, lists_one as lists_one_definition, marks_command, more_behind as more_behind_definition, more_files_in, more_files_rule, more_given, new_command, number_rule, own_rows, plain_command, reads_once, several_asked, several_of, text_rule, threads_command, trace_command, tree_command, version_rule, why_command, with_file as with_file_definition};
 
 use crate::arguments::{Job, Line, LineFault, Options};
 use crate::how::{and_how, asks_message, conflict_of_how};
@@ -59,9 +59,9 @@ const EVER_WITH_NEVER: &str = "--ever and --never do not go together";
 
 const SLOT_WITH_PARTS: &str = "--slot goes neither with --ever nor with --never";
 
-const SLOT_WITH_OTHERS: &str = "--slot goes neither with --without nor with --names";
+const SLOT_WITH_WITHOUT: &str = "--slot and --without do not go together";
 
-const NAMES_WITH_HOW: &str = "--names and --how do not go together";
+const NAMES_OF_A_SETUP: &str = "--names goes neither with --how nor with --witness";
 
 const MESSAGES_ALONE: &str = "--messages goes with --ever or --never alone";
 
@@ -181,7 +181,8 @@ fn why<'a>(alloc: Global) -> Result<Command<'a>, AllocError>
 {
     let about = "Runs a set-up and prints why its calls are refused";
     let call = number(alloc, "call", "Tell of call N alone");
-    and_argument(with_file(alloc, "why", about), call)
+    let with_call = and_argument(with_file(alloc, "why", about), call);
+    and_argument(with_call, by_names(alloc))
 }
 
 /// The options of `audit` by which threads are trusted to pass messages, and one thread's part is asked to be kept from another's,
@@ -282,7 +283,8 @@ fn threads<'a>(alloc: Global) -> Result<Command<'a>, AllocError>
 {
     let about =
         "Runs each client of a set-up in a thread of its own and prints what was done, in order";
-    and_argument(with_file(alloc, "threads", about), first_calls(alloc))
+    let with_first = and_argument(with_file(alloc, "threads", about), first_calls(alloc));
+    and_argument(with_first, by_names(alloc))
 }
 
 /// The subcommand `explore`.
@@ -300,7 +302,8 @@ fn explore<'a>(alloc: Global) -> Result<Command<'a>, AllocError>
         "WHICH",
         "Write the set-up of one order: I.J of answer J of call I, or stuck.J",
     );
-    and_argument(with_states, witness)
+    let with_witness = and_argument(with_states, witness);
+    and_argument(with_witness, by_names(alloc))
 }
 
 /// The subcommand `tree`.
@@ -384,7 +387,8 @@ fn check<'a>(alloc: Global) -> Result<Command<'a>, AllocError>
         "strict",
         "End with status 1 also where a call is refused and has no expectation",
     );
-    and_argument(with_more, strict)
+    let with_strict = and_argument(with_more, strict);
+    and_argument(with_strict, by_names(alloc))
 }
 
 /// The subcommand `marks`, which takes several files too.
@@ -402,18 +406,21 @@ fn marks<'a>(alloc: Global) -> Result<Command<'a>, AllocError>
     and_argument(with_more, of)
 }
 
-/// The command with the subcommands that take several files or have no options.
+/// The subcommand `trace`.
+fn trace<'a>(alloc: Global) -> Result<Command<'a>, AllocError>
+    ensures { IfOk result (IsCommand trace_command) }
+{
+    let about = "Runs a set-up and prints what each of its calls changed";
+    and_argument(with_file(alloc, "trace", about), by_names(alloc))
+}
+
+/// The command with its first subcommands: those that take several files, `trace` and `migrate`.
 fn plain<'a>(alloc: Global) -> Result<Command<'a>, AllocError>
     ensures { IfOk result (IsCommand plain_command) }
 {
     let with_check = and_subcommand(bare(alloc), check(alloc));
     let with_marks = and_subcommand(with_check, marks(alloc));
-    let trace = with_file(
-        alloc,
-        "trace",
-        "Runs a set-up and prints what each of its calls changed",
-    );
-    let with_trace = and_subcommand(with_marks, trace);
+    let with_trace = and_subcommand(with_marks, trace(alloc));
     let migrate = with_file(
         alloc,
         "migrate",
@@ -665,10 +672,10 @@ fn conflict_of(options: &Options) -> Option<&'static str>
         Some(EVER_WITH_NEVER)
     } else if is_of_parts && options.slot.is_some() {
         Some(SLOT_WITH_PARTS)
-    } else if options.slot.is_some() && (options.without.is_some() || options.names) {
-        Some(SLOT_WITH_OTHERS)
-    } else if options.how.is_some() && options.names {
-        Some(NAMES_WITH_HOW)
+    } else if options.slot.is_some() && options.without.is_some() {
+        Some(SLOT_WITH_WITHOUT)
+    } else if (options.how.is_some() || options.witness.is_some()) && options.names {
+        Some(NAMES_OF_A_SETUP)
     } else if !is_of_parts && options.messages.is_some() {
         Some(MESSAGES_ALONE)
     } else if options.never.is_none() && !asks_message(options) && options.by.is_some() {

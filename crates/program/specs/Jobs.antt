@@ -4,7 +4,7 @@ use Rattle.command_line.specs.declared.arguments.Job.{Job}
 use Rattle.command_line.specs.declared.arguments.Job.TheVariants.{Check, Trace, Threads, Migrate, Why, Audit, Explore, Tree, New, Marks, Import}
 use Rattle.command_line.specs.declared.arguments.Options.{Options}
 use Rattle.command_core.specs.declared.fault.Verdict.{Verdict}
-use Rattle.command_files.specs.Strict.{checked}
+use Rattle.command_files.specs.Strict.{IsNamedCheck, checked}
 use Rattle.command_check.specs.Commands.{IsAnswerTo, IsStateAnswer}
 use Rattle.command_check.specs.Migrations.{IsMigration}
 use Rattle.command_audit.specs.Audits.{IsSlotAudited, IsStateAudited}
@@ -59,7 +59,7 @@ question_of options threads = record {
 abbrev pub IsAuditAt : Options → Option (List ℕ) → List ℕ → List ℕ → Verdict → Type 0
 IsAuditAt options None input text verdict =
     IsAnswerTo (IsStateAnswer (IsStateAudited (without_of options) options.names) options.after) input text verdict
-IsAuditAt options (Some slot) input text verdict = IsAnswerTo (IsSlotAudited slot options.after) input text verdict
+IsAuditAt options (Some slot) input text verdict = IsAnswerTo (IsSlotAudited slot options.names options.after) input text verdict
 
 abbrev pub IsAuditNow : Options → List ℕ → List ℕ → Verdict → Type 0
 IsAuditNow options input text verdict = IsAuditAt options (option_map (λ s. s.now) options.slot) input text verdict
@@ -126,7 +126,7 @@ states_of options = unwrap_or options.states 100000
 
 -- the report on every order, or, with `--witness`, the set-up of the order that its text names
 abbrev pub IsExploreAnswer : Options → Option (List ℕ) → List ℕ → List ℕ → Verdict → Type 0
-IsExploreAnswer options None input text verdict = IsAnswerTo (IsExploration (first_calls_of options) (states_of options)) input text verdict
+IsExploreAnswer options None input text verdict = IsAnswerTo (IsExploration (first_calls_of options) (states_of options) options.names) input text verdict
 IsExploreAnswer options (Some which) input text verdict = IsNamedWitness which (first_calls_of options) (states_of options) input text verdict
 
 abbrev pub IsExplorationBy : Options → List ℕ → List ℕ → Verdict → Type 0
@@ -134,7 +134,12 @@ IsExplorationBy options = IsExploreAnswer options (option_map (λ s. s.now) opti
 
 -- the report of clients that share a kernel, by the option
 abbrev pub IsShared : Options → List ℕ → List ℕ → Verdict → Type 0
-IsShared options = IsSharedProgram (λ _ _. ⊥) (first_calls_of options)
+IsShared options = IsSharedProgram options.names (λ _ _. ⊥) (first_calls_of options)
+
+-- the report of a set-up's run, by addresses or by names
+abbrev pub IsCheck : Options → List ℕ → List ℕ → Verdict → Type 0
+IsCheck options input text verdict =
+    MatchBool options.names (IsAnswerTo (IsNamedCheck options.strict) input text verdict) (checked options.strict input ≡ (text, verdict))
 
 -- the form of a derivation forest, by the option
 abbrev pub form_of : Options → Form
@@ -142,11 +147,11 @@ form_of options = cond options.dot Dot Lines
 
 -- what each command writes for an input: its text and its verdict
 abbrev pub meaning : Job → Options → List ℕ → List ℕ → Verdict → Type 0
-meaning Check options = λ input text verdict. checked options.strict input ≡ (text, verdict)
-meaning Trace options = IsAnswerTo IsTrace
+meaning Check options = IsCheck options
+meaning Trace options = IsAnswerTo (IsTrace options.names)
 meaning Threads options = IsShared options
 meaning Migrate options = IsMigration
-meaning Why options = IsAnswerTo (IsWhy options.call)
+meaning Why options = IsAnswerTo (IsWhy options.names options.call)
 meaning Audit options = IsAudit options
 meaning Explore options = IsExplorationBy options
 meaning Tree options = IsAnswerTo (IsStateAnswer (IsTree (form_of options) options.names) options.after)

@@ -27,7 +27,7 @@ fn threads<R: Threads + Wait + Sync, S: Source, K: Sink>(
     ensures accepted { result ≡ Err RunFault.Thread → (input : List ℕ) × Gave S.left S.given source.old source.new input × IsOk (setup_of_bytes input) }
 {
     let first = options.first.unwrap_or(0) as usize;
-    threads_run_open(rt, alloc, first, source, sink)
+    threads_run_open(rt, alloc, options.names, first, source, sink)
 }
 
 /// Reads the source to its end, and writes to the sink what a job that starts no threads makes of it by the options.

@@ -2,7 +2,7 @@
 ghost use Rattle.std.specs.Prelude.{◌≡◌, ◌≢◌, IfErr, IfOk, map, option_map};
 ghost use Rattle.command_line.specs.declared.arguments.Job.TheVariants.{Threads};
 ghost use Rattle.command_check.specs.Commands.{IsAnswerTo, IsStateAnswer};
-ghost use Rattle.program.specs.Jobs.{IsAudit, IsAuditByHow, IsAuditNow, IsAuditOfEver, IsAuditOfParts, IsAuditOfState, IsExplorationBy, IsHeld, by_of, form_of as form_of_options, happening_in, how_of, messages_of, question_of, trust_of, without_of};
+ghost use Rattle.program.specs.Jobs.{IsAudit, IsAuditByHow, IsAuditNow, IsAuditOfEver, IsAuditOfParts, IsAuditOfState, IsCheck, IsExplorationBy, IsHeld, by_of, form_of as form_of_options, happening_in, how_of, messages_of, question_of, trust_of, without_of};
 ghost use Rattle.program.specs.NewWords.{IsNewOf};
 ghost use Rattle.program.specs.WitnessWords.{IsNamedWitness};
 ghost use Rattle.command_never.specs.Never.{IsNever};
@@ -17,7 +17,7 @@ use command_audit::{SlotAudit, StateAudit};
 use command_check::{Command, Migrator, OnSetup};
 use command_core::{Answer, Engine, RunFault};
 use command_explore::{Explore, ExploreOptions, WriteWitness};
-use command_files::FileCheck;
+use command_files::{FileCheck, NamedCheck};
 use command_how::{Happening, How};
 use command_import::{Importer, Reading};
 use command_line::{Job, Options};
@@ -117,13 +117,21 @@ fn make_audit_now(alloc: Global, options: Options<'_>, input: &[u8]) -> Result<A
     ensures made { IfOk result (λ made. IsAuditNow options.entry input.now made.text.items made.verdict) }
     ensures memory { IfErr result (λ fault. fault ≡ RunFault.Memory) }
 {
-    let Options { after, slot, .. } = options;
+    let Options {
+        names,
+        after,
+        slot,
+        ..
+    } = options;
     match slot {
         None => match words_in(alloc, options.without) {
             Ok(without) => make_others_audit(alloc, options, without.as_slice(), input),
             Err(_) => Err(RunFault::Memory),
         },
-        Some(slot) => on_setup(alloc, SlotAudit { slot, after }, input),
+        Some(slot) => {
+            let audit = SlotAudit { slot, names, after };
+            on_setup(alloc, audit, input)
+        }
     }
 }
 
@@ -351,8 +359,27 @@ fn make_exploration(alloc: Global, options: Options<'_>, input: &[u8]) -> Result
         states: options.states.unwrap_or(MOST_STATES),
     };
     match options.witness {
-        None => on_setup(alloc, Explore { options: asked }, input),
+        None => {
+            let explore = Explore {
+                options: asked,
+                names: options.names,
+            };
+            on_setup(alloc, explore, input)
+        }
         Some(which) => make_witness(alloc, asked, which, input),
+    }
+}
+
+/// The report of a set-up's run, by addresses or by names.
+fn make_check(alloc: Global, options: Options<'_>, input: &[u8]) -> Result<Answer, RunFault>
+    ensures made { IfOk result (λ made. IsCheck options.entry input.now made.text.items made.verdict) }
+    ensures memory { IfErr result (λ fault. fault ≡ RunFault.Memory) }
+{
+    let strict = options.strict;
+    if options.names {
+        on_setup(alloc, NamedCheck { strict }, input)
+    } else {
+        FileCheck { strict }.make(alloc, input)
     }
 }
 
@@ -409,14 +436,17 @@ impl Engine for Work<'_> {
     fn make(&self, alloc: Global, input: &[u8]) -> Result<Answer, RunFault> {
         let options = self.options;
         match self.job {
-            Job::Check => {
-                let strict = options.strict;
-                FileCheck { strict }.make(alloc, input)
+            Job::Check => make_check(alloc, options, input),
+            Job::Trace => {
+                let names = options.names;
+                on_setup(alloc, Trace { names }, input)
             }
-            Job::Trace => on_setup(alloc, Trace, input),
             Job::Threads => unreachable!(),
             Job::Migrate => Migrator.make(alloc, input),
-            Job::Why => on_setup(alloc, Why { call: options.call }, input),
+            Job::Why => {
+                let Options { call, names, .. } = options;
+                on_setup(alloc, Why { call, names }, input)
+            }
             Job::Audit => make_audit(alloc, options, self.policy, input),
             Job::Explore => make_exploration(alloc, options, input),
             Job::Tree => {

@@ -245,8 +245,12 @@ const FAULTS_OF_LINES: &[(&[&str], Told)] = &[
         Told::Conflict("--without"),
     ),
     (
-        &["sel4sim", "audit", "--slot=160", "--names"],
-        Told::Conflict("--names"),
+        &["sel4sim", "audit", "--how", "1,2", "--names"],
+        Told::Conflict("--how"),
+    ),
+    (
+        &["sel4sim", "explore", "--names", "--witness", "stuck.1"],
+        Told::Conflict("--witness"),
     ),
     // calls for help
     (&["sel4sim", "--help"], Told::Help),

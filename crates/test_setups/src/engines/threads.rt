@@ -317,7 +317,7 @@ fn run<R: Threads + Wait + Sync>(
             threads_run(rt, alloc, first, &mut source, &mut sink, &gate)
         }
         Gates::FirstCall => threads_run(rt, alloc, first, &mut source, &mut sink, &FirstCallOnly),
-        Gates::None => threads_run_open(rt, alloc, first, &mut source, &mut sink),
+        Gates::None => threads_run_open(rt, alloc, false, first, &mut source, &mut sink),
     };
     Ok((out, status_of(&answer)))
 }

@@ -15,26 +15,26 @@ pub returns-then-options-3 : goal.returns-then-options-3
 unfolding agrees
 returns-then-options-3 c = search rules
 
-pub returns-then-options-4 : goal.returns-then-options-4
+pub returns-then-is_some-4 : goal.returns-then-is_some-4
 unfolding agrees
-returns-then-options-4 c = search rules
+returns-then-is_some-4 c = search rules
+
+pub returns-then-options-5 : goal.returns-then-options-5
+unfolding agrees
+returns-then-options-5 c = search rules
 
 pub returns-then-options-6 : goal.returns-then-options-6
 unfolding agrees
 returns-then-options-6 c = search rules
 
-pub returns-then-options-7 : goal.returns-then-options-7
-unfolding agrees
-returns-then-options-7 c = search rules
-
-pub returns-then-is_some-6 : goal.returns-then-is_some-6
-unfolding agrees
-returns-then-is_some-6 c = search rules
-
 pub returns-then-is_some-7 : goal.returns-then-is_some-7
 unfolding agrees
 returns-then-is_some-7 c = search rules
 
-pub returns-else-is_some-8 : goal.returns-else-is_some-8
+pub returns-then-is_some-8 : goal.returns-then-is_some-8
 unfolding agrees
-returns-else-is_some-8 c = search rules
+returns-then-is_some-8 c = search rules
+
+pub returns-else-is_some-9 : goal.returns-else-is_some-9
+unfolding agrees
+returns-else-is_some-9 c = search rules

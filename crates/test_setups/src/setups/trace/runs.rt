@@ -19,7 +19,7 @@ fn traced(alloc: Global, setup: &[u8]) -> (Vec<u8>, u8) {
     let mut out = Vec::new(alloc);
     let mut source = ReaderSource::new(setup);
     let mut sink = WriterSink::new(&mut out);
-    let command = Trace;
+    let command = Trace { names: false };
     let answer = run_engine(alloc, &OnSetup { command }, &mut source, &mut sink);
     (out, status_of(&answer))
 }

@@ -4,6 +4,7 @@ use cap_core::{Narrow, ProfileName, Wide};
 use command_trace::trace;
 use ipc_core::{LinkedWaiters, MakeWaiters, RowWaiters};
 use setup_format::{ReadSetup, SetupFault, read};
+use setup_report::Naming;
 use slot_core::{DerivationStore, LinkedStore, MakeStore, RowStore};
 use std::alloc::Global;
 use std::process::Abort;
@@ -19,11 +20,12 @@ fn trace_of<S: MakeStore<Wide> + DerivationStore<Wide>, W: MakeWaiters<Wide>>(
         setup,
     } = read(alloc, text.as_bytes())?;
     let names = names.as_slice();
+    let naming = &Naming::plain();
     let traced = match setup.profile() {
-        ProfileName::Wide => trace::<Wide, S, W>(alloc, &table, names, &setup),
+        ProfileName::Wide => trace::<Wide, S, W>(alloc, naming, &table, names, &setup),
         ProfileName::Narrow => {
             trace::<Narrow, LinkedStore<Narrow>, LinkedWaiters<Narrow>>(
-                alloc, &table, names, &setup,
+                alloc, naming, &table, names, &setup,
             )
         }
     };
