@@ -171,16 +171,18 @@ def looked_at(program, setup):
         yield differs(program, ["audit", "--never", ",".join(pair), *trust], setup, lambda text: told_parts(names, labels, text))
 
 
-def main():
-    program, folders = sys.argv[1], sys.argv[2:]
-    found = []
-    for folder in folders:
-        for setup in sorted(pathlib.Path(folder).glob("*.toml")):
-            try:
-                tomllib.loads(setup.read_text())["root_radix"]
-            except (tomllib.TOMLDecodeError, KeyError):
-                continue
-            found += [it for it in looked_at(program, setup) if it is not None]
+def is_setup(path):
+    """Whether a file is a set-up as its table says, whatever else is wrong with it."""
+    try:
+        return "root_radix" in tomllib.loads(path.read_text())
+    except (tomllib.TOMLDecodeError, UnicodeDecodeError):
+        return False
+
+
+def compared(program, folders, looked_at, pattern="*.toml"):
+    """Looks at the set-ups in the folders, says what is wrong, and returns the status."""
+    setups = [it for folder in folders for it in sorted(pathlib.Path(folder).glob(pattern)) if is_setup(it)]
+    found = [it for setup in setups for it in looked_at(program, setup) if it is not None]
     faults = [it for it in found if isinstance(it, str)]
     print("\n".join(faults[:10]))
     print(f"{len(found) - len(faults)} texts as wanted, {found.count(True)} of them with names, {len(faults)} not")
@@ -188,4 +190,4 @@ def main():
 
 
 if __name__ == "__main__":
-    sys.exit(main())
+    sys.exit(compared(sys.argv[1], sys.argv[2:], looked_at))

@@ -5,12 +5,11 @@ Of each set-up NAME.toml below the FOLDERs `check`, `trace`, `why`, `explore` an
 `audit --slot` for its first slot with children. What has which name is worked out as in names.py, by the state after all calls.
 `threads` is asked of set-ups with one client alone, whose history is the same each time.
 """
-import pathlib
 import re
 import sys
 import tomllib
 
-from names import Names, differs, run
+from names import Names, compared, differs, run
 
 CAP = re.compile(r"\b(untyped (\d+) bits (\d+)|(endpoint|cnode|tcb) (\d+)(?= badge| radix|$| under| original| children))")
 
@@ -114,21 +113,5 @@ def looked_at(program, setup):
         yield differs(program, words, setup, told.text)
 
 
-def main():
-    program, folders = sys.argv[1], sys.argv[2:]
-    found = []
-    for folder in folders:
-        for setup in sorted(pathlib.Path(folder).rglob("*.toml")):
-            try:
-                tomllib.loads(setup.read_text())["root_radix"]
-            except (tomllib.TOMLDecodeError, KeyError, UnicodeDecodeError):
-                continue
-            found += [it for it in looked_at(program, setup) if it is not None]
-    faults = [it for it in found if isinstance(it, str)]
-    print("\n".join(faults[:10]))
-    print(f"{len(found) - len(faults)} texts as wanted, {found.count(True)} of them with names, {len(faults)} not")
-    return 0 if found.count(True) and not faults else 1
-
-
 if __name__ == "__main__":
-    sys.exit(main())
+    sys.exit(compared(sys.argv[1], sys.argv[2:], looked_at, "**/*.toml"))
