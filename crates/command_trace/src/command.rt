@@ -4,10 +4,11 @@ ghost use Rattle.kernel_abstract.specs.Plan.{IsPlan};
 ghost use Rattle.setup_format.specs.Read.{read_view};
 ghost use Rattle.command_trace.specs.Traces.{traced_in};
 
-use crate::run::{naming_of, trace};
+use crate::run::trace;
 use cap_core::Profile;
 use command_check::{Command, verdict_on};
 use command_core::{Answer, Verdict};
+use command_why::naming_after;
 use ipc_core::MakeWaiters;
 use setup_format::ReadSetup;
 use slot_core::{DerivationStore, MakeStore};
@@ -24,7 +25,7 @@ fn trace_setup<P: Profile, S: MakeStore<P> + DerivationStore<P>, W: MakeWaiters<
     ensures { IfOk result (λ made. (made.text.items, made.verdict) ≡ traced_in by_name P.profile (read_view read.now)) }
 {
     let (names, setup) = (read.names.as_slice(), &read.setup);
-    let naming = naming_of::<P, S, W>(alloc, by_name, names, setup)?;
+    let naming = naming_after::<P, S, W>(alloc, by_name, names, setup)?;
     let (text, count, unmet) = trace::<P, S, W>(alloc, &naming, &read.table, names, setup)?;
     Ok(Answer::with_unmet(alloc, text, verdict_on(count), unmet))
 }

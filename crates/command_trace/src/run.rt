@@ -6,13 +6,12 @@ ghost use Rattle.kernel_abstract.specs.Plan.{IsPlan};
 ghost use Rattle.setup_values.specs.Names.{names_view};
 ghost use Rattle.setup_report.specs.Naming.{naming_view};
 ghost use Rattle.setup_report.specs.Report.{terminated, met_count, expectation_count};
-ghost use Rattle.command_check.specs.Program.{texts_after};
 ghost use Rattle.command_trace.specs.Trace as spec;
 
 use crate::calls::add_calls;
 use crate::head::add_head;
 use cap_core::Profile;
-use command_check::{run_calls, unmet_calls};
+use command_check::unmet_calls;
 use command_core::CallNote;
 use command_trace_lines::{add_names, tell};
 use ipc_core::MakeWaiters;
@@ -38,28 +37,6 @@ fn add_expectations(out: &mut String, count: ExpectationCount) -> Result<(), All
     let met = count.met;
     let expected = count.expected;
     writeln!(out, "expected {met} of {expected}")
-}
-
-/// How a trace tells objects and slots: by addresses, or by the names of the objects that are there after all calls, which are
-/// made for it alone.
-///
-/// # Errors
-///
-/// Memory was refused.
-pub fn naming_of<'a, P: Profile, S: MakeStore<P> + DerivationStore<P>, W: MakeWaiters<P>>(
-    alloc: Global,
-    by_name: bool,
-    names: &'a [Name],
-    setup: &Setup,
-) -> Result<Naming<'a>, AllocError>
-    requires { IsPlan P.profile setup.now.plan }
-    ensures { IfOk result (λ naming. naming_view naming ≡ texts_after by_name P.profile (names_view names.now) setup.now) }
-{
-    if !by_name {
-        return Ok(Naming::plain());
-    }
-    let (kernel, _replies) = run_calls::<P, S, W>(alloc, setup)?;
-    Naming::of::<P, S, W>(alloc, true, names, setup.plan(), &kernel)
 }
 
 /// The trace of a set-up's run, in the profile of its plan: the names by which it was spelt, what the boot gives, and
