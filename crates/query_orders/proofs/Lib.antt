@@ -9,3 +9,5 @@ pub mod Shortest
 pub mod Tests
 pub mod KernelWords
 pub mod Exploration
+pub mod Apart
+pub mod Grouped

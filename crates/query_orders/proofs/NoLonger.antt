@@ -41,14 +41,14 @@ one-less f g c (suc n) lt e h =
           omega (arith, a, b, r, at))
     ]
 
-get-set_same : (l : List ℕ) (i n k : ℕ) → slice_get l i ≡ Some k → slice_get (slice_set l i n) i ≡ Some n
+pub get-set_same : (l : List ℕ) (i n k : ℕ) → slice_get l i ≡ Some k → slice_get (slice_set l i n) i ≡ Some n
 get-set_same l i n k h =
     let within = slice_get_within l i k h in
     let long = length-set l i n in
     slice_get-get_or (slice_set l i n) i n (omega (arith, within, long)) ∙ ap (λ m. Some m) (get_or-set_same l i n n within)
 
 -- a place of a list that was not set, there or not
-get-set_apart : (l : List ℕ) (i j n : ℕ) → j ≢ i → slice_get (slice_set l i n) j ≡ slice_get l j
+pub get-set_apart : (l : List ℕ) (i j n : ℕ) → j ≢ i → slice_get (slice_set l i n) j ≡ slice_get l j
 get-set_apart l i j n other = by (slice_get l j) refl
   where
     by : (o : Option ℕ) → slice_get l j ≡ o → slice_get (slice_set l i n) j ≡ slice_get l j

@@ -12,7 +12,7 @@ use Rattle.query_orders.proofs.Contained.{each-contained, contains-map, contains
 
 -- ---- only a client can call
 
-no_calls : (own : List (List Call)) (client : ℕ) (made : Option ℕ) → slice_get own client ≡ None → option_and_then (call_of_client_at own client) made ≡ None
+pub no_calls : (own : List (List Call)) (client : ℕ) (made : Option ℕ) → slice_get own client ≡ None → option_and_then (call_of_client_at own client) made ≡ None
 no_calls own client None e = refl
 no_calls own client (Some n) e = ap (λ (o : Option (List Call)). option_and_then (λ (calls : List Call). slice_get calls n) o) e
 

@@ -3,6 +3,8 @@ pub mod Orders
 pub mod Answers
 pub mod Ends
 pub mod Laws
+pub mod Groups
+pub mod Apart
 pub mod Words
 pub mod SameWords
 pub mod Nodes
@@ -12,4 +14,5 @@ pub mod Found
 pub mod Known
 pub mod Links
 pub mod Explorations
+pub mod GroupsExplored
 pub mod Private

@@ -3,12 +3,12 @@
 
 mod answers;
 mod ends;
-mod exploration;
+pub(crate) mod exploration;
 mod found;
 mod kernels;
 mod layer;
 mod layers;
-mod node;
+pub(crate) mod node;
 mod order;
 mod stuck;
 mod waits;

@@ -1,5 +1,5 @@
 //! Laws of orders, which say in a reader's words what the definitions give. Nothing is done.
-ghost use Rattle.std.specs.Prelude.{◌≡◌, ◌<◌, ℕ, true, List, [], Contains, length, ◌↔◌};
+ghost use Rattle.std.specs.Prelude.{◌≡◌, ◌<◌, ℕ, Bool, true, List, [], Contains, length, ◌↔◌};
 ghost use Rattle.std.specs.List.{sum_by};
 ghost use Rattle.cap_core.specs.declared.profile.ProfileName.{ProfileName};
 ghost use Rattle.kernel_abstract.specs.declared.call.Call.{Call};
@@ -8,6 +8,7 @@ ghost use Rattle.query_orders.specs.declared.answer.Answer.{Answer as AnswerOf};
 ghost use Rattle.query_orders.specs.declared.left.LeftCall.{LeftCall as LeftCallOf};
 ghost use Rattle.query_orders.specs.World.{World, start};
 ghost use Rattle.query_orders.specs.Orders.{orders};
+ghost use Rattle.query_orders.specs.Apart.{BeginsAlike, HasPart, GoesOn};
 ghost use Rattle.query_orders.specs.Laws.{EachCanBeMade, IsShuffle, AnswersEachOnce, AreShortest, AreShortestStuck, IsBehind};
 
 use crate::answer::Answer;
@@ -54,4 +55,13 @@ pub fn first_orders_are_the_shortest()
 pub fn answers_that_compare_equal_are_the_same()
     ensures answers { (a b : AnswerOf) → ⟦<Answer as PartialEq>⟧.eq a b ≡ true → a ≡ b }
     ensures left { (a b : LeftCallOf) → ⟦<LeftCall as PartialEq>⟧.eq a b ≡ true → a ≡ b }
+{}
+
+/// Clients of different groups share no thread and no endpoint, and only send and receive. Of each order the part that the clients
+/// of one group make is an order of these clients by themselves: each of them can go on alike behind both, and is told the same.
+/// And orders of several groups can be made one behind the other.
+pub fn groups_do_not_see_each_other()
+    ensures begins { (p : ProfileName) (own : List (List Call)) (A : State) (first : List ℕ) (has : ℕ → Bool) → BeginsAlike p own A first has }
+    ensures part { (p : ProfileName) (own : List (List Call)) (A : State) (first groups : List ℕ) (group : ℕ) (order : List ℕ) → HasPart p own A first groups group order }
+    ensures goes_on { (p : ProfileName) (own : List (List Call)) (A : State) (first groups : List ℕ) (group : ℕ) (order more : List ℕ) → GoesOn p own A first groups group order more }
 {}

@@ -7,6 +7,7 @@
 
 pub mod answer;
 pub mod exploring;
+pub mod groups;
 pub mod laws;
 pub mod left;
 pub mod words;
@@ -16,5 +17,6 @@ pub use exploring::{
     Explored, FoundAnswer, FoundAnswers, FoundStuck, Node, Order, empty_layers_are_the_last,
     explore, orders_to_the_same_state_are_taken_together,
 };
+pub use groups::{CallObject, GroupExplored, GroupsExplored, explore_groups, is_in_group};
 pub use left::LeftCall;
 pub use words::words_of;

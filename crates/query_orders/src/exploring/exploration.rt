@@ -102,7 +102,7 @@ fn first_call<P: Profile, S: MakeStore<P> + DerivationStore<P>, W: MakeWaiters<P
 
 /// Makes the calls by which all orders begin, each the next one of a client, and notes what they tell. `at` is the kernel that
 /// makes them.
-fn begin<P: Profile, S: MakeStore<P> + DerivationStore<P>, W: MakeWaiters<P>>(
+pub fn begin<P: Profile, S: MakeStore<P> + DerivationStore<P>, W: MakeWaiters<P>>(
     alloc: Global,
     calls: &[Vec<Call>],
     at: &mut Kernel<P, S, W>,

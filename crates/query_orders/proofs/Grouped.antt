@@ -1,0 +1,4 @@
+pub mod Ways
+pub mod Joins
+pub mod Lists
+pub mod Finest
