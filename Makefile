@@ -81,6 +81,7 @@ rows-python:
 	python3 tests/revokes.py $(program) $(answers)/audits $(setups)
 	python3 tests/explore.py $(program) $(answers)/explorations
 	python3 tests/orders_one_by_one.py $(program) 100
+	python3 tests/groups_of_clients.py $(program) 60
 	python3 tests/new_set_ups.py $(program)
 	python3 tests/messages.py $(program)
 	python3 tests/imports.py $(program) tests/layouts 1 300

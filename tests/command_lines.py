@@ -116,6 +116,11 @@ LINES = [
     ("explore", 0, "orders 1 stuck 0\nexpected 1 of 1\n"),
     ("explore --first 1", 0, "orders 1 stuck 0\nexpected 1 of 1\n"),
     ("explore --states 0", 1, "states 0 limit calls "),
+    ("explore --ends", 0, "clients 0 states 3 ends 1 orders 1 stuck 0\nexpected 1 of 1\n"),
+    ("explore --ends --names --first 1", 0, "orders 1 stuck 0\nexpected 1 of 1\n"),
+    ("explore --ends --states 0", 1, "clients 0 states 0 limit calls "),
+    ("explore --ends --witness 2.1", 4, REFUSED),
+    ("audit --ends", 4, REFUSED),
     ("explore none.toml", 3, UNREAD),
     # several files
     ("check - text.toml", 2, "-: expected 1 of 1\ntext.toml: set-up refused 200 at text\nfiles 2 met 1 unmet 0 refused 1 unread 0\n"),

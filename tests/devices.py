@@ -12,8 +12,8 @@ import subprocess
 import sys
 import tempfile
 
-SUBCOMMANDS = [["check"], ["trace"], ["threads"], ["migrate"], ["why"], ["audit"], ["audit", "--ever"], ["explore"], ["tree"], ["tree", "--dot"],
-               ["audit", "--never", "2048,4096"]]
+SUBCOMMANDS = [["check"], ["trace"], ["threads"], ["migrate"], ["why"], ["audit"], ["audit", "--ever"], ["explore"], ["explore", "--ends"],
+               ["tree"], ["tree", "--dot"], ["audit", "--never", "2048,4096"]]
 
 SECONDS = 600
 NOBODY = 65534

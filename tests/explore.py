@@ -2,10 +2,10 @@
 """explore.py PROGRAM FOLDER: what `explore` writes for each set-up in FOLDER, and its exit status.
 
 NAME.explore is the report of NAME.toml, byte for byte; NAME.first_2.states_60.explore is what `explore --first 2 --states 60`
-writes. The status is 0 where the report tells of nothing that is not met, of no way to end stuck and of no limit, and 1
+writes, and NAME.ends.explore what `explore --ends` does. The status is 0 where the report tells of nothing that is not met, of no way to end stuck and of no limit, and 1
 otherwise.
 
-Of each order that a report tells, `--witness` writes the set-up with the calls of that order in that order, as data, and with the
+Of each order that a report tells, but for those of `--ends`, `--witness` writes the set-up with the calls of that order in that order, as data, and with the
 expectation of the call that the order is told for alone. `check` of it gives that call the answer that the report tells.
 
 In the end one report is compared with another one's, and has to differ.
@@ -25,7 +25,7 @@ def setup_of(report):
 def words_of(report):
     """The words of the command line behind `explore`."""
     options = (part.split("_") for part in report.name.split(".")[1:-1])
-    return [*(word for option, number in options for word in (f"--{option}", number)), str(setup_of(report))]
+    return [*(word for option, *number in options for word in (f"--{option}", *number)), str(setup_of(report))]
 
 
 def status_of(text):
@@ -82,7 +82,8 @@ def wrong_witnesses(program, report):
 
 def failed_witnesses(program, reports):
     """Tries the witnesses of the reports, and returns how many are wrong."""
-    tried = [(it.name, name) for it in reports for name in wrong_witnesses(program, it)]
+    whole = [it for it in reports if ".ends." not in it.name]
+    tried = [(it.name, name) for it in whole for name in wrong_witnesses(program, it)]
     failed = [(file, name) for file, name in tried if name]
     for file, name in failed:
         print(f"{file}: the witness {name} is wrong")

@@ -74,7 +74,7 @@ ssize_t write(int file, const void *bytes, size_t size)
 }
 """
 
-SUBCOMMANDS = [["check"], ["trace"], ["threads"], ["why"], ["audit"], ["audit", "--ever"], ["audit", "--never", "2048,4096"], ["explore"], ["tree"]]
+SUBCOMMANDS = [["check"], ["trace"], ["threads"], ["why"], ["audit"], ["audit", "--ever"], ["audit", "--never", "2048,4096"], ["explore"], ["explore", "--ends"], ["tree"]]
 MOST_BYTES = [0, 1]
 KINDS = ["read", "write", "no byte"]
 POOL = 4

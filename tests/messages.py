@@ -392,6 +392,8 @@ STREAMS = [
      ["command line refused", "--names goes neither with --how nor with --witness"]),
     (["explore", "--names", "--witness", "stuck.1"], FIRST, "/dev/null", 4,
      ["command line refused", "--names goes neither with --how nor with --witness"]),
+    (["explore", "--ends", "--witness", "stuck.1"], FIRST, "/dev/null", 4,
+     ["command line refused", "--ends and --witness do not go together"]),
     (["audit", "--policy", "p.toml", "--names"], FIRST, "/dev/null", 4,
      ["command line refused", "--policy goes with --after, --how and --states alone"]),
     (["audit", "--messages", "2048"], FIRST, "/dev/null", 4,

@@ -78,8 +78,8 @@ int posix_memalign(void **made, size_t alignment, size_t size)
 """
 
 
-SUBCOMMANDS = [["check"], ["trace"], ["threads"], ["migrate"], ["why"], ["audit"], ["audit", "--ever"], ["explore"], ["tree"], ["tree", "--dot"],
-               ["audit", "--never", "2048,4096"], ["new"]]
+SUBCOMMANDS = [["check"], ["trace"], ["threads"], ["migrate"], ["why"], ["audit"], ["audit", "--ever"], ["explore"], ["explore", "--ends"],
+               ["tree"], ["tree", "--dot"], ["audit", "--never", "2048,4096"], ["new"]]
 # Set-ups whose words show a part of the text: a value, an element of an array, a table without a key, and the place at which
 # the text breaks off.
 SIZES = b"format = 2\nmemory_bits = 16\nroot_radix = 4\nthreads = 2\nendpoints = 1\nnames = { a = 2048, endpoint = 4 }\n"

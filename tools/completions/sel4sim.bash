@@ -60,7 +60,7 @@ _sel4sim() {
             [[ $word == -* ]] || mapfile -t -O "${#COMPREPLY[@]}" COMPREPLY < <(compgen -f -- "$word")
             ;;
         explore)
-            COMPREPLY=($(compgen -W '--first --states --witness --names -h --help' -- "$word"))
+            COMPREPLY=($(compgen -W '--first --states --witness --ends --names -h --help' -- "$word"))
             [[ $word == -* ]] || mapfile -t -O "${#COMPREPLY[@]}" COMPREPLY < <(compgen -f -- "$word")
             ;;
         tree)

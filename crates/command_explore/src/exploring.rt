@@ -22,7 +22,7 @@ pub struct ExploreOptions {
 }
 
 /// The verdict on an exploration, by whether all is well.
-fn verdict_on(is_well: bool) -> Verdict
+pub fn verdict_on(is_well: bool) -> Verdict
     ensures { result ≡ explore_verdict is_well }
 {
     if is_well {

@@ -3,8 +3,10 @@
 #![tactic(auto)]
 
 mod exploring;
+mod groups;
 pub mod laws;
 mod witnessing;
 
 pub use exploring::{Explore, ExploreOptions};
+pub use groups::ExploreGroups;
 pub use witnessing::WriteWitness;

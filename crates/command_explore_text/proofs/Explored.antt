@@ -20,7 +20,7 @@ use Rattle.query_orders.specs.Found.{answers_of, stuck_of, same_left}
 use Rattle.query_orders.specs.Explorations.{depth, IsExplored}
 use Rattle.command_explore_text.specs.Clients.{calls_of_each, first_clients}
 use Rattle.command_explore_text.specs.Views.{ExploredView, explored_view}
-use Rattle.command_explore_text.specs.Report.{exploration}
+use Rattle.command_explore_text.specs.Report.{exploration, exploration_from}
 
 abbrev view : Bool → ℕ → List Answered → List StuckEnd → ℕ → ℕ → ℕ → ℕ → ExploredView
 view whole calls answers stuck states ends orders stuck_orders =
@@ -49,9 +49,13 @@ module _ (p : ProfileName) (own : List (List Call)) (A : State) (begin : List �
       ∙ ap (λ (k : ℕ). view (length (layer p own w begin n) == 0) n (at n).answers (at n).stuck (at n).states (at n).ends (at n).orders k) t.stuck_orders_are
       ∙ ap at is.calls_are
 
+pub explored_from : (p : ProfileName) (own : List (List Call)) (A : State) (begin : List ℕ) (limit count : ℕ) (e : Explored) → IsExplored p own A begin answer_eq.ghosts.eq limit count e → explored_view e ≡ exploration_from p own A begin limit count
+unfolding exploration_from
+explored_from p own A begin limit count e is = viewed p own A begin limit count e is
+
 pub exploration_is : (p : ProfileName) (setup : SetupView) (first limit : ℕ) (own : List (List Call)) (begin : List ℕ) (e : Explored) → own ≡ calls_of_each setup → begin ≡ first_clients setup first →
     IsExplored p own (boot p setup.plan) begin answer_eq.ghosts.eq limit (length setup.calls + 1) e → explored_view e ≡ exploration p setup first limit
-unfolding exploration
+unfolding exploration exploration_from
 exploration_is p setup first limit own begin e is_own is_begin is =
     viewed p own (boot p setup.plan) begin limit (length setup.calls + 1) e is
     ∙ ap (λ (l : List (List Call)). at p l (boot p setup.plan) begin (depth p l (start l (boot p setup.plan)) begin limit (length setup.calls + 1))) is_own

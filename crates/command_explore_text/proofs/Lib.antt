@@ -1,5 +1,6 @@
 pub mod Places
 pub mod Explored
+pub mod GroupViews
 pub mod Lines
 pub mod CallAnswers
 pub mod Entries

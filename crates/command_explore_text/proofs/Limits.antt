@@ -15,7 +15,7 @@ use Rattle.query_orders.specs.Nodes.{lead_alike, layer}
 use Rattle.query_orders.specs.Explorations.{is_last_layer, layers_from, depth}
 use Rattle.query_orders.proofs.Exploration.Explorations.{no_orders_behind}
 use Rattle.command_explore_text.specs.Clients.{calls_of_client, calls_of_each, first_clients}
-use Rattle.command_explore_text.specs.Report.{exploration}
+use Rattle.command_explore_text.specs.Report.{exploration, exploration_from}
 use Rattle.command_explore_text.specs.Laws.{begins, states_with_more, EndsAtItsLimit, IsOnAllOrders}
 
 -- ---- the clients have no more calls than the set-up
@@ -93,7 +93,7 @@ or_cases true t h k = cc
 or_cases false t h k = k
 
 pub ends_at_limit : (p : ProfileName) (setup : SetupView) (first limit : ℕ) → EndsAtItsLimit p setup first limit
-unfolding exploration
+unfolding exploration exploration_from
 ends_at_limit p setup first limit some =
     let own = calls_of_each setup in
     let w = begins p setup in
@@ -110,7 +110,7 @@ ends_at_limit p setup first limit some =
     ]
 
 pub on_all_orders : (p : ProfileName) (setup : SetupView) (first limit : ℕ) → IsOnAllOrders p setup first limit
-unfolding exploration
+unfolding exploration exploration_from
 on_all_orders p setup first limit whole more =
     let own = calls_of_each setup in
     let w = begins p setup in

@@ -3,6 +3,7 @@ pub mod Numbers
 pub mod Text
 pub mod Views
 pub mod Report
+pub mod Groups
 pub mod Witnesses
 pub mod Rows
 pub mod Laws

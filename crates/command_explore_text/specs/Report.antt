@@ -2,8 +2,9 @@
 use Rattle.std.specs.Prelude.{codes, ℕ, ◌+◌, ◌==◌, ◌&&◌, Bool, cond, List, [], ◌++◌, length}
 use Rattle.std.specs.Fmt.{decimal}
 use Rattle.cap_core.specs.declared.profile.ProfileName.{ProfileName}
+use Rattle.kernel_abstract.specs.declared.call.Call.{Call}
 use Rattle.kernel_abstract.specs.Boot.{boot}
-use Rattle.kernel_abstract.specs.State.{shown}
+use Rattle.kernel_abstract.specs.State.{State, shown}
 use Rattle.setup_values.specs.Names.{Names}
 use Rattle.setup_values.specs.Told.{profile_text}
 use Rattle.setup_format.specs.Views.{SetupView}
@@ -37,10 +38,13 @@ count_lines states ends orders stuck =
 abbrev pub limit_line : ℕ → ℕ → List ℕ
 limit_line limit calls = terminated (codes "states " ++ (decimal limit ++ (codes " limit calls " ++ decimal calls)))
 
+-- how many calls have an expectation, and how many of these are met in every order
+abbrev pub expected_line : ℕ → ℕ → List ℕ
+expected_line met expected = terminated (codes "expected " ++ (decimal met ++ (codes " of " ++ decimal expected)))
+
 abbrev pub end_lines : ℕ → ℕ → ℕ → ℕ → ExploredView → List ℕ
 end_lines first limit met expected e =
-    cond e.whole (count_lines e.states e.ends e.orders e.stuck_orders) (limit_line limit (first + e.calls))
-    ++ terminated (codes "expected " ++ (decimal met ++ (codes " of " ++ decimal expected)))
+    cond e.whole (count_lines e.states e.ends e.orders e.stuck_orders) (limit_line limit (first + e.calls)) ++ expected_line met expected
 
 -- the report on an exploration, and whether all is well: all orders are explored, each expectation is met in each of them, and
 -- none ends stuck
@@ -53,13 +57,11 @@ report_on texts setup first limit e =
       e.whole && (met == expected) && (length e.stuck == 0),
     )
 
--- what the orders tell that begin with the first calls of a set-up, from its boot on, as far as the limit on states lets it go
-unfoldable pub exploration : ProfileName → SetupView → ℕ → ℕ → ExploredView
-exploration p setup first limit =
-    let own = calls_of_each setup in
-    let begin = first_clients setup first in
-    let w = start own (boot p setup.plan) in
-    let n = depth p own w begin limit (length setup.calls + 1) in
+-- what the orders tell that begin in one way from a state, as far as the limit on states lets it go
+unfoldable pub exploration_from : ProfileName → List (List Call) → State → List ℕ → ℕ → ℕ → ExploredView
+exploration_from p own A begin limit count =
+    let w = start own A in
+    let n = depth p own w begin limit count in
     record {
       whole = length (layer p own w begin n) == 0;
       calls = n;
@@ -70,6 +72,11 @@ exploration p setup first limit =
       orders = saturated (orders_before (is_end own) p own w begin n);
       stuck_orders = saturated (orders_before (is_stuck own) p own w begin n);
     }
+
+-- what those tell that begin with the first calls of a set-up, from its boot on
+unfoldable pub exploration : ProfileName → SetupView → ℕ → ℕ → ExploredView
+exploration p setup first limit =
+    exploration_from p (calls_of_each setup) (boot p setup.plan) (first_clients setup first) limit (length setup.calls + 1)
 
 -- the texts of a set-up's report: addresses, or the names of its objects. These names do not depend on the state, and only objects
 -- are told; so they are taken from the boot

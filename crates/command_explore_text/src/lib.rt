@@ -6,6 +6,7 @@ mod answers;
 mod calls;
 mod clients;
 mod ends;
+mod groups;
 pub mod laws;
 mod making;
 mod marks;
@@ -19,6 +20,7 @@ mod witness;
 
 pub use answers::AnswerText;
 pub use clients::{calls_of_clients, first_clients};
+pub use groups::groups_report;
 pub use making::make_witness;
 pub use numbers::{number_at, numbers_of_clients};
 pub use run::{ExploredText, explored_report};

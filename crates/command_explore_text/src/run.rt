@@ -37,7 +37,7 @@ pub struct ExploredText {
 }
 
 /// Adds the first line: the version of the report's form, and how large the set-up is.
-fn add_head(out: &mut String, setup: &Setup) -> Result<(), AllocError>
+pub fn add_head(out: &mut String, setup: &Setup) -> Result<(), AllocError>
     ensures { OnOk result (string_bytes out.new ≡ string_bytes out.old ++ spec.explore_head_line setup.now) }
 {
     let profile = profile_text(setup.profile());
@@ -61,6 +61,15 @@ fn add_counts(out: &mut String, explored: &Explored) -> Result<(), AllocError>
     )
 }
 
+/// Adds the last line: how many expectations are met in every order.
+pub fn add_expected(out: &mut String, count: ExpectationCount) -> Result<(), AllocError>
+    ensures { OnOk result (string_bytes out.new ≡ string_bytes out.old ++ spec.expected_line count.met count.expected) }
+{
+    let met = count.met;
+    let expected = count.expected;
+    writeln!(out, "expected {met} of {expected}")
+}
+
 /// Adds the last lines: how many states and orders there are, or the limit that was reached, and how many expectations are
 /// met in every order.
 fn add_end(
@@ -79,13 +88,11 @@ fn add_end(
         let calls = first as u128 + explored.calls as u128;
         writeln!(out, "states {limit} limit calls {calls}")?;
     }
-    let met = count.met;
-    let expected = count.expected;
-    writeln!(out, "expected {met} of {expected}")
+    add_expected(out, count)
 }
 
 /// Whether all is well: all orders are explored, each expectation is met, and there is no way to end stuck.
-fn is_well(is_whole: bool, count: ExpectationCount, stuck: &[FoundStuck]) -> bool
+pub fn is_well(is_whole: bool, count: ExpectationCount, stuck: &[FoundStuck]) -> bool
     ensures { result ≡ (is_whole && (count.met == count.expected) && (length (stuck_of stuck.now) == 0)) }
 {
     is_whole && count.met == count.expected && stuck.is_empty()

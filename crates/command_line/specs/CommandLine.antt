@@ -109,8 +109,8 @@ audit_command =
 
 abbrev pub explore_command : App
 explore_command =
-    with_rule (with_rule (with_rule (with_rule (with_file (codes "explore"))
-    (number_rule (codes "first"))) (number_rule (codes "states"))) (text_rule (codes "witness"))) (flag_rule (codes "names"))
+    with_rule (with_rule (with_rule (with_rule (with_rule (with_file (codes "explore"))
+    (number_rule (codes "first"))) (number_rule (codes "states"))) (text_rule (codes "witness"))) (flag_rule (codes "ends"))) (flag_rule (codes "names"))
 
 abbrev pub tree_command : App
 tree_command = with_rule (with_rule (with_rule (with_file (codes "tree")) (number_rule (codes "after"))) (flag_rule (codes "dot"))) (flag_rule (codes "names"))
@@ -242,6 +242,7 @@ pub record HasOptions (rows : List Row) (options : Options) : Type 0 where
   pub first : Says (first_of (codes "first") rows) options.first
   pub states : Says (first_of (codes "states") rows) options.states
   pub witness : option_map (λ s. s.now) options.witness ≡ first_of (codes "witness") rows
+  pub ends : options.ends ≡ is_set (first_of (codes "ends") rows)
   pub dot : options.dot ≡ is_set (first_of (codes "dot") rows)
   pub profile : option_map (λ s. s.now) options.profile ≡ first_of (codes "profile") rows
   pub threads : Says (first_of (codes "threads") rows) options.threads
@@ -274,6 +275,10 @@ agrees_how options =
     && ((asks_threads options || not (options.message || (options.hold || options.loss)))
     && (asks_message options || not (is_some options.badge)))))
 
+-- `--ends` goes not with `--witness`
+abbrev pub agrees_orders : Options → Bool
+agrees_orders options = not (options.ends && is_some options.witness) && agrees_how options
+
 -- the options go together: `--ever` and `--never` not with each other, and not with `--slot`; `--slot` not with `--without`; `--names`
 -- not with `--how` or `--witness`; `--messages` needs one of the first two, and `--by` needs `--never` or a question of messages;
 -- `--draft` needs `--ever`, and goes not with `--names`; `--policy` goes with none of these
@@ -287,7 +292,7 @@ agrees options =
     && (((is_some options.never || asks_message options) || not (is_some options.by))
     && (not (options.draft && (not options.ever || options.names))
     && (not (is_some options.policy && (is_of_parts options || (is_some options.slot || (is_some options.without || options.names))))
-    && agrees_how options)))))))
+    && agrees_orders options)))))))
 
 -- the matches of the subcommand that is met
 abbrev pub own_rows : Option (Text × List Row) → List Row

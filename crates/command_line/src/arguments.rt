@@ -76,6 +76,8 @@ pub struct Options<'a> {
     pub states: Option<u64>,
     /// `--witness` of `explore`: the order whose set-up is written, by the report's name of what it tells.
     pub witness: Option<&'a str>,
+    /// Whether `--ends` of `explore` is there: clients that share nothing are explored group by group.
+    pub ends: bool,
     /// Whether `--dot` of `tree` is there: a graph is asked for.
     pub dot: bool,
     /// `--profile` of `new`: the machine.

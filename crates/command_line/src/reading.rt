@@ -4,7 +4,7 @@ ghost use Rattle.std.specs.Str.{bytes_eq};
 ghost use Rattle.clap.specs.Words.{App, Rule, app_of, fault_of, first_of, found_of, rows_of, subcommand_of, subcommand_rows_of, with_rule};
 ghost use Rattle.clap.specs.Values.{kind_of};
 ghost use Rattle.clap.specs.Walk.{texts};
-ghost use Rattle.command_line.specs.CommandLine.{Explains, ExplainsMatches, Extends, HasOptions, IsArgument, IsCommand, Says, StandsFor, agrees, and_subcommand as and_command, audit_command, bare_command, check_command, command as definition, explore_command, file_asked, file_of, file_rule, files_of, flag_rule, import_command, is_set, job_asked, job_named, job_of, lists_one as lists_one_definition, marks_command, more_behind as more_behind_definition, more_files_in, more_files_rule, more_given, new_command, number_rule, own_rows, plain_command, reads_once, several_asked, several_of, text_rule, threads_command, trace_command, tree_command, version_rule, why_command, with_file as with_file_definition};
+ghost use Rattle.command_line.specs.CommandLine.{Explains, ExplainsMatches, Extends, HasOptions, IsArgument, IsCommand, Says, StandsFor, agrees, agrees_orders, and_subcommand as and_command, audit_command, bare_command, check_command, command as definition, explore_command, file_asked, file_of, file_rule, files_of, flag_rule, import_command, is_set, job_asked, job_named, job_of, lists_one as lists_one_definition, marks_command, more_behind as more_behind_definition, more_files_in, more_files_rule, more_given, new_command, number_rule, own_rows, plain_command, reads_once, several_asked, several_of, text_rule, threads_command, trace_command, tree_command, version_rule, why_command, with_file as with_file_definition};
 
 use crate::arguments::{Job, Line, LineFault, Options};
 use crate::how::{and_how, asks_message, conflict_of_how};
@@ -62,6 +62,8 @@ const SLOT_WITH_PARTS: &str = "--slot goes neither with --ever nor with --never"
 const SLOT_WITH_WITHOUT: &str = "--slot and --without do not go together";
 
 const NAMES_OF_A_SETUP: &str = "--names goes neither with --how nor with --witness";
+
+const ENDS_WITH_WITNESS: &str = "--ends and --witness do not go together";
 
 const MESSAGES_ALONE: &str = "--messages goes with --ever or --never alone";
 
@@ -303,7 +305,13 @@ fn explore<'a>(alloc: Global) -> Result<Command<'a>, AllocError>
         "Write the set-up of one order: I.J of answer J of call I, or stuck.J",
     );
     let with_witness = and_argument(with_states, witness);
-    and_argument(with_witness, by_names(alloc))
+    let ends = flag(
+        alloc,
+        "ends",
+        "Explore clients that share nothing apart from each other",
+    );
+    let with_ends = and_argument(with_witness, ends);
+    and_argument(with_ends, by_names(alloc))
 }
 
 /// The subcommand `tree`.
@@ -493,6 +501,7 @@ fn options_in<'a>(matches: &ArgMatches<'a>) -> Options<'a>
         first: number_given(matches, "first"),
         states: number_given(matches, "states"),
         witness: text_given(matches, "witness"),
+        ends: flag_given(matches, "ends"),
         dot: flag_given(matches, "dot"),
         profile: text_given(matches, "profile"),
         threads: number_given(matches, "threads"),
@@ -591,6 +600,7 @@ fn bare_line<'a>(alloc: Global, matches: &ArgMatches<'a>) -> Result<Line<'a>, Al
             first: None,
             states: None,
             witness: None,
+            ends: false,
             dot: false,
             profile: None,
             threads: None,
@@ -663,6 +673,17 @@ fn line_in<'a>(alloc: Global, matches: &ArgMatches<'a>) -> Result<Line<'a>, Allo
     }
 }
 
+/// What is said of options of orders, or of questions how, that do not go together.
+fn conflict_of_orders(options: &Options) -> Option<&'static str>
+    ensures { is_some result ≡ not (agrees_orders options.now) }
+{
+    if options.ends && options.witness.is_some() {
+        Some(ENDS_WITH_WITNESS)
+    } else {
+        conflict_of_how(options)
+    }
+}
+
 /// What is said of options that do not go together.
 fn conflict_of(options: &Options) -> Option<&'static str>
     ensures { is_some result ≡ not (agrees options.now) }
@@ -687,7 +708,7 @@ fn conflict_of(options: &Options) -> Option<&'static str>
     {
         Some(POLICY_ALONE)
     } else {
-        conflict_of_how(options)
+        conflict_of_orders(options)
     }
 }
 

@@ -1,5 +1,5 @@
 -- Which text and which verdict each job has, by its options, for the bytes of an input.
-use Rattle.std.specs.Prelude.{◌≡◌, ℕ, List, Option, Some, None, option_map, is_some, unwrap_or, cond, MatchBool}
+use Rattle.std.specs.Prelude.{◌≡◌, ℕ, Bool, List, Option, Some, None, option_map, is_some, unwrap_or, cond, MatchBool}
 use Rattle.command_line.specs.declared.arguments.Job.{Job}
 use Rattle.command_line.specs.declared.arguments.Job.TheVariants.{Check, Trace, Threads, Migrate, Why, Audit, Explore, Tree, New, Marks, Import}
 use Rattle.command_line.specs.declared.arguments.Options.{Options}
@@ -15,7 +15,7 @@ use Rattle.command_policy_draft.specs.Drafts.{IsDraft}
 use Rattle.command_policy_how.specs.Told.{IsBreachHow}
 use Rattle.command_import.specs.Import.{IsImported}
 use Rattle.command_never.specs.Never.{Asked, IsNever}
-use Rattle.command_explore.specs.Explorations.{IsExploration}
+use Rattle.command_explore.specs.Explorations.{IsExploration, IsGroupsExploration}
 use Rattle.command_how_witness.specs.declared.asked.Happening.{Happening}
 use Rattle.command_how_witness.specs.declared.asked.Happening.TheVariants.{Message, Hold, Loss}
 use Rattle.command_how.specs.How.{Words, IsHow}
@@ -124,10 +124,15 @@ first_calls_of options = unwrap_or options.first 0
 abbrev pub states_of : Options → ℕ
 states_of options = unwrap_or options.states 100000
 
--- the report on every order, or, with `--witness`, the set-up of the order that its text names
+-- the report on every order, or, with `--ends`, on those of each group of clients
+abbrev pub IsOrdersAnswer : Bool → ℕ → ℕ → Bool → List ℕ → List ℕ → Verdict → Type 0
+IsOrdersAnswer ends first states by_name input text verdict =
+    MatchBool ends (IsAnswerTo (IsGroupsExploration first states by_name) input text verdict) (IsAnswerTo (IsExploration first states by_name) input text verdict)
+
+-- or, with `--witness`, the set-up of the order that its text names
 abbrev pub IsExploreAnswer : Options → Option (List ℕ) → List ℕ → List ℕ → Verdict → Type 0
-IsExploreAnswer options None input text verdict = IsAnswerTo (IsExploration (first_calls_of options) (states_of options) options.names) input text verdict
-IsExploreAnswer options (Some which) input text verdict = IsNamedWitness which (first_calls_of options) (states_of options) input text verdict
+IsExploreAnswer options None = IsOrdersAnswer options.ends (first_calls_of options) (states_of options) options.names
+IsExploreAnswer options (Some which) = IsNamedWitness which (first_calls_of options) (states_of options)
 
 abbrev pub IsExplorationBy : Options → List ℕ → List ℕ → Verdict → Type 0
 IsExplorationBy options = IsExploreAnswer options (option_map (λ s. s.now) options.witness)

@@ -2,7 +2,7 @@
 ghost use Rattle.std.specs.Prelude.{◌≡◌, ◌≢◌, IfErr, IfOk, map, option_map};
 ghost use Rattle.command_line.specs.declared.arguments.Job.TheVariants.{Threads};
 ghost use Rattle.command_check.specs.Commands.{IsAnswerTo, IsStateAnswer};
-ghost use Rattle.program.specs.Jobs.{IsAudit, IsAuditByHow, IsAuditNow, IsAuditOfEver, IsAuditOfParts, IsAuditOfState, IsCheck, IsExplorationBy, IsHeld, by_of, form_of as form_of_options, happening_in, how_of, messages_of, question_of, trust_of, without_of};
+ghost use Rattle.program.specs.Jobs.{IsAudit, IsAuditByHow, IsAuditNow, IsAuditOfEver, IsAuditOfParts, IsAuditOfState, IsCheck, IsExplorationBy, IsHeld, IsOrdersAnswer, by_of, form_of as form_of_options, happening_in, how_of, messages_of, question_of, trust_of, without_of};
 ghost use Rattle.program.specs.NewWords.{IsNewOf};
 ghost use Rattle.program.specs.WitnessWords.{IsNamedWitness};
 ghost use Rattle.command_never.specs.Never.{IsNever};
@@ -16,7 +16,7 @@ use crate::witness::witness_named;
 use command_audit::{SlotAudit, StateAudit};
 use command_check::{Command, Migrator, OnSetup};
 use command_core::{Answer, Engine, RunFault};
-use command_explore::{Explore, ExploreOptions, WriteWitness};
+use command_explore::{Explore, ExploreGroups, ExploreOptions, WriteWitness};
 use command_files::{FileCheck, NamedCheck};
 use command_how::{Happening, How};
 use command_import::{Importer, Reading};
@@ -350,6 +350,24 @@ fn make_witness(
     on_setup(alloc, WriteWitness { options, witness }, input)
 }
 
+/// The report on every order, of all clients or of each group by itself.
+fn make_orders(
+    alloc: Global,
+    options: ExploreOptions,
+    ends: bool,
+    names: bool,
+    input: &[u8],
+) -> Result<Answer, RunFault>
+    ensures made { IfOk result (λ made. IsOrdersAnswer ends options.first options.states names input.now made.text.items made.verdict) }
+    ensures memory { IfErr result (λ fault. fault ≡ RunFault.Memory) }
+{
+    if ends {
+        on_setup(alloc, ExploreGroups { options, names }, input)
+    } else {
+        on_setup(alloc, Explore { options, names }, input)
+    }
+}
+
 fn make_exploration(alloc: Global, options: Options<'_>, input: &[u8]) -> Result<Answer, RunFault>
     ensures made { IfOk result (λ made. IsExplorationBy options.entry input.now made.text.items made.verdict) }
     ensures memory { IfErr result (λ fault. fault ≡ RunFault.Memory) }
@@ -359,13 +377,7 @@ fn make_exploration(alloc: Global, options: Options<'_>, input: &[u8]) -> Result
         states: options.states.unwrap_or(MOST_STATES),
     };
     match options.witness {
-        None => {
-            let explore = Explore {
-                options: asked,
-                names: options.names,
-            };
-            on_setup(alloc, explore, input)
-        }
+        None => make_orders(alloc, asked, options.ends, options.names, input),
         Some(which) => make_witness(alloc, asked, which, input),
     }
 }

@@ -28,7 +28,7 @@ use Rattle.command_explore_text.specs.declared.witness.Witness.TheVariants as wi
 use Rattle.command_explore_text.specs.Clients.{calls_of_client, calls_of_each, first_clients}
 use Rattle.command_explore_text.specs.Laws.{begins}
 use Rattle.command_explore_text.specs.Numbers.{client_numbers_of}
-use Rattle.command_explore_text.specs.Report.{exploration}
+use Rattle.command_explore_text.specs.Report.{exploration, exploration_from}
 use Rattle.command_explore_text.specs.Text.{is_answer_of}
 use Rattle.command_explore_text.specs.Witnesses.{answer_numbered, stuck_numbered}
 use Rattle.command_explore_text.specs.Replays.{called, replayed_calls, run_replies, run_end, run_world, client_replies, reply_at, EndsWith, is_shown_waiting, waits_at_end, ComesToAnswer, EndsStuck, MakesOrder, explored, IsWitnessReplayed}
@@ -229,13 +229,13 @@ reached setup lawful order =
     }
 
 explored_told : (setup : SetupView) (first limit : ℕ) → IsPlan setup.profile setup.plan → Each (Told setup.profile (calls_of_each setup) (boot setup.profile setup.plan)) (explored setup first limit).answers
-unfolding exploration
+unfolding exploration exploration_from
 explored_told setup first limit lawful =
     answers_told setup.profile (calls_of_each setup) (boot setup.profile setup.plan) (reached setup lawful) answer_eq.ghosts.eq (first_clients setup first)
     (depth setup.profile (calls_of_each setup) (begins setup.profile setup) (first_clients setup first) limit (length setup.calls + 1))
 
 explored_stuck : (setup : SetupView) (first limit : ℕ) → Each (ToldStuck setup.profile (calls_of_each setup) (boot setup.profile setup.plan)) (explored setup first limit).stuck
-unfolding exploration
+unfolding exploration exploration_from
 explored_stuck setup first limit =
     stuck_told setup.profile (calls_of_each setup) (boot setup.profile setup.plan) same_left (first_clients setup first)
     (depth setup.profile (calls_of_each setup) (begins setup.profile setup) (first_clients setup first) limit (length setup.calls + 1))

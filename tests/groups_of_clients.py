@@ -1,0 +1,144 @@
+#!/usr/bin/env python3
+"""groups_of_clients.py PROGRAM COUNT [SEED]: what `explore --ends` tells of COUNT random set-ups, beside what `explore` tells of them.
+
+A set-up has five threads, four clients and four endpoints, and its calls send and receive, in either profile; some words lead to no
+endpoint, and of some set-ups calls are made first. Which clients form a group is worked out here, from the calls, and from the threads
+that wait behind the first calls, as `check` tells them. Each call has the same answers by both reports, the same expectations are met,
+the ends of the groups make the ends of all, and some order of all clients ends stuck just where one of a group does. Where a call of
+another operation is left, all clients are one group, and both tell the same states.
+
+In the end two set-ups whose clients form more than one group are compared with each other, and have to differ.
+"""
+import concurrent.futures
+import itertools
+import json
+import math
+import os
+import random
+import re
+import subprocess
+import sys
+
+THREADS, ENDPOINTS, CLIENTS, MOST_CALLS = 5, 4, 4, 3
+FIRST_TCB = {"wide": 2048, "narrow": 1024}
+MESSAGES = ["send", "nbsend", "recv", "nbrecv"]
+EXPECTATIONS = ["waiting", "delivered", "dropped", "empty"]
+GROUP = re.compile(r"(?m)^clients((?: \d+)+) states (\d+) ends (\d+) orders (\d+) stuck (\d+)$")
+WAITS = re.compile(r"(?m)^thread (\d+) (?:sending|receiving) (\d+)")
+
+
+def run(program, words, text):
+    done = subprocess.run([program, *words], input=text.encode(), capture_output=True, timeout=600)
+    return done.returncode, done.stdout.decode()
+
+
+def text_of(profile, calls):
+    lines = ["format = 2", f'profile = "{profile}"', "memory_bits = 16", "root_radix = 4", f"threads = {THREADS}",
+             f"endpoints = {ENDPOINTS}", f"clients = {CLIENTS}"]
+    for call in calls:
+        lines += ["[[call]]", *(f"{key} = {json.dumps(value)}" for key, value in call.items())]
+    return "".join(f"{line}\n" for line in lines)
+
+
+def drawn(draw):
+    """Calls of clients that mostly keep to an endpoint or two each, and how many of them are made first."""
+    profile = draw.choice(["wide", "narrow"])
+    calls = []
+    for client in range(CLIENTS):
+        own = [draw.randrange(THREADS), *([draw.randrange(THREADS)] if draw.random() < 0.2 else [])]
+        used = [draw.randrange(ENDPOINTS), *([draw.randrange(ENDPOINTS)] if draw.random() < 0.3 else [])]
+        for _ in range(draw.randint(1, MOST_CALLS)):
+            op = draw.choice(MESSAGES)
+            slot = 2 + THREADS + draw.choice(used) if draw.random() < 0.9 else draw.choice([2, 14])
+            call = {"client": client, "thread": FIRST_TCB[profile] * (1 + draw.choice(own)), "op": op, "cap": slot}
+            call |= {"label": draw.randrange(4)} if "send" in op else {}
+            call |= {"expect": draw.choice(EXPECTATIONS)} if draw.random() < 0.4 else {}
+            calls.append(call)
+    draw.shuffle(calls)
+    if draw.random() < 0.1:
+        calls.append({"client": 0, "thread": FIRST_TCB[profile], "op": "suspend", "cap": 3})
+    return profile, calls, draw.choice([0, 0, 0, 1, 2, 4])
+
+
+def joined(touched):
+    """Clients that touch one thing, directly or through others, as a set of sorted lists."""
+    groups = [({client}, set(things)) for client, things in enumerate(touched)]
+    for one, other in itertools.combinations(range(len(groups)), 2):
+        if groups[one] is not groups[other] and groups[one][1] & groups[other][1]:
+            both = groups[one][0] | groups[other][0], groups[one][1] | groups[other][1]
+            groups = [both if it is groups[one] or it is groups[other] else it for it in groups]
+    return {tuple(sorted(clients)) for clients, _ in groups}
+
+
+def groups_of(program, profile, calls, first):
+    """Which clients form a group, worked out from the calls that are left, and from who waits behind the first ones."""
+    left = calls[first:]
+    if any(call["op"] not in MESSAGES for call in left):
+        return {tuple(range(CLIENTS))}
+    _, report = run(program, ["check", "-"], text_of(profile, calls[:first]) if first else text_of(profile, []))
+    waits = {int(thread): int(endpoint) for thread, endpoint in WAITS.findall(report)}
+    endpoints = [2 + THREADS + n for n in range(ENDPOINTS)]
+    bases = {slot: base for slot, base in zip(endpoints, sorted({int(it) for it in re.findall(r"(?m)^endpoint (\d+)", report)}))}
+    touched = [set() for _ in range(CLIENTS)]
+    for call in left:
+        thread = call["thread"]
+        touched[call["client"]] |= {("endpoint", waits[thread]) if thread in waits else ("thread", thread)}
+        touched[call["client"]] |= {("endpoint", bases[call["cap"]])} if call["cap"] in bases else set()
+    replies = re.findall(r"(?m)^\d+ \d+ \w+: (\w+)", report)
+    # The last call of a thread that was answered that it waits is the one that does.
+    waiting = {call["thread"]: call["client"] for call, reply in zip(calls, replies) if reply == "waiting" and call["thread"] in waits}
+    for thread, client in waiting.items():
+        touched[client] |= {("endpoint", waits[thread])}
+    return joined(touched)
+
+
+def answers_of(report):
+    """Of each call its mark, and its answers whatever the order is that is told of each."""
+    found = {}
+    for head, line in re.findall(r"(?m)^(\d+ client .*)$|^  (\d+\.\d+ .*)$", report):
+        if head:
+            found[head] = answers = set()
+        else:
+            answers.add(re.sub(r" \[not met\] by.*", "", line.split(" ", 1)[1]))
+    return found
+
+
+def faults(program, profile, calls, first):
+    """What is wrong, how many groups there are, and what both tell of calls."""
+    text = text_of(profile, calls)
+    status, whole = run(program, ["explore", "--first", str(first), "-"], text)
+    status_by_groups, report = run(program, ["explore", "--ends", "--first", str(first), "-"], text)
+    groups = [([int(it) for it in clients.split()], *map(int, counts)) for clients, *counts in GROUP.findall(report)]
+    wanted = groups_of(program, profile, calls, first)
+    ends = int(re.search(r"(?m)^states \d+ ends (\d+)$", whole)[1])
+    stuck = int(re.search(r"(?m)^orders \d+ stuck (\d+)$", whole)[1])
+    wrong = []
+    wrong += ["the groups"] if {tuple(clients) for clients, *_ in groups} != wanted else []
+    wrong += ["the answers"] if answers_of(whole) != answers_of(report) else []
+    wrong += ["the ends"] if math.prod(count for _, _, count, _, _ in groups) != ends else []
+    wrong += ["what ends stuck"] if (stuck > 0) != any(it[4] for it in groups) or (stuck > 0) != ("\nstuck.1 by" in report) else []
+    wrong += ["expectations"] if whole.splitlines()[-1] != report.splitlines()[-1] or status != status_by_groups else []
+    if len(groups) == 1 and [f"states {groups[0][1]} ends", f"orders {groups[0][3]} stuck"] != [
+            " ".join(line.split()[:3]) for line in whole.splitlines()[-3:-1]]:
+        wrong.append("the states of one group")
+    return wrong, len(groups), answers_of(report)
+
+
+def main():
+    program, count = sys.argv[1], int(sys.argv[2])
+    draw = random.Random(int(sys.argv[3]) if len(sys.argv) > 3 else 1)
+    asked = [drawn(draw) for _ in range(count)]
+    with concurrent.futures.ThreadPoolExecutor(len(os.sched_getaffinity(0))) as pool:
+        done = list(pool.map(lambda it: faults(program, *it), asked))
+    wrong = 0
+    for (profile, calls, first), (found, _, _) in zip(asked, done):
+        if found:
+            wrong += 1
+            print(text_of(profile, calls) + f"# --first {first}: " + ", ".join(found) + "\n")
+    several = [told for _, number, told in done if number > 1]
+    print(f"groups of clients: {len(asked)} set-ups, {len(several)} with more than one group, {wrong} differ")
+    return 0 if not wrong and len(several) > 1 and several[0] != several[1] else 1
+
+
+if __name__ == "__main__":
+    sys.exit(main())
