@@ -52,7 +52,7 @@ complete -c sel4sim -n '__fish_use_subcommand' -a explore -d 'Runs the clients o
 complete -c sel4sim -n '__fish_seen_subcommand_from explore' -l first -x -a '' -d 'Make the first N calls before the clients begin'
 complete -c sel4sim -n '__fish_seen_subcommand_from explore' -l states -x -a '' -d 'Keep at most N states'
 complete -c sel4sim -n '__fish_seen_subcommand_from explore' -l witness -x -a '' -d 'Write the set-up of one order: I.J of answer J of call I, or stuck.J'
-complete -c sel4sim -n '__fish_seen_subcommand_from explore' -l ends -d 'Explore clients that share nothing apart from each other'
+complete -c sel4sim -n '__fish_seen_subcommand_from explore' -l ends -d 'Explore clients separately where they share no thread and no endpoint'
 complete -c sel4sim -n '__fish_seen_subcommand_from explore' -l names -d 'Tell objects by their names, in place of their addresses'
 complete -c sel4sim -n '__fish_seen_subcommand_from explore' -s h -l help -d 'Print help'
 complete -c sel4sim -n '__fish_seen_subcommand_from explore' -F

@@ -1,5 +1,6 @@
-//! The report on every order of the calls that the clients of a set-up make: for each call what it comes to, each way to end
-//! stuck, and how many states and orders there are. And set-ups that make the calls of one of these orders.
+//! The report on every order of the calls that the clients of a set-up make, of all clients or of each group that shares nothing
+//! with the others: for each call what it comes to, each way to end stuck, and how many states and orders there are. And set-ups
+//! that make the calls of one of these orders.
 #![tactic(auto)]
 
 mod answers;

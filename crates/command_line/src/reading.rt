@@ -308,7 +308,7 @@ fn explore<'a>(alloc: Global) -> Result<Command<'a>, AllocError>
     let ends = flag(
         alloc,
         "ends",
-        "Explore clients that share nothing apart from each other",
+        "Explore clients separately where they share no thread and no endpoint",
     );
     let with_ends = and_argument(with_witness, ends);
     and_argument(with_ends, by_names(alloc))

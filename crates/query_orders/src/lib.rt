@@ -2,7 +2,8 @@
 //! these orders.
 //!
 //! Which orders there are and where one ends are definitions and laws over the abstract kernel. The exploration (`exploring`) goes
-//! over any store and waiting threads, and tells states apart by what a kernel shows, as words (`words`).
+//! over any store and waiting threads, and tells states apart by what a kernel shows, as words (`words`). Clients that share
+//! no thread and no endpoint form groups, each of which can be explored by itself (`groups`).
 #![tactic(auto)]
 
 pub mod answer;
