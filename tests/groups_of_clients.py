@@ -16,8 +16,9 @@ import math
 import os
 import random
 import re
-import subprocess
 import sys
+
+from orders_one_by_one import run
 
 THREADS, ENDPOINTS, CLIENTS, MOST_CALLS = 5, 4, 4, 3
 FIRST_TCB = {"wide": 2048, "narrow": 1024}
@@ -25,11 +26,6 @@ MESSAGES = ["send", "nbsend", "recv", "nbrecv"]
 EXPECTATIONS = ["waiting", "delivered", "dropped", "empty"]
 GROUP = re.compile(r"(?m)^clients((?: \d+)+) states (\d+) ends (\d+) orders (\d+) stuck (\d+)$")
 WAITS = re.compile(r"(?m)^thread (\d+) (?:sending|receiving) (\d+)")
-
-
-def run(program, words, text):
-    done = subprocess.run([program, *words], input=text.encode(), capture_output=True, timeout=600)
-    return done.returncode, done.stdout.decode()
 
 
 def text_of(profile, calls):

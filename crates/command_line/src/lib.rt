@@ -2,6 +2,7 @@
 #![tactic(auto)]
 
 mod arguments;
+mod conflicts;
 mod how;
 mod reading;
 

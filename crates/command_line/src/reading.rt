@@ -4,10 +4,11 @@ ghost use Rattle.std.specs.Str.{bytes_eq};
 ghost use Rattle.clap.specs.Words.{App, Rule, app_of, fault_of, first_of, found_of, rows_of, subcommand_of, subcommand_rows_of, with_rule};
 ghost use Rattle.clap.specs.Values.{kind_of};
 ghost use Rattle.clap.specs.Walk.{texts};
-ghost use Rattle.command_line.specs.CommandLine.{Explains, ExplainsMatches, Extends, HasOptions, IsArgument, IsCommand, Says, StandsFor, agrees, agrees_orders, and_subcommand as and_command, audit_command, bare_command, check_command, command as definition, explore_command, file_asked, file_of, file_rule, files_of, flag_rule, import_command, is_set, job_asked, job_named, job_of, lists_one as lists_one_definition, marks_command, more_behind as more_behind_definition, more_files_in, more_files_rule, more_given, new_command, number_rule, own_rows, plain_command, reads_once, several_asked, several_of, text_rule, threads_command, trace_command, tree_command, version_rule, why_command, with_file as with_file_definition};
+ghost use Rattle.command_line.specs.CommandLine.{Explains, ExplainsMatches, Extends, HasOptions, IsArgument, IsCommand, Says, StandsFor, agrees, and_subcommand as and_command, audit_command, bare_command, check_command, command as definition, explore_command, file_asked, file_of, file_rule, files_of, flag_rule, import_command, is_set, job_asked, job_named, job_of, lists_one as lists_one_definition, marks_command, more_behind as more_behind_definition, more_files_in, more_files_rule, more_given, new_command, number_rule, own_rows, plain_command, reads_once, several_asked, several_of, text_rule, threads_command, trace_command, tree_command, version_rule, why_command, with_file as with_file_definition};
 
 use crate::arguments::{Job, Line, LineFault, Options};
-use crate::how::{and_how, asks_message, conflict_of_how};
+use crate::conflicts::conflict_of;
+use crate::how::and_how;
 use clap::builder::ValueParser;
 use clap::error::ErrorKind;
 use clap::{Arg, ArgAction, ArgMatches, Command, Error};
@@ -53,25 +54,6 @@ Exit status:
   4  the command line is refused, or names what the set-up does not have
 
 Pages: docs/first-set-up.md, and below the installation share/doc/sel4sim";
-
-/// What is said of words that do not go together.
-const EVER_WITH_NEVER: &str = "--ever and --never do not go together";
-
-const SLOT_WITH_PARTS: &str = "--slot goes neither with --ever nor with --never";
-
-const SLOT_WITH_WITHOUT: &str = "--slot and --without do not go together";
-
-const NAMES_OF_A_SETUP: &str = "--names goes neither with --how nor with --witness";
-
-const ENDS_WITH_WITNESS: &str = "--ends and --witness do not go together";
-
-const MESSAGES_ALONE: &str = "--messages goes with --ever or --never alone";
-
-const BY_ALONE: &str = "--by goes with --never alone, and with --how for messages";
-
-const DRAFT_ALONE: &str = "--draft goes with --ever alone, and not with --names";
-
-const POLICY_ALONE: &str = "--policy goes with --after, --how and --states alone";
 
 /// What is said where standard input is named twice.
 const TWO_HYPHENS: &str = "- stands for standard input, which can be read once";
@@ -670,45 +652,6 @@ fn line_in<'a>(alloc: Global, matches: &ArgMatches<'a>) -> Result<Line<'a>, Allo
     match matches.subcommand() {
         None => bare_line(alloc, matches),
         Some((name, inner)) => subcommand_line(alloc, matches, name, inner),
-    }
-}
-
-/// What is said of options of orders, or of questions how, that do not go together.
-fn conflict_of_orders(options: &Options) -> Option<&'static str>
-    ensures { is_some result ≡ not (agrees_orders options.now) }
-{
-    if options.ends && options.witness.is_some() {
-        Some(ENDS_WITH_WITNESS)
-    } else {
-        conflict_of_how(options)
-    }
-}
-
-/// What is said of options that do not go together.
-fn conflict_of(options: &Options) -> Option<&'static str>
-    ensures { is_some result ≡ not (agrees options.now) }
-{
-    let is_of_parts = options.ever || options.never.is_some();
-    if options.ever && options.never.is_some() {
-        Some(EVER_WITH_NEVER)
-    } else if is_of_parts && options.slot.is_some() {
-        Some(SLOT_WITH_PARTS)
-    } else if options.slot.is_some() && options.without.is_some() {
-        Some(SLOT_WITH_WITHOUT)
-    } else if (options.how.is_some() || options.witness.is_some()) && options.names {
-        Some(NAMES_OF_A_SETUP)
-    } else if !is_of_parts && options.messages.is_some() {
-        Some(MESSAGES_ALONE)
-    } else if options.never.is_none() && !asks_message(options) && options.by.is_some() {
-        Some(BY_ALONE)
-    } else if options.draft && (!options.ever || options.names) {
-        Some(DRAFT_ALONE)
-    } else if options.policy.is_some()
-        && (is_of_parts || options.slot.is_some() || options.without.is_some() || options.names)
-    {
-        Some(POLICY_ALONE)
-    } else {
-        conflict_of_orders(options)
     }
 }
 

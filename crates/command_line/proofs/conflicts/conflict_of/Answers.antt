@@ -1,7 +1,7 @@
 -- Options that do not go together are told of.
 use Rattle.std.proofs.Common.{rules}
 use Rattle.command_line.specs.CommandLine.{agrees}
-use Rattle.command_line.proofs.reading.conflict_of.Goals as goal
+use Rattle.command_line.proofs.conflicts.conflict_of.Goals as goal
 
 pub returns-then-is_some : goal.returns-then-is_some
 unfolding agrees

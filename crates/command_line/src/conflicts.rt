@@ -1,0 +1,64 @@
+//! Options that do not go together.
+ghost use Rattle.std.specs.Prelude.{◌≡◌, not, is_some};
+ghost use Rattle.command_line.specs.CommandLine.{agrees, agrees_orders};
+
+use crate::arguments::Options;
+use crate::how::{asks_message, conflict_of_how};
+
+/// What is said of words that do not go together.
+const EVER_WITH_NEVER: &str = "--ever and --never do not go together";
+
+const SLOT_WITH_PARTS: &str = "--slot goes neither with --ever nor with --never";
+
+const SLOT_WITH_WITHOUT: &str = "--slot and --without do not go together";
+
+const NAMES_OF_A_SETUP: &str = "--names goes neither with --how nor with --witness";
+
+const ENDS_WITH_WITNESS: &str = "--ends and --witness do not go together";
+
+const MESSAGES_ALONE: &str = "--messages goes with --ever or --never alone";
+
+const BY_ALONE: &str = "--by goes with --never alone, and with --how for messages";
+
+const DRAFT_ALONE: &str = "--draft goes with --ever alone, and not with --names";
+
+const POLICY_ALONE: &str = "--policy goes with --after, --how and --states alone";
+
+/// What is said of options of orders, or of questions how, that do not go together.
+fn conflict_of_orders(options: &Options) -> Option<&'static str>
+    ensures { is_some result ≡ not (agrees_orders options.now) }
+{
+    if options.ends && options.witness.is_some() {
+        Some(ENDS_WITH_WITNESS)
+    } else {
+        conflict_of_how(options)
+    }
+}
+
+/// What is said of options that do not go together.
+pub fn conflict_of(options: &Options) -> Option<&'static str>
+    ensures { is_some result ≡ not (agrees options.now) }
+{
+    let is_of_parts = options.ever || options.never.is_some();
+    if options.ever && options.never.is_some() {
+        Some(EVER_WITH_NEVER)
+    } else if is_of_parts && options.slot.is_some() {
+        Some(SLOT_WITH_PARTS)
+    } else if options.slot.is_some() && options.without.is_some() {
+        Some(SLOT_WITH_WITHOUT)
+    } else if (options.how.is_some() || options.witness.is_some()) && options.names {
+        Some(NAMES_OF_A_SETUP)
+    } else if !is_of_parts && options.messages.is_some() {
+        Some(MESSAGES_ALONE)
+    } else if options.never.is_none() && !asks_message(options) && options.by.is_some() {
+        Some(BY_ALONE)
+    } else if options.draft && (!options.ever || options.names) {
+        Some(DRAFT_ALONE)
+    } else if options.policy.is_some()
+        && (is_of_parts || options.slot.is_some() || options.without.is_some() || options.names)
+    {
+        Some(POLICY_ALONE)
+    } else {
+        conflict_of_orders(options)
+    }
+}
