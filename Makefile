@@ -118,12 +118,12 @@ page-test: $(if $(traces),,run)
 needs:
 	bench/needs.sh
 
-# measures the program and its parts beside plain Rust (docs/performance.md)
+# measures the program beside plain Rust and SPIN (docs/performance.md); PARTS="commands spin": these alone, to try them
 bench: needs run
 	cd bench/check_plain && CARGO_TARGET_DIR=out/target cargo build --release --quiet
 	python3 bench/same_reports.py $(plain) $(setups)
-	python3 bench/growth.py $(program) $(plain)
-	python3 bench/draw.py
+	python3 bench/growth.py $(program) $(plain) $(PARTS)
+	$(if $(PARTS),,python3 bench/draw.py)
 
 # tries every wrong body; CRATE=NAME: those of one crate, JOBS=N: N crates side by side
 wrong-bodies:

@@ -10,10 +10,11 @@ import re
 
 PATH = pathlib.Path(__file__).parent.parent / "docs" / "performance.csv"
 
-# The instructions of a run and of its parts, where these were told apart; its processor seconds; and its peak memory.
+# The instructions of a run and of its parts, where these were told apart; its processor seconds, or the limit that
+# ended it; its peak memory; the bytes that it wrote; and how many states it found, and steps between them.
 COUNTS = ["instructions", "reading", "booting", "running", "reporting"]
-FIELDS = ["subject", "size", "program", *COUNTS, "seconds", "peak_kib"]
-TEXTS = ["subject", "program"]
+FIELDS = ["subject", "size", "program", *COUNTS, "seconds", "peak_kib", "limit", "written", "states", "steps"]
+TEXTS = ["subject", "program", "limit"]
 
 
 def machine():

@@ -1,19 +1,27 @@
-"""growth.py PROGRAM PLAIN: measures how cost grows with the work, of the proved PROGRAM beside the same in plain Rust
-(PLAIN, the built program of bench/check_plain): of `check` for the set-ups of set_ups.py, at four sizes each, and of
-the kernel's steps and revocations, and of kernels that clients share; and of `audit` beside the report of `check`. Both
-programs have to write the same report, byte for byte. Measures by themselves `explore`, and `audit --ever` of endpoints
-that a thread has. Writes docs/performance.csv."""
+"""growth.py PROGRAM PLAIN [PART..]: measures how cost grows with the work, of the proved PROGRAM beside the same in
+plain Rust (PLAIN, the built program of bench/check_plain), and writes docs/performance.csv. The parts:
+
+- `cycles`, `shared`: the kernel's steps and revocations, and kernels that clients share;
+- `check`: `check` of the set-ups of set_ups.py, at four sizes each. Both programs have to write the same report, byte
+  for byte. Also `audit` beside the report;
+- `commands`: all commands on set-ups that grow in one direction each, by themselves;
+- `explorations`, `spin`: `explore`, by itself and beside SPIN.
+
+Where parts are named, they alone are measured, and nothing is written."""
 
 import pathlib
 import sys
 import tempfile
+import time
 
+import commands
 import cycles
 import explorations
 import figures
 import set_ups
 import shared
 from measures import counts_of_functions, instructions, least_seconds, output, peak_kib
+from spin import beside
 
 # The functions whose instructions, with those of what they call, are a part of a run.
 WHOLE = "program::work::WorkEngine::make"
@@ -69,29 +77,18 @@ def whole(command):
     return {"instructions": instructions(command)}
 
 
-def held_rows(proved, path):
-    """Audits with `--ever` of a thread that only passes messages, by how many endpoints it has: each one is a use."""
-    for size in set_ups.HELD:
-        path.write_text(set_ups.held_endpoints(size))
-        command = [proved, "audit", "--ever", "--without", set_ups.MAKER, path]
-        assert output(command).count(b"  use ") == size, f"{size} endpoints: a use is missing"
-        (time,) = least_seconds([command])
-        costs = {"seconds": f"{time:.6f}", "peak_kib": peak_kib(command)}
-        yield {"subject": "audits, ever, held endpoints", "size": size, "program": "proved", **whole(command), **costs}
-
-
 def counters(subject):
     # To tell the parts apart takes some three times as long, and the parts are the same however the calls are spelt.
     return (whole, whole) if subject.endswith("headers") else (proved_parts, plain_parts)
 
 
 def check_rows(proved, plain, path, subject, size):
-    commands = [[program, "check", path] for program in (proved, plain)]
-    reports = [output(command) for command in commands]
+    runs = [[program, "check", path] for program in (proved, plain)]
+    reports = [output(command) for command in runs]
     assert reports[0] == reports[1], f"{subject}, {size}: the reports differ"
-    times = least_seconds(commands)
-    for name, command, count, time in zip(("proved", "plain Rust"), commands, counters(subject), times):
-        costs = {"seconds": f"{time:.6f}", "peak_kib": peak_kib(command)}
+    times = least_seconds(runs)
+    for name, command, count, seconds in zip(("proved", "plain Rust"), runs, counters(subject), times):
+        costs = {"seconds": f"{seconds:.6f}", "peak_kib": peak_kib(command)}
         yield {"subject": subject, "size": size, "program": name, **count(command), **costs}
 
 
@@ -104,20 +101,33 @@ def growth_rows(proved, plain):
                 yield from check_rows(proved, plain, path, subject, size)
                 if subject in AUDITED:
                     yield from audit_rows(proved, path, size)
-        yield from held_rows(proved, path)
 
 
-def told(rows):
-    """The rows as they are, each printed when it is there."""
+def told(part, rows):
+    """The rows of a part, each printed when it is there, and how long the part took."""
+    begun = time.monotonic()
     for row in rows:
         print("; ".join(f"{key} {value}" for key, value in row.items()), flush=True)
         yield row
+    print(f"{part}: {time.monotonic() - begun:.0f} seconds", flush=True)
+
+
+def parts(proved, plain):
+    return {
+        "cycles": cycles.rows(),
+        "shared": shared.rows(),
+        "check": growth_rows(proved, plain),
+        "commands": commands.rows(proved),
+        "explorations": explorations.rows(proved),
+        "spin": beside.rows(proved),
+    }
 
 
 def main():
-    proved, plain = sys.argv[1:]
-    beside_plain = [*told(cycles.rows()), *told(shared.rows()), *told(growth_rows(proved, plain))]
-    figures.write([*beside_plain, *told(explorations.rows(proved))])
+    proved, plain, *only = sys.argv[1:]
+    rows = [row for part, rows in parts(proved, plain).items() if part in only or not only for row in told(part, rows)]
+    if not only:
+        figures.write(rows)
 
 
 main()

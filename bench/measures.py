@@ -1,10 +1,14 @@
 """What a run of a program costs: instructions (counted by valgrind), processor seconds, and the most memory."""
 
+import contextlib
 import os
 import pathlib
 import re
+import resource
+import signal
 import subprocess
 import tempfile
+from typing import NamedTuple
 
 TIME = "/usr/bin/time"
 
@@ -48,13 +52,19 @@ def output(command):
     return subprocess.run(list(map(str, command)), check=True, capture_output=True).stdout
 
 
-def seconds(command):
-    """The processor seconds of one run, the program's and the system's."""
-    child = subprocess.Popen(list(map(str, command)), stdout=subprocess.DEVNULL)
+def waited(child):
+    """The processor seconds of a child that ends, its own and the system's."""
     _, status, usage = os.wait4(child.pid, 0)
     child.returncode = os.waitstatus_to_exitcode(status)
-    assert child.returncode == 0, f"{command} failed"
     return usage.ru_utime + usage.ru_stime
+
+
+def seconds(command):
+    """The processor seconds of one run."""
+    child = subprocess.Popen(list(map(str, command)), stdout=subprocess.DEVNULL)
+    taken = waited(child)
+    assert child.returncode == 0, f"{command} failed"
+    return taken
 
 
 def least_seconds(commands):
@@ -68,8 +78,51 @@ def least_seconds(commands):
     return least
 
 
-def peak_kib(command):
+def peak_kib(command, statuses=(0,)):
     """The most memory that a run had resident, in KiB. Of a child of this script, the script's own would count too."""
     timed = [TIME, "-f", "%M", *map(str, command)]
-    ran = subprocess.run(timed, check=True, stdout=subprocess.DEVNULL, stderr=subprocess.PIPE)
+    ran = subprocess.run(timed, stdout=subprocess.DEVNULL, stderr=subprocess.PIPE)
+    assert ran.returncode in statuses, f"{command} failed"
     return int(ran.stderr.split()[-1])
+
+
+# What a run may take where nobody knows how much it will be.
+MOST_SECONDS = 10
+MOST_BYTES = 1 << 30
+OUT_OF_MEMORY = b"out of memory"
+
+# The statuses of an answer: of a set-up, also that something is not as it was to be.
+ANSWERED = (0, 1)
+
+
+class Run(NamedTuple):
+    """What a run took, and how many bytes it wrote; or the limit that ended it."""
+
+    seconds: float
+    written: int
+    limit: str
+
+
+def limited(command, out, most_seconds=MOST_SECONDS):
+    """One run that writes to a file, with limits."""
+    with open(out, "wb") as file, tempfile.TemporaryFile() as notes:
+        child = subprocess.Popen(list(map(str, command)), stdout=file, stderr=notes)
+        with contextlib.suppress(ProcessLookupError):
+            resource.prlimit(child.pid, resource.RLIMIT_CPU, (most_seconds, most_seconds + 1))
+            resource.prlimit(child.pid, resource.RLIMIT_AS, (MOST_BYTES, MOST_BYTES))
+        taken = waited(child)
+        notes.seek(0)
+        said, written = notes.read(), file.tell()
+    if child.returncode in (-signal.SIGXCPU, -signal.SIGKILL):
+        return Run(taken, written, f"{most_seconds} s")
+    if OUT_OF_MEMORY in said:
+        return Run(taken, written, f"{MOST_BYTES >> 30} GB")
+    assert child.returncode in ANSWERED, f"{command} ended with {child.returncode}: {said.decode()}"
+    return Run(taken, written, "")
+
+
+def least_run(command, out, most_seconds=MOST_SECONDS):
+    """The least of three runs; one that takes long is made once."""
+    run = limited(command, out, most_seconds)
+    again = 0 if run.limit or run.seconds > ENOUGH_SECONDS else 2
+    return min([run, *(limited(command, out, most_seconds) for _ in range(again))])

@@ -1,5 +1,4 @@
-"""Set-ups that grow: the text of each, by its size. All are of the wide profile, and of format 1 but those that clients
-share."""
+"""Set-ups that grow: the text of each, by its size. All are of the wide profile and of format 1."""
 
 SLOT_BITS = 5
 TCB_BITS = 11
@@ -156,24 +155,6 @@ def forest(slots, deep):
     return inline(top(memory_bits, 4, 1, 1), regions, calls)
 
 
-# The boot thread that makes what another one has.
-MAKER = 2048
-
-
-def held_endpoints(slots):
-    """A thread whose CNode of so many slots is full, with an endpoint in each; another thread made them."""
-    radix = slots.bit_length() - 1
-    bits = max(radix + SLOT_BITS, 14)
-    cnode = (MAKER, "retype", {"cap": 5, "kind": 4, "size_bits": radix, "root": 1, "offset": 6, "count": 1})
-    endpoints = [
-        (MAKER, "retype", {"cap": 4, "kind": 2, "root": 6, "offset": first, "count": min(slots, MAX_COUNT)})
-        for first in range(0, slots, MAX_COUNT)
-    ]
-    space = (MAKER, "set_space", {"cap": 3, "root": 6})
-    regions = [(1 << (bits - 1), bits - 1), (1 << bits, bits)]
-    return inline(top(bits + 1, 4, 2, 0), regions, [cnode, *endpoints, space])
-
-
 # Each subject: its sizes, and its text by the size.
 CALLS = [1000, 4096, 16384, 65536]
 SUBJECTS = {
@@ -186,8 +167,9 @@ SUBJECTS = {
 }
 
 
-# How many endpoints the thread has that `audit --ever` tells of.
-HELD = [128, 512, 2048, 8192]
+def thread_of(client):
+    """The boot thread of a client, where the root CNode has 16 slots."""
+    return (client + 1) << TCB_BITS
 
 
 # What the clients of a set-up do in turn, each beginning elsewhere: they fill and empty the same three slots, and use
@@ -209,15 +191,19 @@ def mixed_call(client, number):
         "copy": {"cap": 1, "index": slot, "src_index": 6},
     }
     op = MIXED[(number + 2 * client) % len(MIXED)]
-    return 2048 * (client + 1), op, words[op]
+    return thread_of(client), op, words[op]
+
+
+def of_clients(memory_bits, clients, endpoints, calls):
+    """A set-up of clients with a boot thread each; `calls` has those of all, each behind its client."""
+    lines = ",\n".join("{ " + ", ".join([f"client = {client}", *pairs(call)]) + " }" for client, call in calls)
+    return f"{top(memory_bits, 4, clients, endpoints)}clients = {clients}\ncall = [\n{lines}\n]\n"
 
 
 def mixed_clients(counts):
     """Clients that make so many calls each."""
     calls = [(client, mixed_call(client, number)) for client, count in enumerate(counts) for number in range(count)]
-    lines = ",\n".join("{ " + ", ".join([f"client = {client}", *pairs(call)]) + " }" for client, call in calls)
-    head = top(16, 4, CLIENTS, 2).replace("format = 1", "format = 2")
-    return f"{head}clients = {CLIENTS}\ncall = [\n{lines}\n]\n"
+    return of_clients(16, CLIENTS, 2, calls)
 
 
 # How many calls each of the clients makes whose orders are explored.

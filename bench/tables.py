@@ -1,7 +1,12 @@
 """The tables of docs/performance.md, between two marks, from the figures of docs/performance.csv."""
 
+from functools import partial
+
+import commands
+import directions
 import explorations
 import shared
+from spin import beside
 
 BEGIN, END = "<!-- figures: bench/draw.py writes what stands from here on -->", "<!-- end of the figures -->"
 
@@ -26,6 +31,9 @@ def ratio(proved, plain):
 
 
 def table(head, lines):
+    """A table, or nothing where it has no line."""
+    if not lines:
+        return ""
     rows = ["| " + " | ".join(line) + " |" for line in [head, *lines]]
     return "\n".join([rows[0], "|" + "---|" * len(head), *rows[1:]])
 
@@ -157,9 +165,116 @@ def audits(figures):
     return table(["audit of a full memory, ratio of instructions to the report", "at the four sizes"], lines)
 
 
+def by_command(figures, head, most, cell):
+    """A line for each direction in which set-ups grow, with at most so many of its largest sizes, and a column for each
+    command."""
+    lines = []
+    for direction, (sizes, _) in directions.DIRECTIONS.items():
+        sizes = sizes[-most:]
+        line = [f"{direction}: {', '.join(f'{size:,}' for size in sizes)}"]
+        for command in commands.COMMANDS:
+            subject = commands.subject(direction, command)
+            line.append(", ".join(filter(None, (cell(figures, subject, size) for size in sizes))))
+        if any(line[1:]):
+            lines.append(line)
+    return table([head, *(f"`{command}`" for command in commands.COMMANDS)], lines)
+
+
+def milliseconds(figures, subject, size):
+    """The time of a run, or the limit that ended it; nothing where it was not made."""
+    seconds, limit = (figures.of(subject, size, "proved", field) for field in ("seconds", "limit"))
+    return f"over {limit}" if limit else shown(seconds * 1e3) if seconds is not None else ""
+
+
+def kilobytes(figures, subject, size):
+    written = figures.of(subject, size, "proved", "written")
+    return "" if written is None else shown(written / 1e3)
+
+
+def times_by_command(figures):
+    return by_command(figures, "ms", 3, milliseconds)
+
+
+def texts_by_command(figures):
+    return by_command(figures, "kB of text", 1, kilobytes)
+
+
+def in_memories(figures):
+    head = [f"{explorations.ASKED.name}, bytes of the memory", "ms", "µs a step", "peak MB"]
+    lines = []
+    for size in figures.sizes.get(explorations.MEMORIES, []):
+        of = partial(figures.of, explorations.MEMORIES, size, "proved")
+        seconds, steps, peak = (of(field) for field in ("seconds", "steps", "peak_kib"))
+        lines.append([f"{size:,}", shown(seconds * 1e3), shown(seconds * 1e6 / steps), shown(peak * KIB_IN_MB)])
+    return table(head, lines)
+
+
+def kept(figures):
+    """What explorations of many states take, or the limit that ended them."""
+    head = [f"{explorations.ENDLESS.name}, states that are kept", "ms", "peak MB", "1 GB has room for, states"]
+    lines = []
+    for size in figures.sizes.get(explorations.KEPT, []):
+        line = [f"{size:,}", milliseconds(figures, explorations.KEPT, size)]
+        states, peak = (figures.of(explorations.KEPT, size, "proved", field) for field in ("states", "peak_kib"))
+        room = [shown(peak * KIB_IN_MB), f"{round(states / (peak * KIB_IN_MB) * 1e3, -3):,.0f}"] if peak else ["", ""]
+        lines.append(line + room)
+    return table(head, lines)
+
+
+def apart(figures):
+    """Clients that share nothing, with and without `--ends`."""
+    lines = []
+    for size in figures.sizes.get(explorations.APART, []):
+        line = [str(size)]
+        for program in ("proved", explorations.ENDS):
+            states, seconds = (figures.of(explorations.APART, size, program, field) for field in ("states", "seconds"))
+            line += [f"{states:,}", shown(seconds * 1e3)]
+        lines.append(line)
+    calls = explorations.APART_CALLS
+    return table([f"clients that share nothing, {calls} calls each", "states", "ms", "with `--ends`", "ms"], lines)
+
+
+BESIDE_SPIN = "beside SPIN, "
+
+
+def beside_spin(figures):
+    """The same questions by `explore` and by SPIN."""
+    head = ["question", "states", "steps"]
+    for program in ("explore", "SPIN"):
+        head += [f"ms, {program}", "µs a step", "peak MB"]
+    head += ["ms to make SPIN's verifier", "states with its reduction", "states as it comes"]
+    lines = []
+    for subject in (subject for subject in figures.sizes if subject.startswith(BESIDE_SPIN)):
+        (size,) = figures.sizes[subject]
+        steps = figures.of(subject, size, "proved", "steps")
+        line = [subject.removeprefix(BESIDE_SPIN), f"{size:,}", f"{steps:,}"]
+        for program in ("proved", "SPIN"):
+            seconds, peak = (figures.of(subject, size, program, field) for field in ("seconds", "peak_kib"))
+            line += [shown(seconds * 1e3), shown(seconds * 1e6 / steps), shown(peak * KIB_IN_MB)]
+        line.append(shown(figures.of(subject, size, beside.MAKING, "seconds") * 1e3))
+        lines.append(line + [f"{figures.of(subject, size, way, 'states'):,}" for way in list(beside.WAYS)[1:]])
+    return table(head, lines)
+
+
+TABLES = [
+    largest,
+    growth,
+    audits,
+    times_by_command,
+    texts_by_command,
+    explored,
+    in_memories,
+    kept,
+    apart,
+    beside_spin,
+    times_of_one,
+    instructions_of_one,
+]
+
+
 def write(notes, rows, path):
     figures = Figures(rows)
-    drawn = [table_of(figures) for table_of in (largest, growth, audits, explored, times_of_one, instructions_of_one)]
-    text = "\n\n".join([f"{notes[0].capitalize()}; {notes[1]}.", *drawn])
+    drawn = [table_of(figures) for table_of in TABLES]
+    text = "\n\n".join([f"{notes[0].capitalize()}; {notes[1]}.", *filter(None, drawn)])
     before, rest = path.read_text().split(BEGIN)
     path.write_text(f"{before}{BEGIN}\n\n{text}\n\n{END}{rest.split(END)[1]}")
