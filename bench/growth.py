@@ -113,19 +113,23 @@ def told(part, rows):
 
 
 def parts(proved, plain):
+    """The parts, first those that may find something wrong."""
     return {
+        "spin": beside.rows(proved),
+        "explorations": explorations.rows(proved),
+        "commands": commands.rows(proved),
         "cycles": cycles.rows(),
         "shared": shared.rows(),
         "check": growth_rows(proved, plain),
-        "commands": commands.rows(proved),
-        "explorations": explorations.rows(proved),
-        "spin": beside.rows(proved),
     }
 
 
 def main():
     proved, plain, *only = sys.argv[1:]
-    rows = [row for part, rows in parts(proved, plain).items() if part in only or not only for row in told(part, rows)]
+    there = parts(proved, plain)
+    if not set(only) <= set(there):
+        sys.exit(f"the parts are {', '.join(there)}")
+    rows = [row for part in only or there for row in told(part, there[part])]
     if not only:
         figures.write(rows)
 

@@ -234,9 +234,6 @@ def apart(figures):
     return table([f"clients that share nothing, {calls} calls each", "states", "ms", "with `--ends`", "ms"], lines)
 
 
-BESIDE_SPIN = "beside SPIN, "
-
-
 def beside_spin(figures):
     """The same questions by `explore` and by SPIN."""
     head = ["question", "states", "steps"]
@@ -244,10 +241,10 @@ def beside_spin(figures):
         head += [f"ms, {program}", "µs a step", "peak MB"]
     head += ["ms to make SPIN's verifier", "states with its reduction", "states as it comes"]
     lines = []
-    for subject in (subject for subject in figures.sizes if subject.startswith(BESIDE_SPIN)):
+    for subject in (subject for subject in figures.sizes if subject.startswith(beside.SUBJECT)):
         (size,) = figures.sizes[subject]
         steps = figures.of(subject, size, "proved", "steps")
-        line = [subject.removeprefix(BESIDE_SPIN), f"{size:,}", f"{steps:,}"]
+        line = [subject.removeprefix(beside.SUBJECT), f"{size:,}", f"{steps:,}"]
         for program in ("proved", "SPIN"):
             seconds, peak = (figures.of(subject, size, program, field) for field in ("seconds", "peak_kib"))
             line += [shown(seconds * 1e3), shown(seconds * 1e6 / steps), shown(peak * KIB_IN_MB)]

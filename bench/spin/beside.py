@@ -13,6 +13,9 @@ from spin.questions import STEPS, Question
 HERE = pathlib.Path(__file__).parent
 ANSWERS = HERE.parent.parent / "tests" / "answers" / "explorations"
 
+# What the subject of a question begins with.
+SUBJECT = "beside SPIN, "
+
 # Of the questions of each kind, how many clients make how many calls each.
 ASKED = {"messages": [(3, 4), (3, 10), (3, 20), (4, 10), (5, 8)], "turns": [(3, 8), (3, 20)], "apart": [(5, 8)]}
 
@@ -66,7 +69,7 @@ def rows_of(program, folder, name, first):
     steps = other["steps"] - 1 + first
     assert own["states"] == other["states"] + first, f"{name}: {own['states']} states, and {other['states']} of SPIN"
     assert steps == STEPS.get(name, steps), f"{name}: {steps} steps"
-    common = {"subject": f"beside SPIN, {name}", "size": own["states"]}
+    common = {"subject": SUBJECT + name, "size": own["states"]}
     yield {**common, "program": "proved", **own, "steps": steps}
     yield {**common, "program": MAKING, "seconds": f"{made:.6f}"}
     for way, (_, costs) in found.items():
