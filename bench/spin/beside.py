@@ -64,6 +64,7 @@ def verified(folder, way):
 def rows_of(program, folder, name, first):
     """A question here and there. SPIN counts its beginning as a step."""
     own = costs_of(program, folder / "setup.toml", ALL_STATES, "--first", first)
+    assert "limit" not in own, f"{name}: explore takes more than {own['limit']}"
     found = {way: verified(folder, way) for way in WAYS}
     made, other = found["SPIN"]
     steps = other["steps"] - 1 + first
