@@ -165,18 +165,21 @@ def audits(figures):
     return table(["audit of a full memory, ratio of instructions to the report", "at the four sizes"], lines)
 
 
+def in_turn(texts):
+    """The texts of several sizes; nothing where there is none."""
+    return " / ".join(text or "-" for text in texts) if any(texts) else ""
+
+
 def by_command(figures, head, most, cell):
     """A line for each direction in which set-ups grow, with at most so many of its largest sizes, and a column for each
     command."""
     lines = []
     for direction, (sizes, _) in directions.DIRECTIONS.items():
         sizes = sizes[-most:]
-        line = [f"{direction}: {', '.join(f'{size:,}' for size in sizes)}"]
-        for command in commands.COMMANDS:
-            subject = commands.subject(direction, command)
-            line.append(", ".join(filter(None, (cell(figures, subject, size) for size in sizes))))
-        if any(line[1:]):
-            lines.append(line)
+        subjects = [commands.subject(direction, command) for command in commands.COMMANDS]
+        cells = [in_turn([cell(figures, subject, size) for size in sizes]) for subject in subjects]
+        if any(cells):
+            lines.append([f"{direction}: {in_turn([f'{size:,}' for size in sizes])}", *cells])
     return table([head, *(f"`{command}`" for command in commands.COMMANDS)], lines)
 
 
