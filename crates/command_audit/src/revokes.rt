@@ -6,7 +6,7 @@ ghost use Rattle.kernel_abstract.specs.Reached.{IsReached};
 ghost use Rattle.kernel_abstract.specs.State.{State, shown};
 ghost use Rattle.setup_report.specs.State.{slot_of, slot_rows};
 ghost use Rattle.setup_report.specs.Naming.{naming_view};
-ghost use Rattle.query_revoke.specs.Below.{AreTold};
+ghost use Rattle.query_revoke.specs.Below.{TellBelow};
 ghost use Rattle.command_audit.specs.Revokes as spec;
 ghost use Rattle.command_audit.specs.Threads.{can_name as can_name_slot};
 ghost use Rattle.std.specs.List.{list_any};
@@ -121,7 +121,7 @@ fn add_revoke_at<P: Profile, S: MakeStore<P> + DerivationStore<P>, W: MakeWaiter
     kernel: &Kernel<P, S, W>,
 ) -> Result<(), AllocError>
     requires rows { map (derivation_view P.profile) rows.now ≡ slot_rows kernel.now }
-    requires told { AreTold P.profile index.now kernel.now.derivations }
+    requires told { TellBelow P.profile index.now kernel.now.derivations }
     ensures { OnOk result ((A : State) → IsReached P.profile A → kernel.now ≡ shown A → string_bytes out.new ≡ string_bytes out.old
         ++ spec.revoke_lines_at P.profile (naming_view naming.now) A slot) }
 {

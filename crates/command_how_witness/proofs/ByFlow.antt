@@ -14,7 +14,7 @@ use Rattle.kernel_abstract.specs.State.{State, shown}
 use Rattle.kernel_abstract.specs.Step.{replies_of}
 use Rattle.kernel_abstract.specs.Reached.{IsReached}
 use Rattle.query_parts.specs.Listed.{part_at}
-use Rattle.query_flow.specs.Excluded.{is_listed, IsOfOthers, TellsNone, PassesNoneEver, NamesNoneEver, ChangesNoneEver}
+use Rattle.query_flow.specs.Excluded.{is_number_listed, IsOfOthers, TellsNone, PassesNoneEver, NamesNoneEver, ChangesNoneEver}
 use Rattle.setup_report.specs.State.{is_in}
 use Rattle.command_how_witness.specs.declared.asked.Happening.{Happening}
 use Rattle.command_how_witness.specs.declared.asked.Happening.TheVariants.{Message, Hold, Loss}
@@ -74,10 +74,10 @@ module _ (p : ProfileName) (q : Asking) (A : State) (calls : List Call) (reached
 
   -- ---- a loss
 
-  no_loss : ChangesNoneEver p q.without (shown A) q.from → is_listed q.without q.to ≡ false → ShowsLoss p q A calls → ⊥
+  no_loss : ChangesNoneEver p q.without (shown A) q.from → is_number_listed q.without q.to ≡ false → ShowsLoss p q A calls → ⊥
   no_loss none free shows =
       let most = shows.front ++ shows.shows ∷ [] in
-      let shower : is_listed q.without shows.shows.thread ≡ false = ap (is_listed q.without) shows.shower ∙ free in
+      let shower : is_number_listed q.without shows.shows.thread ≡ false = ap (is_number_listed q.without) shows.shower ∙ free in
       let others = and_last (IsOfOthers q.without) shows.front shows.shows (others_of q shows.front shows.callers) (inl shower) in
       let same = none A reached refl most others shows.call shows.thread in
       shows.takes.full (ap (λ (f : Forest Entry). cap_at f shows.takes.slot) (sym same) ∙ shows.takes.empty)

@@ -13,7 +13,7 @@ use Rattle.query_parts.specs.declared.listed.PartUse.{PartUse}
 use Rattle.query_parts.specs.Listed.{part_at, parts_listed}
 use Rattle.command_parts.specs.Ever.{AreRightParts}
 use Rattle.query_parts.specs.Below.{StandsNoneBelow}
-use Rattle.query_flow.specs.Excluded.{is_listed, PassesNoneEver, NamesNoneEver, ChangesNoneEver}
+use Rattle.query_flow.specs.Excluded.{is_number_listed, PassesNoneEver, NamesNoneEver, ChangesNoneEver}
 use Rattle.command_never_text.specs.declared.never.Never.{Never}
 use Rattle.command_never_text.specs.declared.never.Never.TheVariants.{Excluded, Possible}
 use Rattle.command_never_text.specs.Waits.{waits}
@@ -113,7 +113,7 @@ HasNoWitness p q uses A calls = IsReached p A → IsExcluded p q uses (shown A) 
 abbrev pub IsOutsideFlow : ProfileName → Asking → Shown → Happening → Type 0
 IsOutsideFlow p q v Message = PassesNoneEver p q.without v q.by q.from q.to
 IsOutsideFlow p q v Hold = NamesNoneEver p q.without v q.from q.to
-IsOutsideFlow p q v Loss = ChangesNoneEver p q.without v q.from × (is_listed q.without q.to ≡ false)
+IsOutsideFlow p q v Loss = ChangesNoneEver p q.without v q.from × (is_number_listed q.without q.to ≡ false)
 
 -- what a flow excludes of a state no calls from it show
 abbrev pub HasNoWitnessByFlow : ProfileName → Asking → State → List Call → Type 0

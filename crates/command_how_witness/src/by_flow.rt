@@ -1,6 +1,6 @@
 //! What flows exclude of a witness.
 ghost use Rattle.std.specs.Prelude.{◌≡◌, true, false, IfOk};
-ghost use Rattle.query_flow.specs.Excluded.{is_listed};
+ghost use Rattle.query_flow.specs.Excluded.{is_number_listed};
 ghost use Rattle.command_how_witness.specs.Witness.{asking_of};
 ghost use Rattle.command_how_witness.specs.Excluded.{IsOutsideFlow};
 
@@ -14,7 +14,7 @@ use slot_core::{DerivationStore, MakeStore};
 use std::alloc::{AllocError, Global};
 
 fn is_free(trusted: &[u64], thread: u64) -> bool
-    ensures { result ≡ true → is_listed trusted.now thread ≡ false }
+    ensures { result ≡ true → is_number_listed trusted.now thread ≡ false }
 {
     !is_in(trusted, thread)
 }

@@ -18,7 +18,7 @@ use Rattle.kernel_abstract.specs.Shown.{Shown, state_at, inbox_at, waiting_at}
 use Rattle.setup_layout.specs.declared.layout.Layout.{Layout}
 use Rattle.setup_layout.specs.declared.layout.Object.{Object}
 use Rattle.setup_layout.specs.declared.layout.Slot.{Slot}
-use Rattle.command_import.specs.Laid.{IsLaidOut, Rows, kind_number, is_state, are_same_object, are_objects_apart, is_capability_of, is_object_live, stands, stands_as, is_cap_with, slot_place, address_in, layout_slot_address, holds, is_slot_filled, is_number, are_known, address_if, is_right_below, is_derived}
+use Rattle.command_import.specs.Laid.{IsLaidOut, Rows, kind_number, is_state, are_same_object, are_objects_apart, is_capability_of, is_object_live, stands, stands_as, is_cap_with, slot_place, address_in, layout_slot_address, holds, is_slot_filled, is_number, are_slots_known, address_if, is_right_below, is_derived}
 use Rattle.command_import.specs.Told.{ToldPlace, ToldLine, HoldsUntyped, HoldsEndpoint, HoldsCNode, HoldsTcb, MakesNoCalls, StandsBelow, told_number, told_place, told_held, told_of_slot, told_slot, told_state, told_inactive, told_pair, told_derived, listing_tells, AreAtTheirNames, told_object, is_own_slot, has_objects, has_its_objects, are_slots, HasItsParts}
 use Rattle.command_import.proofs.Lists.{each_both, each_in, found}
 
@@ -388,7 +388,7 @@ laid_alike p plan place a b v ha hb wa wb objects same laid =
     let known : (address : ℕ) → list_any (λ (slot : Slot). is_number address (layout_slot_address p a.objects.items slot)) a.slots.items
     ≡ list_any (λ (slot : Slot). is_number address (layout_slot_address p b.objects.items slot)) b.slots.items =
     λ address. known_told_alike p place address a ha wa ∙ (ap (λ (lines : List ToldLine). list_any (line_at p place address) lines) parts.0 ∙ sym (known_told_alike p place address b hb wb)) in
-    let all_known : are_known p plan a.objects.items a.slots.items rows ≡ are_known p plan b.objects.items b.slots.items rows =
+    let all_known : are_slots_known p plan a.objects.items a.slots.items rows ≡ are_slots_known p plan b.objects.items b.slots.items rows =
     λ i. list_all (λ (row : Entry × Option ℕ). nat_lt row.0.slot (slot_size p * 2 ^ plan.root_radix) || (row.0.slot == first_tcb p plan || known row.0.slot i)) rows in
     record {
       apart = through (apart_told place) (map told_object a.objects.items) (map told_object b.objects.items) (apart_alike place a.objects.items ea) (apart_alike place b.objects.items eb) objects laid.apart;

@@ -103,8 +103,8 @@ abbrev pub is_known : ProfileName → ℕ → ℕ → List Object → List Slot 
 is_known p end loader objects slots address =
     nat_lt address end || (address == loader || list_any (λ slot. is_number address (layout_slot_address p objects slot)) slots)
 
-abbrev pub are_known : ProfileName → Plan → List Object → List Slot → Rows → Bool
-are_known p plan objects slots rows =
+abbrev pub are_slots_known : ProfileName → Plan → List Object → List Slot → Rows → Bool
+are_slots_known p plan objects slots rows =
     list_all (λ (row : Entry × Option ℕ). is_known p (slot_size p * 2 ^ plan.root_radix) (first_tcb p plan) objects slots row.0.slot) rows
 
 -- ---- derivation
@@ -138,5 +138,5 @@ pub record IsLaidOut (p : ProfileName) (plan : Plan) (layout : Layout) (v : Show
   pub live : list_all (is_object_live (derivations_of v.derivations)) layout.objects.items ≡ true
   pub states : list_all (stands v) layout.objects.items ≡ true
   pub slots : list_all (is_slot_filled p layout.objects.items v.derivations) layout.slots.items ≡ true
-  pub no_others : are_known p plan layout.objects.items layout.slots.items (derivations_of v.derivations) ≡ true
+  pub no_others : are_slots_known p plan layout.objects.items layout.slots.items (derivations_of v.derivations) ≡ true
   pub derived : list_all (is_derived p layout.objects.items layout.slots.items (derivations_of v.derivations)) layout.derived.items ≡ true

@@ -271,7 +271,7 @@ fn are_known<P: Profile>(
     rows: &[Derivation],
 ) -> bool
     requires { IsWithinLimits P.profile plan.now }
-    ensures { result ≡ spec.are_known P.profile plan.now objects.now slots.now (map (derivation_view P.profile) rows.now) }
+    ensures { result ≡ spec.are_slots_known P.profile plan.now objects.now slots.now (map (derivation_view P.profile) rows.now) }
 {
     let end = root_end::<P>(plan);
     let loader = plan.first_tcb::<P>();

@@ -61,11 +61,11 @@ abbrev pub example_call : ProfileName → Plan → ℕ → Call
 example_call p plan cap = record { thread = tcb_place p plan 0; op = example_op plan cap }
 
 -- a call alone, which the first client makes, and of which nothing is expected
-abbrev pub alone : Call → List CallView
-alone call = record { call = call; client = 0; expect = None } ∷ []
+abbrev pub lone_call : Call → List CallView
+lone_call call = record { call = call; client = 0; expect = None } ∷ []
 
 abbrev pub IsExample : ProfileName → Plan → Names → List CallView → Type 0
-IsExample p plan names calls = (cap : ℕ) × (word_named names (example_name plan) ≡ Some cap) × (calls ≡ alone (example_call p plan cap))
+IsExample p plan names calls = (cap : ℕ) × (word_named names (example_name plan) ≡ Some cap) × (calls ≡ lone_call (example_call p plan cap))
 
 -- ---- what is made
 
@@ -79,13 +79,13 @@ pub record IsNew (asked : NewSetup) (text : List ℕ) : Type 0 where
   pub calls : IsExample read.setup.profile read.setup.plan read.names read.setup.calls
 
 -- such a text; nothing, where no plan fits; and nothing, where a plan fits whose text is refused: it is not read as promised
-abbrev pub IsMadeOf : NewSetup → List ℕ → Verdict → Type 0
-IsMadeOf asked text AllMet = IsNew asked text
-IsMadeOf asked text NotMet = ⊥
-IsMadeOf asked text Refused = (text ≡ []) × ((plan : Plan) × Fits asked.profile asked plan × ¬ IsNew asked (new_text asked.profile plan))
-IsMadeOf asked text Absent = (text ≡ []) × NoneFits asked
+abbrev pub IsNewAnswer : NewSetup → List ℕ → Verdict → Type 0
+IsNewAnswer asked text AllMet = IsNew asked text
+IsNewAnswer asked text NotMet = ⊥
+IsNewAnswer asked text Refused = (text ≡ []) × ((plan : Plan) × Fits asked.profile asked plan × ¬ IsNew asked (new_text asked.profile plan))
+IsNewAnswer asked text Absent = (text ≡ []) × NoneFits asked
 
 -- what is written, and the verdict, whatever the input is; nothing, where no sizes are given
 abbrev pub IsNewText : Option NewSetup → List ℕ → List ℕ → Verdict → Type 0
 IsNewText None input text verdict = (text ≡ []) × (verdict ≡ Absent)
-IsNewText (Some asked) input text verdict = IsMadeOf asked text verdict
+IsNewText (Some asked) input text verdict = IsNewAnswer asked text verdict

@@ -27,8 +27,8 @@ thread_names p plan i =
     codes "thread_" ++ (decimal i ++ (codes " = " ++ (decimal (tcb_place p plan i)
     ++ (codes "\ntcb_" ++ (decimal i ++ (codes " = " ++ (decimal (tcb_slot i) ++ codes "\n")))))))
 
-unfoldable pub threads_text : ProfileName → Plan → List ℕ
-threads_text p plan =
+unfoldable pub new_threads_text : ProfileName → Plan → List ℕ
+new_threads_text p plan =
     codes "\n[names]\n# thread_N is the address of thread N, tcb_N the slot of its capability\n" ++ flat_map (thread_names p plan) (range_with_len 0 plan.threads)
 
 -- the name of a slot
@@ -55,4 +55,4 @@ first_call_text plan =
     else codes "\n[[call]]\nop = \"send\"\nthread = \"@thread_0\"\ncap = \"@ep_0\"\nlabel = 7\nwords = [1]\n"
 
 unfoldable pub new_text : ProfileName → Plan → List ℕ
-new_text p plan = format_text p ++ (sizes_text plan ++ (threads_text p plan ++ (objects_text plan ++ (flat_map untyped_text plan.untypeds ++ first_call_text plan))))
+new_text p plan = format_text p ++ (sizes_text plan ++ (new_threads_text p plan ++ (objects_text plan ++ (flat_map untyped_text plan.untypeds ++ first_call_text plan))))

@@ -5,7 +5,7 @@ ghost use Rattle.kernel_abstract.specs.declared.call.Call.{Call as CallValue};
 ghost use Rattle.kernel_abstract.specs.Plan.{IsPlan};
 ghost use Rattle.setup_values.specs.Names.{names_view};
 ghost use Rattle.command_new.specs.New as spec;
-ghost use Rattle.command_new.specs.New.{alone};
+ghost use Rattle.command_new.specs.New.{lone_call};
 
 use cap_core::limits::MAX_MESSAGE_WORDS;
 use cap_core::{Message, Profile};
@@ -74,7 +74,7 @@ fn is_example_op(plan: &BootPlan, cap: u64, op: Op) -> bool
 
 /// The one call of a set-up, where the first client makes it, and where nothing is expected of it.
 fn only_call(setup: &Setup) -> Option<Call>
-    ensures { MatchOption result ((call : CallValue) → setup.now.calls ≢ alone call) (λ call. setup.now.calls ≡ alone call) }
+    ensures { MatchOption result ((call : CallValue) → setup.now.calls ≢ lone_call call) (λ call. setup.now.calls ≡ lone_call call) }
 {
     let [call] = setup.calls() else {
         return None;

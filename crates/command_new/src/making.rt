@@ -3,7 +3,7 @@ ghost use Rattle.std.specs.Prelude.{◌≡◌, ◌↔◌, [], option_copied, IfO
 ghost use Rattle.kernel_abstract.specs.Plan.{IsPlan};
 ghost use Rattle.setup_format.specs.Read.{read_view};
 ghost use Rattle.setup_format.specs.Setups.{read_of_bytes};
-ghost use Rattle.command_new.specs.New.{IsNewText, IsMadeOf, IsNew};
+ghost use Rattle.command_new.specs.New.{IsNewText, IsNewAnswer, IsNew};
 ghost use Rattle.command_new.specs.Private.{IsMetBy};
 
 use crate::asked::NewSetup;
@@ -62,7 +62,7 @@ fn is_new<P: Profile>(alloc: Global, asked: &NewSetup, text: &[u8]) -> Result<bo
 /// The text of a set-up of what is asked for, and the verdict; nothing where no plan fits, or where the text is refused.
 fn made_for<P: Profile>(alloc: Global, asked: &NewSetup) -> Result<Answer, AllocError>
     requires { P.profile ≡ asked.now.profile }
-    ensures { IfOk result (λ made. IsMadeOf asked.now made.text.items made.verdict) }
+    ensures { IfOk result (λ made. IsNewAnswer asked.now made.text.items made.verdict) }
 {
     let Some(plan) = fitting_plan::<P>(asked)? else {
         return Ok(Answer::new(alloc, Vec::new(alloc), Verdict::Absent));
@@ -77,7 +77,7 @@ fn made_for<P: Profile>(alloc: Global, asked: &NewSetup) -> Result<Answer, Alloc
 
 /// The same, for the machine that is asked for.
 fn made_of(alloc: Global, asked: &NewSetup) -> Result<Answer, AllocError>
-    ensures { IfOk result (λ made. IsMadeOf asked.now made.text.items made.verdict) }
+    ensures { IfOk result (λ made. IsNewAnswer asked.now made.text.items made.verdict) }
 {
     match asked.profile {
         ProfileName::Wide => made_for::<Wide>(alloc, asked),

@@ -70,7 +70,7 @@ fn add_thread<P: Profile>(out: &mut String, plan: &BootPlan, thread: u32) -> Res
 /// Adds the names of the threads' addresses and of their slots.
 fn add_threads<P: Profile>(out: &mut String, plan: &BootPlan) -> Result<(), AllocError>
     requires { IsWithinLimits P.profile plan.now }
-    ensures { OnOk result (string_bytes out.new ≡ string_bytes out.old ++ spec.threads_text P.profile plan.now) }
+    ensures { OnOk result (string_bytes out.new ≡ string_bytes out.old ++ spec.new_threads_text P.profile plan.now) }
 {
     writeln!(
         out,

@@ -90,23 +90,23 @@ IsOutcomeIn by_name ends first p names setup text verdict =
     (history : List Entry) × IsSharedRun ends first p setup history × IsReportOf by_name p names setup history text verdict
 
 -- or the line by which it is refused
-abbrev pub IsOutcome : Bool → (ℕ → ℕ → Type 0) → ℕ → Result ReadView Fault → List ℕ → Verdict → Type 0
-IsOutcome by_name ends first (Ok read) text verdict = IsOutcomeIn by_name ends first read.setup.profile read.names read.setup text verdict
-IsOutcome by_name ends first (Err fault) text verdict = (text ≡ refusal_line fault) × (verdict ≡ Refused)
+abbrev pub IsSharedOutcome : Bool → (ℕ → ℕ → Type 0) → ℕ → Result ReadView Fault → List ℕ → Verdict → Type 0
+IsSharedOutcome by_name ends first (Ok read) text verdict = IsOutcomeIn by_name ends first read.setup.profile read.names read.setup text verdict
+IsSharedOutcome by_name ends first (Err fault) text verdict = (text ≡ refusal_line fault) × (verdict ≡ Refused)
 
 -- what is right to write for the bytes of an input, by addresses or by names, in the profile that its set-up names, where so many
 -- calls are made first
 unfoldable pub IsSharedProgram : Bool → (ℕ → ℕ → Type 0) → ℕ → List ℕ → List ℕ → Verdict → Type 0
-IsSharedProgram by_name ends first input text verdict = IsOutcome by_name ends first (read_of_bytes input) text verdict
+IsSharedProgram by_name ends first input text verdict = IsSharedOutcome by_name ends first (read_of_bytes input) text verdict
 
 -- the number, from 1 on, of the call of a set-up that an entry of a history carries
-abbrev pub number_of : SetupView → Entry → ℕ
-number_of setup e = call_number_at (client_numbers_of setup) e.client e.number
+abbrev pub call_number_of : SetupView → Entry → ℕ
+call_number_of setup e = call_number_at (client_numbers_of setup) e.client e.number
 
 -- the numbers of the calls whose expectation is not met in a history, in its order
 abbrev pub unmet_in : SetupView → List Entry → List ℕ
 unmet_in setup [] = []
-unmet_in setup (e ∷ es) = unmet_at (number_of setup e) (expectation_of setup.calls (number_of setup e)) e.reply ++ unmet_in setup es
+unmet_in setup (e ∷ es) = unmet_at (call_number_of setup e) (expectation_of setup.calls (call_number_of setup e)) e.reply ++ unmet_in setup es
 
 -- the report of some shared run of the set-up, and the numbers of the calls whose expectation is not met in its history
 abbrev pub IsToldIn : Bool → (ℕ → ℕ → Type 0) → ℕ → ProfileName → Names → SetupView → List ℕ → Verdict → List ℕ → Type 0
@@ -115,14 +115,14 @@ IsToldIn by_name ends first p names setup text verdict unmet =
     × (unmet ≡ unmet_in setup history)
 
 -- or of no call, where the set-up is refused
-abbrev pub IsToldOf : Bool → (ℕ → ℕ → Type 0) → ℕ → Result ReadView Fault → List ℕ → Verdict → List ℕ → Type 0
-IsToldOf by_name ends first (Ok read) text verdict unmet =
+abbrev pub IsEndOf : Bool → (ℕ → ℕ → Type 0) → ℕ → Result ReadView Fault → List ℕ → Verdict → List ℕ → Type 0
+IsEndOf by_name ends first (Ok read) text verdict unmet =
     IsToldIn by_name ends first read.setup.profile read.names read.setup text verdict unmet
-IsToldOf by_name ends first (Err fault) text verdict unmet = unmet ≡ []
+IsEndOf by_name ends first (Err fault) text verdict unmet = unmet ≡ []
 
 -- what is right to tell beside the text that is written for the bytes of an input
 unfoldable pub IsToldProgram : Bool → (ℕ → ℕ → Type 0) → ℕ → List ℕ → List ℕ → Verdict → List ℕ → Type 0
-IsToldProgram by_name ends first input text verdict unmet = IsToldOf by_name ends first (read_of_bytes input) text verdict unmet
+IsToldProgram by_name ends first input text verdict unmet = IsEndOf by_name ends first (read_of_bytes input) text verdict unmet
 
 -- a run from a source to a sink tells of just those calls whose expectation is not met in the history of its report
 abbrev pub TellsUnmet : {S K : Type 0} → Bool → (ℕ → ℕ → Type 0) → ℕ → SourceGhosts S → SinkGhosts K → S → S → K → K → Found → Type 0

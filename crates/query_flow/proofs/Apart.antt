@@ -22,10 +22,10 @@ use Rattle.query_flow.specs.declared.listed.Caller.{Caller}
 use Rattle.query_flow.specs.declared.listed.Flows.{Flows}
 use Rattle.query_flow.specs.declared.excluded.Spot.{Spot}
 use Rattle.query_flow.specs.Flow.{Flow}
-use Rattle.query_flow.specs.Laws.{MayUse}
-use Rattle.query_flow.specs.Listed.{is_among, within, last_le, covers, caller_of, names_of, nodes_of, fits_badge, flow_of_lists}
-use Rattle.query_flow.specs.Excluded.{is_listed}
-use Rattle.query_flow.specs.Apart.{names_by, names_in, nodes_by, nodes_in, one_at, from_to, spot_of, spot_in, and_spot, is_apart, are_apart}
+use Rattle.query_flow.specs.Laws.{MayUseByFlow}
+use Rattle.query_flow.specs.Listed.{is_among, within, last_le, stands_for_cap, caller_of, caller_names, caller_nodes, fits_badge, flow_of_lists}
+use Rattle.query_flow.specs.Excluded.{is_number_listed}
+use Rattle.query_flow.specs.Apart.{names_by, sets_named, nodes_by, nodes_in, one_at, from_to, spot_of, spot_in, and_spot, is_spot_apart, are_spots_apart}
 use Rattle.query_flow.proofs.Made.{few_fit}
 use Rattle.query_flow.proofs.Settled.{stands_by, within_range, last_is}
 
@@ -39,10 +39,10 @@ swapped a b = by (tells (a == b)) (tells (b == a))
     by (inr h) (inr k) = h ∙ sym k
     by (inr h) (inl k) = absurd (false≢true (sym h ∙ eq-eqb a b (sym (eqb-true b a k))))
 
-pub listed_among : (numbers : List ℕ) (n : ℕ) → is_listed numbers n ≡ is_among numbers n
+pub listed_among : (numbers : List ℕ) (n : ℕ) → is_number_listed numbers n ≡ is_among numbers n
 listed_among [] n = refl
 listed_among (k ∷ numbers) n =
-    ap (λ (b : Bool). b || is_listed numbers n) (swapped n k) ∙ ap (λ (b : Bool). (k == n) || b) (listed_among numbers n)
+    ap (λ (b : Bool). b || is_number_listed numbers n) (swapped n k) ∙ ap (λ (b : Bool). (k == n) || b) (listed_among numbers n)
 
 -- ---- spots
 
@@ -56,19 +56,19 @@ pub at_one : (e : ℕ) → lies_at e (one_at e) ≡ true
 at_one e = and_true (nat_le e e) (nat_le e e) (le_self e) (le_self e)
 
 -- what is in two spots keeps them from being apart
-not_apart : (e : ℕ) (a b : Spot) → lies_at e a ≡ true → lies_at e b ≡ true → is_apart a b ≡ true → ⊥
+not_apart : (e : ℕ) (a b : Spot) → lies_at e a ≡ true → lies_at e b ≡ true → is_spot_apart a b ≡ true → ⊥
 not_apart e a b h k apart =
     let x = both_true (nat_le a.first e) (nat_le e a.last) h in
     let y = both_true (nat_le b.first e) (nat_le e b.last) k in
-    let none : is_apart a b ≡ false = grind (arith, nat_tests, x.0, x.1, y.0, y.1) in
+    let none : is_spot_apart a b ≡ false = grind (arith, nat_tests, x.0, x.1, y.0, y.1) in
     false≢true (sym none ∙ apart)
 
-pub none_both : (e : ℕ) (some others : List Spot) → are_apart some others ≡ true → list_any (lies_at e) some ≡ true → list_any (lies_at e) others ≡ true → ⊥
+pub none_both : (e : ℕ) (some others : List Spot) → are_spots_apart some others ≡ true → list_any (lies_at e) some ≡ true → list_any (lies_at e) others ≡ true → ⊥
 none_both e some others apart h k =
     let a = any_of (lies_at e) some h in
     let b = any_of (lies_at e) others k in
     not_apart e a.0 b.0 a.1.1 b.1.1
-    (all_in (is_apart a.0) others b.0 (all_in (λ (x : Spot). list_all (is_apart x) others) some a.0 apart a.1.0) b.1.0)
+    (all_in (is_spot_apart a.0) others b.0 (all_in (λ (x : Spot). list_all (is_spot_apart x) others) some a.0 apart a.1.0) b.1.0)
 
 any_of_given : {X Y : Type 0} (g : X → Option Y) (f : Y → Bool) (x : X) (y : Y) → g x ≡ Some y → f y ≡ true → (xs : List X) → In x xs →
     list_any f (filter_map g xs) ≡ true
@@ -123,7 +123,7 @@ not_among false h = refl
 not_among true h = absurd (false≢true (sym h))
 
 module _ (p : ProfileName) (right : ℕ) (by : List ℕ) (e : ℕ) (badge : Badge) (rights : Rights) (has : has_right right rights ≡ true) (other : is_among by e ≡ false) where
-  spotted : (what : Standing) → covers p what (Endpoint e badge rights) ≡ true → IsSpotted (spot_of right by what) e
+  spotted : (what : Standing) → stands_for_cap p what (Endpoint e badge rights) ≡ true → IsSpotted (spot_of right by what) e
   spotted (standing.Endpoint base most top) c =
       let x = both_true (base == e) _ c in
       let y = both_true (fits_badge most badge) (bit_and rights.0 top.0 == rights.0) x.1 in
@@ -153,12 +153,12 @@ module _ (p : ProfileName) (right : ℕ) (by : List ℕ) (e : ℕ) (badge : Badg
   spotted (standing.Node base radix takes) c = absurd (false≢true c)
   spotted (standing.Thread base) c = absurd (false≢true c)
 
-  spotted_in : (names : List ℕ) (s : MayStand) → is_among names s.set ≡ true → covers p s.what (Endpoint e badge rights) ≡ true → IsSpotted (spot_in right by names s) e
+  spotted_in : (names : List ℕ) (s : MayStand) → is_among names s.set ≡ true → stands_for_cap p s.what (Endpoint e badge rights) ≡ true → IsSpotted (spot_in right by names s) e
   spotted_in names s named c =
       let spot = spotted s.what c in
       record { spot = spot.spot; is = ap (λ (b : Bool). cond b (spot_of right by s.what) None) named ∙ spot.is; at = spot.at }
 
-  spotted_among : (names : List ℕ) (all : List MayStand) (s : MayStand) → In s all → is_among names s.set ≡ true → covers p s.what (Endpoint e badge rights) ≡ true →
+  spotted_among : (names : List ℕ) (all : List MayStand) (s : MayStand) → In s all → is_among names s.set ≡ true → stands_for_cap p s.what (Endpoint e badge rights) ≡ true →
       list_any (lies_at e) (filter_map (spot_in right by names) all) ≡ true
   spotted_among names all s there named c =
       let spot = spotted_in names s named c in
@@ -166,11 +166,11 @@ module _ (p : ProfileName) (right : ℕ) (by : List ℕ) (e : ℕ) (badge : Badg
 
 -- ---- what a thread's words may lead to
 
-named_by : (o : Option Caller) (set : ℕ) → names_of o set ≡ is_among (names_by o) set
+named_by : (o : Option Caller) (set : ℕ) → caller_names o set ≡ is_among (names_by o) set
 named_by None set = refl
 named_by (Some k) set = refl
 
-noded_by : (o : Option Caller) (set : ℕ) → nodes_of o set ≡ is_among (nodes_by o) set
+noded_by : (o : Option Caller) (set : ℕ) → caller_nodes o set ≡ is_among (nodes_by o) set
 noded_by None set = refl
 noded_by (Some k) set = refl
 
@@ -178,15 +178,15 @@ module _ (p : ProfileName) (flows : Flows) where
   abbrev pub its : Flow
   its = flow_of_lists p flows
 
-  pub named_in : (thread set : ℕ) → its.names (its.set_of thread) set ≡ true → is_among (names_in flows thread) set ≡ true
+  pub named_in : (thread set : ℕ) → its.names (its.set_of thread) set ≡ true → is_among (sets_named flows thread) set ≡ true
   named_in thread set h = sym (named_by (caller_of flows.callers.items (its.set_of thread)) set) ∙ h
 
   pub noded_in : (thread set : ℕ) → its.nodes (its.set_of thread) set ≡ true → is_among (nodes_in flows thread) set ≡ true
   noded_in thread set h = sym (noded_by (caller_of flows.callers.items (its.set_of thread)) set) ∙ h
 
-  pub used_spot : (right : ℕ) (by : List ℕ) (thread e : ℕ) (badge : Badge) → is_among by e ≡ false → MayUse its right (its.set_of thread) e badge →
-      list_any (lies_at e) (filter_map (spot_in right by (names_in flows thread)) flows.standing.items) ≡ true
+  pub used_spot : (right : ℕ) (by : List ℕ) (thread e : ℕ) (badge : Badge) → is_among by e ≡ false → MayUseByFlow its right (its.set_of thread) e badge →
+      list_any (lies_at e) (filter_map (spot_in right by (sets_named flows thread)) flows.standing.items) ≡ true
   used_spot right by thread e badge other (set, (named, (rights, (may, has)))) =
       let s = stands_by p flows.memory.items flows.standing.items flows.callers.items flows.trusted.items set (Endpoint e badge rights) refl may in
-      spotted_among p right by e badge rights has other (names_in flows thread) flows.standing.items s.0 s.1.0
-      (subst (λ n. is_among (names_in flows thread) n ≡ true) (sym s.1.1.0) (named_in thread set named)) s.1.1.1
+      spotted_among p right by e badge rights has other (sets_named flows thread) flows.standing.items s.0 s.1.0
+      (subst (λ n. is_among (sets_named flows thread) n ≡ true) (sym s.1.1.0) (named_in thread set named)) s.1.1.1

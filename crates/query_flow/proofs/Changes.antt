@@ -31,7 +31,7 @@ use Rattle.kernel_abstract.specs.Private.Invocations.{IsRetype, IsSpace}
 use Rattle.kernel_abstract.proofs.Capabilities.SpacesSet.{space_kept}
 use Rattle.kernel_abstract.proofs.Retype.PutInOrder.{each-with_new}
 use Rattle.kernel_abstract.proofs.Retype.RetypedForest.{each-range, new_base, lies, new_end}
-use Rattle.query_flow.specs.Flow.{Flow, StandsAt, IsHeld, IsSettled, IsSettledFor}
+use Rattle.query_flow.specs.Flow.{Flow, StandsAt, HoldsWhatMayStand, IsSettled, IsSettledFor}
 use Rattle.query_flow.proofs.Passed.{IsPlacedIn, IsMadeIn}
 
 -- a full slot holds what may stand there
@@ -53,14 +53,14 @@ held_in P slot (e ∷ es) h =
     ]) refl
 
 module _ (p : ProfileName) (flow : Flow) (settled : IsSettled p flow) where
-  pub held_of_fine : (f : Forest Entry) → AreFine flow f → IsHeld flow f
+  pub held_of_fine : (f : Forest Entry) → AreFine flow f → HoldsWhatMayStand flow f
   held_of_fine f h slot = by (held_in (IsFine flow) slot (preorder f) h)
     where
       by : (cap_at f slot ≡ Null) ⊎ ((e : Entry) × ((e.slot ≡ slot) × ((e.cap ≡ cap_at f slot) × IsFine flow e))) → StandsAt flow slot (cap_at f slot)
       by (inl null) = subst (StandsAt flow slot) (sym null) (settled.empties (flow.set_of slot))
       by (inr (e, (at, (is, fine)))) = subst (λ n. StandsAt flow n (cap_at f slot)) at (subst (StandsAt flow e.slot) is fine)
 
-  pub fine_of_held : (f : Forest Entry) → IsDistinct eqb (slots f) → IsHeld flow f → AreFine flow f
+  pub fine_of_held : (f : Forest Entry) → IsDistinct eqb (slots f) → HoldsWhatMayStand flow f → AreFine flow f
   fine_of_held f distinct held =
       each-weaker (Contains (preorder f)) (IsFine flow) (λ e m. subst (StandsAt flow e.slot) (cap-entry f e distinct m) (held e.slot)) (preorder f)
       (each-contains (preorder f))
@@ -122,7 +122,7 @@ module _ (p : ProfileName) (flow : Flow) (settled : IsSettled p flow) where
     region_makes caller from to (CNode base radix guard) made h named filled may low high = absurd (false≢true h)
     region_makes caller from to (Tcb base) made h named filled may low high = absurd (false≢true h)
 
-    made_stands : IsSettledFor p flow c → IsHeld flow f → (new : NewObjects) → IsRetype p f new → IsMadeIn p flow c new → (k : ℕ) → k < new.count →
+    made_stands : IsSettledFor p flow c → HoldsWhatMayStand flow f → (new : NewObjects) → IsRetype p f new → IsMadeIn p flow c new → (k : ℕ) → k < new.count →
         StandsAt flow (slot_of p new.first_slot k) (new_cap new.shape.kind (object_at new.placed k) new.shape.size_bits)
     made_stands caller held new is stays k low =
         let e = new_end p f new is k in
@@ -135,7 +135,7 @@ module _ (p : ProfileName) (flow : Flow) (settled : IsSettled p flow) where
         (new_cap new.shape.kind (object_at new.placed k) new.shape.size_bits) is.untyped stays.untyped (stays.slots k low) (held new.untyped)
         (omega arith) (omega arith)
 
-    pub fine-with_objects : IsSettledFor p flow c → IsHeld flow f → (new : NewObjects) → IsRetype p f new → IsMadeIn p flow c new → AreFine flow (with_objects p new f)
+    pub fine-with_objects : IsSettledFor p flow c → HoldsWhatMayStand flow f → (new : NewObjects) → IsRetype p f new → IsMadeIn p flow c new → AreFine flow (with_objects p new f)
     fine-with_objects caller held new is stays =
         each-with_new (IsFine flow) new.untyped (new_caps p new) (freed new.untyped new.placed.free f)
         (fine-freed new.untyped new.placed.free f fine)

@@ -22,7 +22,7 @@ use Rattle.cspace_core.proofs.Inside.{low_bits-below}
 use Rattle.kernel_abstract.specs.Lookups.{slot_named}
 use Rattle.kernel_abstract.proofs.Checks.FoundSlots.{cond_passed, whole_passed}
 use Rattle.query_parts.proofs.Found.{chosen_slot, named_found}
-use Rattle.query_flow.specs.Flow.{Flow, LiesIn, IsHeld, IsEnding, GoesOn, IsSettledFor}
+use Rattle.query_flow.specs.Flow.{Flow, LiesAmong, HoldsWhatMayStand, IsEnding, WordsGoOn, IsSettledFor}
 
 -- a resolution ends where the choices of its capabilities lie: `Fits` of the slots, `Leads` of the capabilities
 module _ (p : ProfileName) (f : Forest Entry) (Fits : ℕ → Type 0) (Leads : Cap → Type 0)
@@ -161,30 +161,30 @@ ended p f base radix word guard found whole e =
     ended_after p f (resolution_within p (cap_at f) (length bits)) base radix guard bits found (choice p (CNode base radix guard) bits) (low_bits-below (word_bits p) word)
     (whole ∙ sym long) refl e
 
-module _ (p : ProfileName) (flow : Flow) (c : ℕ) (settled : IsSettledFor p flow c) (f : Forest Entry) (held : IsHeld flow f) where
+module _ (p : ProfileName) (flow : Flow) (c : ℕ) (settled : IsSettledFor p flow c) (f : Forest Entry) (held : HoldsWhatMayStand flow f) where
   -- what a slot of some sets leads to
   abbrev pub Leads : (ℕ → Bool) → Cap → Type 0
-  Leads among cap = (slot : ℕ) → IsSlotOf p cap slot → LiesIn flow among slot
+  Leads among cap = (slot : ℕ) → IsSlotOf p cap slot → LiesAmong flow among slot
 
-  names_lead : GoesOn p flow c → (slot : ℕ) → LiesIn flow (flow.names c) slot → Leads (flow.names c) (cap_at f slot)
+  names_lead : WordsGoOn p flow c → (slot : ℕ) → LiesAmong flow (flow.names c) slot → Leads (flow.names c) (cap_at f slot)
   names_lead goes slot among there is = (goes (flow.set_of slot) (cap_at f slot) there among (held slot) is).0
 
   -- a slot behind the first one
   abbrev LiesBehind : ℕ → Type 0
-  LiesBehind slot = LiesIn flow (flow.names c) slot × LiesIn flow (flow.nodes c) slot
+  LiesBehind slot = LiesAmong flow (flow.names c) slot × LiesAmong flow (flow.nodes c) slot
 
   abbrev LeadsBehind : Cap → Type 0
   LeadsBehind cap = (slot : ℕ) → IsSlotOf p cap slot → LiesBehind slot
 
-  names_behind : GoesOn p flow c → (slot : ℕ) → LiesIn flow (flow.names c) slot → LeadsBehind (cap_at f slot)
+  names_behind : WordsGoOn p flow c → (slot : ℕ) → LiesAmong flow (flow.names c) slot → LeadsBehind (cap_at f slot)
   names_behind goes slot among there is = goes (flow.set_of slot) (cap_at f slot) there among (held slot) is
 
-  pub fills_lead : (slot : ℕ) → LiesIn flow (flow.nodes c) slot ⊎ LiesIn flow (flow.fills c) slot → Leads (flow.fills c) (cap_at f slot)
+  pub fills_lead : (slot : ℕ) → LiesAmong flow (flow.nodes c) slot ⊎ LiesAmong flow (flow.fills c) slot → Leads (flow.fills c) (cap_at f slot)
   fills_lead slot (inl among) there is = settled.reaches (flow.set_of slot) (cap_at f slot) there (inl among) (held slot) is
   fills_lead slot (inr among) there is = settled.reaches (flow.set_of slot) (cap_at f slot) there (inr among) (held slot) is
 
   word_ends : (thread word : ℕ) (root : Cap) (found : Found) → flow.may c root ≡ true → IsEnding p flow c →
-      resolution p (cap_at f) root (low_bits (word_bits p) word) ≡ Ok found → LiesIn flow (flow.names c) found.slot
+      resolution p (cap_at f) root (low_bits (word_bits p) word) ≡ Ok found → LiesAmong flow (flow.names c) found.slot
   unfolding resolution resolution_within
   word_ends thread word Null found may ending e = cc
   word_ends thread word (Untyped base bits free) found may ending e = cc
@@ -194,39 +194,39 @@ module _ (p : ProfileName) (flow : Flow) (c : ℕ) (settled : IsSettledFor p flo
   word_ends thread word (Tcb base) found may ending e = cc
 
   word_found : (thread word : ℕ) (found : Found) → flow.set_of thread ≡ c →
-      resolution p (cap_at f) (cap_at f thread) (low_bits (word_bits p) word) ≡ Ok found → LiesIn flow (flow.names c) found.slot
+      resolution p (cap_at f) (cap_at f thread) (low_bits (word_bits p) word) ≡ Ok found → LiesAmong flow (flow.names c) found.slot
   word_found thread word found own e =
       let may : flow.may c (cap_at f thread) ≡ true = subst (λ n. flow.may n (cap_at f thread) ≡ true) own (held thread) in
       elim settled.goes_on [
         | inl ending ↦ word_ends thread word (cap_at f thread) found may ending e
-        | inr goes ↦ fits_found p f (LiesIn flow (flow.names c)) (Leads (flow.names c)) (λ cap slot leads is. leads slot is) (names_lead goes)
+        | inr goes ↦ fits_found p f (LiesAmong flow (flow.names c)) (Leads (flow.names c)) (λ cap slot leads is. leads slot is) (names_lead goes)
             (cap_at f thread) (word_bits p) word found (λ slot is. settled.begins (cap_at f thread) slot may is) e
       ]
 
   -- the slot that a word names
-  pub word_lies : (thread word slot : ℕ) → flow.set_of thread ≡ c → slot_named p f (cap_at f thread) word ≡ Ok slot → LiesIn flow (flow.names c) slot
+  pub word_lies : (thread word slot : ℕ) → flow.set_of thread ≡ c → slot_named p f (cap_at f thread) word ≡ Ok slot → LiesAmong flow (flow.names c) slot
   word_lies thread word slot own h =
       let found = named_found (resolution p (cap_at f) (cap_at f thread) (low_bits (word_bits p) word)) slot h in
-      subst (LiesIn flow (flow.names c)) found.1.1 (word_found thread word found.0 own found.1.0)
+      subst (LiesAmong flow (flow.names c)) found.1.1 (word_found thread word found.0 own found.1.0)
 
   -- a CNode's capability behind what the root chooses
-  behind : (n : ℕ) (choice : Choice) (found : Found) → LiesIn flow (flow.names c) choice.slot → AllBelowBase 2 choice.left → GoesOn p flow c →
-      resolution_within p (cap_at f) n (cap_at f choice.slot) choice.left ≡ Ok found → LiesIn flow (flow.nodes c) found.slot
+  behind : (n : ℕ) (choice : Choice) (found : Found) → LiesAmong flow (flow.names c) choice.slot → AllBelowBase 2 choice.left → WordsGoOn p flow c →
+      resolution_within p (cap_at f) n (cap_at f choice.slot) choice.left ≡ Ok found → LiesAmong flow (flow.nodes c) found.slot
   behind n choice found here below goes e =
       (fits_within p f LiesBehind LeadsBehind (λ cap slot leads is. leads slot is) (λ slot lies. names_behind goes slot lies.0)
       n (cap_at f choice.slot) choice.left found below (names_behind goes choice.slot here) e).1
 
   node_after : (n : ℕ) (base radix : ℕ) (guard : Guard) (bits : List ℕ) (found : Found) (r : Result Choice LookupFault) → length bits ≡ word_bits p → AllBelowBase 2 bits →
       flow.may c (CNode base radix guard) ≡ true → choice p (CNode base radix guard) bits ≡ r → found_or (cap_at f) (resolution_within p (cap_at f) n) r ≡ Ok found →
-      is_cnode (cap_at f found.slot) ≡ true → LiesIn flow (flow.nodes c) found.slot
+      is_cnode (cap_at f found.slot) ≡ true → LiesAmong flow (flow.nodes c) found.slot
   node_after n base radix guard bits found (Err fault) long below may is e node = cc
   node_after n base radix guard bits found (Ok first) long below may is e node =
       let root : Cap = CNode base radix guard in
       let here = chosen_slot p root bits first below is in
-      node_where {P = LiesIn flow (flow.nodes c) found.slot} p f (resolution_within p (cap_at f) n) first found (is_cnode (cap_at f first.slot)) (length first.left == 0) refl refl node e
+      node_where {P = LiesAmong flow (flow.nodes c) found.slot} p f (resolution_within p (cap_at f) n) first found (is_cnode (cap_at f first.slot)) (length first.left == 0) refl refl node e
       (λ none same.
       let all = all_after p base radix guard bits first (after_front (guard_bits guard) bits) refl is none in
-      subst (LiesIn flow (flow.nodes c)) same (settled.ends base radix guard first.slot may (all ∙ long) here.0))
+      subst (LiesAmong flow (flow.nodes c)) same (settled.ends base radix guard first.slot may (all ∙ long) here.0))
       (λ on. elim settled.goes_on [
         | inl ending ↦
             let none = none_after p base radix guard bits first (after_front (guard_bits guard) bits) (ending base radix guard may ∙ sym long) refl is in
@@ -234,14 +234,14 @@ module _ (p : ProfileName) (flow : Flow) (c : ℕ) (settled : IsSettledFor p flo
         | inr goes ↦ behind n first found (settled.begins root first.slot may here.0) here.1 goes on
       ])
     where
-      ended_on : length first.left ≡ 0 → resolution_within p (cap_at f) n (cap_at f first.slot) first.left ≡ Ok found → LiesIn flow (flow.nodes c) found.slot
+      ended_on : length first.left ≡ 0 → resolution_within p (cap_at f) n (cap_at f first.slot) first.left ≡ Ok found → LiesAmong flow (flow.nodes c) found.slot
       ended_on none on =
           let all = all_after p base radix guard bits first (after_front (guard_bits guard) bits) refl is none in
-          subst (LiesIn flow (flow.nodes c)) (ended_by p f (resolution_within p (cap_at f) n) first found (is_cnode (cap_at f first.slot)) none e)
+          subst (LiesAmong flow (flow.nodes c)) (ended_by p f (resolution_within p (cap_at f) n) first found (is_cnode (cap_at f first.slot)) none e)
           (settled.ends base radix guard first.slot may (all ∙ long) (chosen_slot p (CNode base radix guard) bits first below is).0)
 
   node_found : (word : ℕ) (root : Cap) (found : Found) → flow.may c root ≡ true → resolution p (cap_at f) root (low_bits (word_bits p) word) ≡ Ok found →
-      is_cnode (cap_at f found.slot) ≡ true → LiesIn flow (flow.nodes c) found.slot
+      is_cnode (cap_at f found.slot) ≡ true → LiesAmong flow (flow.nodes c) found.slot
   unfolding resolution resolution_within
   node_found word Null found may e node = cc
   node_found word (Untyped base bits free) found may e node = cc
@@ -254,11 +254,11 @@ module _ (p : ProfileName) (flow : Flow) (c : ℕ) (settled : IsSettledFor p flo
 
   -- the slot with a CNode's capability that a word names
   pub node_lies : (thread word slot : ℕ) → flow.set_of thread ≡ c → slot_named p f (cap_at f thread) word ≡ Ok slot → is_cnode (cap_at f slot) ≡ true →
-      LiesIn flow (flow.nodes c) slot
+      LiesAmong flow (flow.nodes c) slot
   node_lies thread word slot own h node =
       let found = named_found (resolution p (cap_at f) (cap_at f thread) (low_bits (word_bits p) word)) slot h in
       let may : flow.may c (cap_at f thread) ≡ true = subst (λ n. flow.may n (cap_at f thread) ≡ true) own (held thread) in
-      subst (LiesIn flow (flow.nodes c)) found.1.1
+      subst (LiesAmong flow (flow.nodes c)) found.1.1
       (node_found word (cap_at f thread) found.0 may found.1.0 (subst (λ n. is_cnode (cap_at f n) ≡ true) (sym found.1.1) node))
 
   with_slots : (cap : Cap) (slot : ℕ) → IsSlotOf p cap slot → is_cnode cap ≡ true
@@ -274,11 +274,11 @@ module _ (p : ProfileName) (flow : Flow) (c : ℕ) (settled : IsSettledFor p flo
 
   -- the slot that an index and a depth name from a slot
   pub index_lies : (root index depth slot : ℕ) → Leads (flow.fills c) (cap_at f root) →
-      target_slot p (cap_at f) (cap_at f root) index depth ≡ Ok slot → LiesIn flow (flow.fills c) slot
+      target_slot p (cap_at f) (cap_at f root) index depth ≡ Ok slot → LiesAmong flow (flow.fills c) slot
   index_lies root index depth slot leads h =
       let node = cond_passed (is_cnode (cap_at f root)) _ (FailedLookup InvalidRoot) slot h in
       let range = cond_passed (nat_le 1 depth && nat_le depth (word_bits p)) _ RangeError slot node.1 in
       let whole = whole_passed (resolution p (cap_at f) (cap_at f root) (low_bits depth index)) slot range.1 in
-      subst (LiesIn flow (flow.fills c)) whole.1.1
-      (fits_found p f (LiesIn flow (flow.fills c)) (Leads (flow.fills c)) (λ cap slot leads is. leads slot is) (λ slot lies. fills_lead slot (inr lies))
+      subst (LiesAmong flow (flow.fills c)) whole.1.1
+      (fits_found p f (LiesAmong flow (flow.fills c)) (Leads (flow.fills c)) (λ cap slot leads is. leads slot is) (λ slot lies. fills_lead slot (inr lies))
       (cap_at f root) depth index whole.0 leads whole.1.0)

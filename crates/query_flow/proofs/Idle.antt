@@ -24,7 +24,7 @@ use Rattle.kernel_abstract.proofs.Checks.Walked.{unrefused}
 use Rattle.kernel_abstract.proofs.Lists.Tables.{get_table}
 use Rattle.kernel_abstract.proofs.Reached.Runs.{reached_after}
 use Rattle.query_parts.proofs.Messages.{IsMessage, MayBeMessage, call_passes}
-use Rattle.query_flow.specs.Flow.{Flow, IsHeld, IsSettled}
+use Rattle.query_flow.specs.Flow.{Flow, HoldsWhatMayStand, IsSettled}
 use Rattle.query_flow.specs.Laws.{IsExpected}
 use Rattle.query_flow.specs.Apart.{is_inactive}
 use Rattle.query_flow.proofs.Passed.{StaysIn}
@@ -169,7 +169,7 @@ module _ (p : ProfileName) (A : State) (thread : ℕ) (idle : IsIdle A thread) w
 module _ (p : ProfileName) (flow : Flow) (settled : IsSettled p flow) (idle : ℕ → Bool) (none : NoneWakes flow idle) where
   -- each slot holds what may stand there, and who is idle is inactive
   pub record IsKept (A : State) : Type 0 where
-    pub held : IsHeld flow A.derivations
+    pub held : HoldsWhatMayStand flow A.derivations
     pub inactive : (thread : ℕ) → idle thread ≡ true → IsIdle A thread
 
   -- a call of a thread that is idle, or an expected one
@@ -203,8 +203,8 @@ module _ (p : ProfileName) (flow : Flow) (settled : IsSettled p flow) (idle : �
     idle_step call reached may =
         outcome_idle p A thread (kept.inactive thread is) call.thread (decoded_call p (shown A) call) (λ done h. call_other call done reached may h)
 
-  held_step : (A : State) (call : Call) → IsReached p A → IsKept A → IsAllowed call → IsHeld flow (step p A call).state.derivations
-  held_step A call reached kept (inl own) = subst (IsHeld flow) (sym (no_change p A call (kept.inactive call.thread own))) kept.held
+  held_step : (A : State) (call : Call) → IsReached p A → IsKept A → IsAllowed call → HoldsWhatMayStand flow (step p A call).state.derivations
+  held_step A call reached kept (inl own) = subst (HoldsWhatMayStand flow) (sym (no_change p A call (kept.inactive call.thread own))) kept.held
   held_step A call reached kept (inr expected) = step_held p flow settled A call reached kept.held expected
 
   pub kept_step : (A : State) (call : Call) → IsReached p A → IsKept A → IsAllowed call → IsKept (step p A call).state

@@ -41,23 +41,23 @@ use Rattle.kernel_abstract.proofs.Checks.FoundSlots.{passed, made_passed, cond_p
 use Rattle.kernel_abstract.proofs.Checks.FilledSlots.{along, slots_there}
 use Rattle.kernel_abstract.proofs.Checks.PassedSpaceChecks.{tcb_named}
 use Rattle.query_parts.proofs.Found.{empty_found, full_found}
-use Rattle.query_flow.specs.Flow.{Flow, StandsAt, IsHeld, LiesIn, IsMadeOf, IsSettledFor}
-use Rattle.query_flow.specs.Laws.{MayUse}
+use Rattle.query_flow.specs.Flow.{Flow, StandsAt, HoldsWhatMayStand, LiesAmong, MayBeMadeOf, IsSettledFor}
+use Rattle.query_flow.specs.Laws.{MayUseByFlow}
 use Rattle.query_flow.proofs.Made.{made_changed, made_space}
 use Rattle.query_flow.proofs.Found.{word_lies, node_lies, word_leads, index_lies, fills_lead}
 
 module _ (p : ProfileName) (flow : Flow) (c : ℕ) where
   pub record IsPlacedIn (placement : CapPlacement) : Type 0 where
-    pub slot : LiesIn flow (flow.fills c) placement.slot
+    pub slot : LiesAmong flow (flow.fills c) placement.slot
     pub cap : (set : ℕ) → flow.fills c set ≡ true → flow.may set placement.cap ≡ true
 
   pub record IsMadeIn (new : NewObjects) : Type 0 where
-    pub untyped : LiesIn flow (flow.names c) new.untyped
-    pub slots : (k : ℕ) → k < new.count → LiesIn flow (flow.fills c) (slot_of p new.first_slot k)
+    pub untyped : LiesAmong flow (flow.names c) new.untyped
+    pub slots : (k : ℕ) → k < new.count → LiesAmong flow (flow.fills c) (slot_of p new.first_slot k)
 
   abbrev pub StaysIn : Invocation → Type 0
-  StaysIn (invocation.Send service message block) = MayUse flow write_bit c service.endpoint service.badge
-  StaysIn (invocation.Receive service block) = MayUse flow read_bit c service.endpoint service.badge
+  StaysIn (invocation.Send service message block) = MayUseByFlow flow write_bit c service.endpoint service.badge
+  StaysIn (invocation.Receive service block) = MayUseByFlow flow read_bit c service.endpoint service.badge
   StaysIn (invocation.Retype new) = IsMadeIn new
   StaysIn (invocation.Derive placement) = IsPlacedIn placement
   StaysIn (invocation.Move placement) = IsPlacedIn placement
@@ -69,18 +69,18 @@ module _ (p : ProfileName) (flow : Flow) (c : ℕ) where
   StaysIn (invocation.Resume tcb) = (set : ℕ) × ((flow.names c set ≡ true) × (flow.may set (Tcb tcb) ≡ true))
 
   served : (needed : Right) (slot set : ℕ) (cap : Cap) (service : Service) → flow.names c set ≡ true → flow.may set cap ≡ true →
-      service_in needed slot cap ≡ Ok service → MayUse flow (right_bit needed) c service.endpoint service.badge
+      service_in needed slot cap ≡ Ok service → MayUseByFlow flow (right_bit needed) c service.endpoint service.badge
   served needed slot set Null service among may h = cc
   served needed slot set (Untyped base bits free) service among may h = cc
   served needed slot set (Endpoint base badge rights) service among may h =
       let has = cond_passed (has_right (right_bit needed) rights) _ _ service h in
-      subst (λ (s : Service). MayUse flow (right_bit needed) c s.endpoint s.badge) (ok_same _ service has.1) (set, (among, (rights, (may, has.0))))
+      subst (λ (s : Service). MayUseByFlow flow (right_bit needed) c s.endpoint s.badge) (ok_same _ service has.1) (set, (among, (rights, (may, has.0))))
   served needed slot set (CNode base radix guard) service among may h = cc
   served needed slot set (Tcb base) service among may h = cc
 
   first_lies : (f : Forest Entry) (word : Word) (offset count holder first : ℕ) (node : Cap) →
-      ((slot : ℕ) → IsSlotOf p node slot → LiesIn flow (flow.fills c) slot) → first_slot p f word offset count holder node ≡ Ok first →
-      (k : ℕ) → k < count → LiesIn flow (flow.fills c) (slot_of p first k)
+      ((slot : ℕ) → IsSlotOf p node slot → LiesAmong flow (flow.fills c) slot) → first_slot p f word offset count holder node ≡ Ok first →
+      (k : ℕ) → k < count → LiesAmong flow (flow.fills c) (slot_of p first k)
   first_lies f word offset count holder first Null leads h k low = cc
   first_lies f word offset count holder first (Untyped base bits free) leads h k low = cc
   first_lies f word offset count holder first (Endpoint base badge rights) leads h k low = cc
@@ -92,21 +92,21 @@ module _ (p : ProfileName) (flow : Flow) (c : ℕ) where
       let fits = slots.0.within in
       let at : IsSlotOf p (CNode base radix guard) (slot_of p (slot_of p base offset) k) =
       (offset + k, (omega (arith, fits, low), along p base offset k)) in
-      subst (λ n. LiesIn flow (flow.fills c) (slot_of p n k)) (slots.1 ∙ empty.1) (leads (slot_of p (slot_of p base offset) k) at)
+      subst (λ n. LiesAmong flow (flow.fills c) (slot_of p n k)) (slots.1 ∙ empty.1) (leads (slot_of p (slot_of p base offset) k) at)
   first_lies f word offset count holder first (Tcb base) leads h k low = cc
 
-  module _ (settled : IsSettledFor p flow c) (f : Forest Entry) (held : IsHeld flow f) (thread : ℕ) (own : flow.set_of thread ≡ c) where
-    by_word : (word : Word) (n slot : ℕ) → slot_by_word p f word thread n ≡ Ok slot → LiesIn flow (flow.names c) slot
+  module _ (settled : IsSettledFor p flow c) (f : Forest Entry) (held : HoldsWhatMayStand flow f) (thread : ℕ) (own : flow.set_of thread ≡ c) where
+    by_word : (word : Word) (n slot : ℕ) → slot_by_word p f word thread n ≡ Ok slot → LiesAmong flow (flow.names c) slot
     by_word word n slot h = word_lies p flow c settled f held thread n slot own (word_passed p f word thread n slot h)
 
     -- the slots of the CNode whose capability a slot holds are filled
     abbrev IsFilledFrom : ℕ → Type 0
-    IsFilledFrom slot = (there : ℕ) → IsSlotOf p (cap_at f slot) there → LiesIn flow (flow.fills c) there
+    IsFilledFrom slot = (there : ℕ) → IsSlotOf p (cap_at f slot) there → LiesAmong flow (flow.fills c) there
 
     filled_by : (word : Word) (n slot : ℕ) → slot_by_word p f word thread n ≡ Ok slot → IsFilledFrom slot
     filled_by word n slot h = word_leads p flow c settled f held thread n slot own (word_passed p f word thread n slot h)
 
-    by_index : (word : Word) (root index depth slot : ℕ) → IsFilledFrom root → slot_by_index p (cap_at f) word root index depth ≡ Ok slot → LiesIn flow (flow.fills c) slot
+    by_index : (word : Word) (root index depth slot : ℕ) → IsFilledFrom root → slot_by_index p (cap_at f) word root index depth ≡ Ok slot → LiesAmong flow (flow.fills c) slot
     by_index word root index depth slot filled h =
         index_lies p flow c settled f held root index depth slot filled (index_passed p (cap_at f) word root index depth slot h)
 
@@ -114,7 +114,7 @@ module _ (p : ProfileName) (flow : Flow) (c : ℕ) where
     filled_on root node index depth true filled h = subst IsFilledFrom (ok_same root node h) filled
     filled_on root node index depth false filled h = fills_lead p flow c settled f held node (inr (by_index Index root index depth node filled h))
 
-    retype_stays : (slot : ℕ) (asked : RetypeArguments) (new : NewObjects) → LiesIn flow (flow.names c) slot →
+    retype_stays : (slot : ℕ) (asked : RetypeArguments) (new : NewObjects) → LiesAmong flow (flow.names c) slot →
         checked_retype p f thread slot asked ≡ Ok new → IsMadeIn new
     retype_stays slot asked new here h =
         let untyped = passed (of_kind kind.Untyped (held_at (cap_at f) slot)) _ new h in
@@ -150,7 +150,7 @@ module _ (p : ProfileName) (flow : Flow) (c : ℕ) where
         })
 
     set_stays : (tcb of from : ℕ) (node made : Cap) → flow.names c of ≡ true → flow.may of (Tcb tcb) ≡ true → flow.nodes c from ≡ true →
-        flow.may from node ≡ true → is_cnode node ≡ true → IsMadeOf node made → StandsAt flow tcb made
+        flow.may from node ≡ true → is_cnode node ≡ true → MayBeMadeOf node made → StandsAt flow tcb made
     set_stays tcb of from Null made in_of may_of in_from may h is = cc
     set_stays tcb of from (Untyped base bits free) made in_of may_of in_from may h is = cc
     set_stays tcb of from (Endpoint base badge rights) made in_of may_of in_from may h is = cc
@@ -158,7 +158,7 @@ module _ (p : ProfileName) (flow : Flow) (c : ℕ) where
         subst (StandsAt flow tcb) (sym is) (settled.sets from of tcb base radix guard other in_from in_of may_of may)
     set_stays tcb of from (Tcb base) made in_of may_of in_from may h is = cc
 
-    space_stays : (slot root word : ℕ) (new : NewSpace) → LiesIn flow (flow.names c) slot →
+    space_stays : (slot root word : ℕ) (new : NewSpace) → LiesAmong flow (flow.names c) slot →
         checked_space p f thread slot root word ≡ Ok new → StandsAt flow new.tcb new.cap
     space_stays slot root word new in_of h =
         let tcb = passed (checked_tcb slot (cap_at f slot)) _ new h in
@@ -171,7 +171,7 @@ module _ (p : ProfileName) (flow : Flow) (c : ℕ) where
         subst (λ (n : NewSpace). StandsAt flow n.tcb n.cap) (ok_same found new cap.1.1)
         (set_stays tcb.0 (flow.set_of slot) (flow.set_of source.0) (cap_at f source.0) cap.0 in_of may_of from (held source.0) node.0 node.1)
 
-    invocation_stays : (o : Op) (slot : ℕ) (done : Invocation) → LiesIn flow (flow.names c) slot → IsFilledFrom slot → checked_invocation p f thread o slot ≡ Ok done →
+    invocation_stays : (o : Op) (slot : ℕ) (done : Invocation) → LiesAmong flow (flow.names c) slot → IsFilledFrom slot → checked_invocation p f thread o slot ≡ Ok done →
         StaysIn done
     invocation_stays (op.Retype cap kind size_bits root index depth offset count) slot done here filled h =
         made_passed StaysIn invocation.Retype _ done

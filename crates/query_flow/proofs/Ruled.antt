@@ -34,11 +34,11 @@ use Rattle.query_flow.specs.declared.listed.Caller.{Caller}
 use Rattle.query_flow.specs.declared.listed.Flows.{Flows}
 use Rattle.query_flow.specs.declared.excluded.Spot.{Spot}
 use Rattle.query_flow.specs.declared.excluded.Bound.{Bound}
-use Rattle.query_flow.specs.Flow.{Flow, IsHeld, IsSettled, IsSettledFor}
-use Rattle.query_flow.specs.Laws.{MayUse}
-use Rattle.query_flow.specs.Listed.{is_among, set_at, covers, caller_of, names_of, has_slots, is_set_settled, flow_of_lists, IsFlow}
-use Rattle.query_flow.specs.Excluded.{is_listed, IsOfOthers, TellsNone, PassesNoneEver, NamesNone, NamesNoneEver, ChangesNone, ChangesNoneEver}
-use Rattle.query_flow.specs.Apart.{names_in, nodes_in, one_at, spot_in, send_spot, receive_spot, sends_of, receives_of, are_free, are_kept, names_no_thread, names_no_node, is_inactive, none_names, stays_idle, stay_idle, either_idle, are_silent, is_one_of, are_known, IsTested}
+use Rattle.query_flow.specs.Flow.{Flow, HoldsWhatMayStand, IsSettled, IsSettledFor}
+use Rattle.query_flow.specs.Laws.{MayUseByFlow}
+use Rattle.query_flow.specs.Listed.{is_among, set_at, stands_for_cap, caller_of, caller_names, may_have_slots, is_set_settled, flow_of_lists, IsFlow}
+use Rattle.query_flow.specs.Excluded.{is_number_listed, IsOfOthers, TellsNone, PassesNoneEver, NamesNone, NamesNoneEver, ChangesNone, ChangesNoneEver}
+use Rattle.query_flow.specs.Apart.{sets_named, nodes_in, one_at, spot_in, send_spot, receive_spot, send_spots, receive_spots, are_free, are_kept, names_no_thread, names_no_node, is_inactive, none_names, stays_idle, stay_idle, either_idle, are_silent, is_trusted_or_idle, trusts_none_else, IsTested}
 use Rattle.query_flow.proofs.Found.{word_lies, node_lies}
 use Rattle.query_flow.proofs.Idle.{NoneWakes, IsKept, IsAllowed, idle_shown, kept_after, no_change}
 use Rattle.query_flow.proofs.Told.{MaySend, MayReceive, all_told}
@@ -69,12 +69,12 @@ state_told A t same live =
     (get_table (threads_of A.derivations) (thread_view A) t.base ∙ ap (λ b. cond b (Some (thread_view A t.base)) None) live)
     ∙ ap (λ (x : Instance). Some (state_of A x)) (sym same)
 
-pub is_tested : (p : ProfileName) (trusted : List ℕ) (v : Shown) (bound : Bound) → are_known trusted bound ≡ true →
+pub is_tested : (p : ProfileName) (trusted : List ℕ) (v : Shown) (bound : Bound) → trusts_none_else trusted bound ≡ true →
     stay_idle p bound.flows v bound.idle.items ≡ true → IsFlow p bound.flows v → IsTested p trusted v bound
 is_tested p trusted v bound known idle is = record { known = known; idle = idle; flow = is }
 
 -- one that is among those known, and is not of these, is of the others
-other_known : (trusted idle : List ℕ) (thread : ℕ) → is_one_of trusted idle thread ≡ true → is_among trusted thread ≡ false → is_among idle thread ≡ true
+other_known : (trusted idle : List ℕ) (thread : ℕ) → is_trusted_or_idle trusted idle thread ≡ true → is_among trusted thread ≡ false → is_among idle thread ≡ true
 other_known trusted idle thread h free = elim (either_true (is_among trusted thread) (is_among idle thread) h) [
   | inl among ↦ absurd (false≢true (sym free ∙ among))
   | inr rest ↦ rest
@@ -94,12 +94,12 @@ module _ (p : ProfileName) (trusted : List ℕ) (v : Shown) (bound : Bound) (tes
   settles = settled_by_test p flows.memory.items flows.standing.items flows.callers.items flows.trusted.items tested.flow.settled
 
   -- a thread that is not trusted, by the flow it is trusted, is idle
-  idle_of : (thread : ℕ) → is_listed trusted thread ≡ false → flow.trusted thread ≡ true → idle thread ≡ true
+  idle_of : (thread : ℕ) → is_number_listed trusted thread ≡ false → flow.trusted thread ≡ true → idle thread ≡ true
   idle_of thread h among =
       let there = any_of (λ k. k == thread) flows.trusted.items among in
       let same = eqb-true there.0 thread there.1.1 in
       other_known trusted bound.idle.items thread
-      (subst (λ k. is_one_of trusted bound.idle.items k ≡ true) same (all_in (is_one_of trusted bound.idle.items) flows.trusted.items there.0 tested.known there.1.0))
+      (subst (λ k. is_trusted_or_idle trusted bound.idle.items k ≡ true) same (all_in (is_trusted_or_idle trusted bound.idle.items) flows.trusted.items there.0 tested.known there.1.0))
       (sym (listed_among trusted thread) ∙ h)
 
   is_idle : (thread : ℕ) → idle thread ≡ true → stays_idle p flows v thread ≡ true
@@ -113,11 +113,11 @@ module _ (p : ProfileName) (trusted : List ℕ) (v : Shown) (bound : Bound) (tes
   not_named : (names : List ℕ) (set thread : ℕ) → is_among names set ≡ true → flow.may set (Tcb thread) ≡ true → names_no_thread p names flows.standing.items thread ≡ true → ⊥
   not_named names set thread named may none =
       let s = stands_by p flows.memory.items flows.standing.items flows.callers.items flows.trusted.items set (Tcb thread) refl may in
-      not_both (is_among names s.0.set) (covers p s.0.what (Tcb thread))
-      (all_in (λ (x : MayStand). not (is_among names x.set && covers p x.what (Tcb thread))) flows.standing.items s.0 none s.1.0)
+      not_both (is_among names s.0.set) (stands_for_cap p s.0.what (Tcb thread))
+      (all_in (λ (x : MayStand). not (is_among names x.set && stands_for_cap p x.what (Tcb thread))) flows.standing.items s.0 none s.1.0)
       (subst (λ n. is_among names n ≡ true) (sym s.1.1.0) named) s.1.1.1
 
-  none_wakes_by : (c set thread : ℕ) (o : Option Caller) → caller_of flows.callers.items c ≡ o → names_of o set ≡ true → flow.may set (Tcb thread) ≡ true → idle thread ≡ true → ⊥
+  none_wakes_by : (c set thread : ℕ) (o : Option Caller) → caller_of flows.callers.items c ≡ o → caller_names o set ≡ true → flow.may set (Tcb thread) ≡ true → idle thread ≡ true → ⊥
   none_wakes_by c set thread None at named may is = false≢true named
   none_wakes_by c set thread (Some k) at named may is =
       let there = find_some (λ (x : Caller). x.set == c) flows.callers.items k at in
@@ -142,7 +142,7 @@ module _ (p : ProfileName) (trusted : List ℕ) (v : Shown) (bound : Bound) (tes
   allowed_of : (calls : List Call) → Each (IsOfOthers trusted) calls → Each IsDone calls
   allowed_of calls of = each-weaker (IsOfOthers trusted) IsDone (λ call is. by call is) calls of
     where
-      by_trust : (call : Call) (t : Bool) → flow.trusted call.thread ≡ t → is_listed trusted call.thread ≡ false → IsDone call
+      by_trust : (call : Call) (t : Bool) → flow.trusted call.thread ≡ t → is_number_listed trusted call.thread ≡ false → IsDone call
       by_trust call true among free = inl (idle_of call.thread free among)
       by_trust call false other free = inr (inl other)
 
@@ -151,7 +151,7 @@ module _ (p : ProfileName) (trusted : List ℕ) (v : Shown) (bound : Bound) (tes
       by call (inr passes) = inr (inr passes)
 
   module _ (A : State) (reached : IsReached p A) (shows : v ≡ shown A) where
-    held : IsHeld flow A.derivations
+    held : HoldsWhatMayStand flow A.derivations
     held = held_of_told p flows v tested.flow.told A shows
 
     kept : IsKept p flow settles idle none_wakes A
@@ -163,7 +163,7 @@ module _ (p : ProfileName) (trusted : List ℕ) (v : Shown) (bound : Bound) (tes
     kept_then : (calls : List Call) → Each (IsOfOthers trusted) calls → IsKept p flow settles idle none_wakes (state_after p A calls)
     kept_then calls of = kept_after p flow settles idle none_wakes A calls reached kept (allowed_of calls of)
 
-    held_after : (calls : List Call) → Each (IsOfOthers trusted) calls → IsHeld flow (state_after p A calls).derivations
+    held_after : (calls : List Call) → Each (IsOfOthers trusted) calls → HoldsWhatMayStand flow (state_after p A calls).derivations
     held_after calls of = (kept_then calls of).held
 
     -- ---- a message
@@ -184,10 +184,10 @@ module _ (p : ProfileName) (trusted : List ℕ) (v : Shown) (bound : Bound) (tes
 
     module _ (by : List ℕ) (from to : ℕ) (silent : are_silent trusted bound v by from to ≡ true) where
       abbrev sends : List Spot
-      sends = sends_of (names_in flows from) flows.standing.items v by from
+      sends = send_spots (sets_named flows from) flows.standing.items v by from
 
       abbrev receives : List Spot
-      receives = receives_of (names_in flows to) flows.standing.items v by to
+      receives = receive_spots (sets_named flows to) flows.standing.items v by to
 
       -- a thread that is idle neither sends nor receives
       never_sends : idle from ≡ true → (s : SendRecord) → Contains (waiting_sends A s.endpoint) s ⊎ MaySend p flow settles idle none_wakes A s.endpoint.base s.thread.base s.badge → s.thread.base ≡ from → ⊥
@@ -202,25 +202,25 @@ module _ (p : ProfileName) (trusted : List ℕ) (v : Shown) (bound : Bound) (tes
           is_among by s.endpoint.base ≡ false → list_any (lies_at s.endpoint.base) sends ≡ true
       sent free s (inl waits) own other =
           let state = ap (state_at v) (sym own) ∙ sends_at s waits in
-          spot_last s.endpoint.base (filter_map (spot_in write_bit by (names_in flows from)) flows.standing.items) (send_spot by (state_at v from))
+          spot_last s.endpoint.base (filter_map (spot_in write_bit by (sets_named flows from)) flows.standing.items) (send_spot by (state_at v from))
           (ap (send_spot by) state ∙ not_cond (is_among by s.endpoint.base) (one_at s.endpoint.base) other)
       sent free s (inr may) own other =
-          spot_among s.endpoint.base (filter_map (spot_in write_bit by (names_in flows from)) flows.standing.items) (send_spot by (state_at v from))
+          spot_among s.endpoint.base (filter_map (spot_in write_bit by (sets_named flows from)) flows.standing.items) (send_spot by (state_at v from))
           (used_spot p flows write_bit by from s.endpoint.base s.badge other
-          (subst (λ t. MayUse flow write_bit (flow.set_of t) s.endpoint.base s.badge) own
+          (subst (λ t. MayUseByFlow flow write_bit (flow.set_of t) s.endpoint.base s.badge) own
           (may.1 (free_awake s.thread.base (ap (is_among trusted) own ∙ free) may.0))))
 
       received : is_among trusted to ≡ false → (a : ReceiveRecord) → Contains (waiting_receives A a.endpoint) a ⊎ MayReceive p flow settles idle none_wakes A a.endpoint.base a.thread.base → a.thread.base ≡ to →
           is_among by a.endpoint.base ≡ false → list_any (lies_at a.endpoint.base) receives ≡ true
       received free a (inl waits) own other =
           let state = ap (state_at v) (sym own) ∙ receives_at a waits in
-          spot_last a.endpoint.base (filter_map (spot_in read_bit by (names_in flows to)) flows.standing.items) (receive_spot by (state_at v to))
+          spot_last a.endpoint.base (filter_map (spot_in read_bit by (sets_named flows to)) flows.standing.items) (receive_spot by (state_at v to))
           (ap (receive_spot by) state ∙ not_cond (is_among by a.endpoint.base) (one_at a.endpoint.base) other)
       received free a (inr may) own other =
           let may_hear = may.1 (free_awake a.thread.base (ap (is_among trusted) own ∙ free) may.0) in
-          spot_among a.endpoint.base (filter_map (spot_in read_bit by (names_in flows to)) flows.standing.items) (receive_spot by (state_at v to))
+          spot_among a.endpoint.base (filter_map (spot_in read_bit by (sets_named flows to)) flows.standing.items) (receive_spot by (state_at v to))
           (used_spot p flows read_bit by to a.endpoint.base may_hear.0 other
-          (subst (λ t. MayUse flow read_bit (flow.set_of t) a.endpoint.base may_hear.0) own may_hear.1))
+          (subst (λ t. MayUseByFlow flow read_bit (flow.set_of t) a.endpoint.base may_hear.0) own may_hear.1))
 
       module _ (s : SendRecord) (a : ReceiveRecord) (same : a.endpoint ≡ s.endpoint)
           (is_sent : Contains (waiting_sends A s.endpoint) s ⊎ MaySend p flow settles idle none_wakes A s.endpoint.base s.thread.base s.badge)
@@ -246,7 +246,7 @@ module _ (p : ProfileName) (trusted : List ℕ) (v : Shown) (bound : Bound) (tes
       of_both : (s : SendRecord) (a : ReceiveRecord) → a.endpoint ≡ s.endpoint →
           Contains (waiting_sends A s.endpoint) s ⊎ MaySend p flow settles idle none_wakes A s.endpoint.base s.thread.base s.badge →
           Contains (waiting_receives A a.endpoint) a ⊎ MayReceive p flow settles idle none_wakes A a.endpoint.base a.thread.base →
-          s.thread.base ≡ from → a.thread.base ≡ to → (b : Bool) → is_among by s.endpoint.base ≡ b → is_listed by s.endpoint.base ≡ true
+          s.thread.base ≡ from → a.thread.base ≡ to → (b : Bool) → is_among by s.endpoint.base ≡ b → is_number_listed by s.endpoint.base ≡ true
       of_both s a same is_sent is_received own other true named = listed_among by s.endpoint.base ∙ named
       of_both s a same is_sent is_received own other false else = absurd (none_silent s a same is_sent is_received own other else)
 
@@ -276,34 +276,34 @@ module _ (p : ProfileName) (trusted : List ℕ) (v : Shown) (bound : Bound) (tes
         caller_settled p flows.memory.items flows.standing.items flows.callers.items flows.trusted.items (flow.set_of from)
         (caller_of flows.callers.items (flow.set_of from)) refl is
 
-    named_at : (f : Forest Entry) → IsHeld flow f → (word slot : ℕ) → slot_named p f (cap_at f from) word ≡ Ok slot → is_among (names_in flows from) (flow.set_of slot) ≡ true
+    named_at : (f : Forest Entry) → HoldsWhatMayStand flow f → (word slot : ℕ) → slot_named p f (cap_at f from) word ≡ Ok slot → is_among (sets_named flows from) (flow.set_of slot) ≡ true
     named_at f held word slot h = named_in p flows from (flow.set_of slot) (word_lies p flow (flow.set_of from) caller f held from word slot refl h)
 
-    no_thread : (to : ℕ) → names_no_thread p (names_in flows from) flows.standing.items to ≡ true → (f : Forest Entry) → IsHeld flow f → NamesNone p f from to
+    no_thread : (to : ℕ) → names_no_thread p (sets_named flows from) flows.standing.items to ≡ true → (f : Forest Entry) → HoldsWhatMayStand flow f → NamesNone p f from to
     no_thread to none f held word slot h cap =
         let may : flow.may (flow.set_of slot) (Tcb to) ≡ true = subst (λ (it : Cap). flow.may (flow.set_of slot) it ≡ true) cap (held slot) in
-        not_named (names_in flows from) (flow.set_of slot) to (named_at f held word slot h) may none
+        not_named (sets_named flows from) (flow.set_of slot) to (named_at f held word slot h) may none
 
-    node_at : (f : Forest Entry) → IsHeld flow f → (word slot : ℕ) → slot_named p f (cap_at f from) word ≡ Ok slot → is_cnode (cap_at f slot) ≡ true →
+    node_at : (f : Forest Entry) → HoldsWhatMayStand flow f → (word slot : ℕ) → slot_named p f (cap_at f from) word ≡ Ok slot → is_cnode (cap_at f slot) ≡ true →
         is_among (nodes_in flows from) (flow.set_of slot) ≡ true
     node_at f held word slot h node = noded_in p flows from (flow.set_of slot) (node_lies p flow (flow.set_of from) caller f held from word slot refl h node)
 
     no_node_at : (set : ℕ) (cap : Cap) → names_no_node (nodes_in flows from) flows.standing.items ≡ true → is_among (nodes_in flows from) set ≡ true → flow.may set cap ≡ true → is_cnode cap ≡ true → ⊥
     no_node_at set (CNode base radix guard) none named may node =
         let s = stands_by p flows.memory.items flows.standing.items flows.callers.items flows.trusted.items set (CNode base radix guard) refl may in
-        not_both (is_among (nodes_in flows from) s.0.set) (has_slots s.0.what)
-        (all_in (λ (x : MayStand). not (is_among (nodes_in flows from) x.set && has_slots x.what)) flows.standing.items s.0 none s.1.0)
+        not_both (is_among (nodes_in flows from) s.0.set) (may_have_slots s.0.what)
+        (all_in (λ (x : MayStand). not (is_among (nodes_in flows from) x.set && may_have_slots x.what)) flows.standing.items s.0 none s.1.0)
         (subst (λ n. is_among (nodes_in flows from) n ≡ true) (sym s.1.1.0) named) (with_slots p s.0.what base radix guard s.1.1.1)
     no_node_at set Null none named may node = false≢true node
     no_node_at set (Untyped base bits free) none named may node = false≢true node
     no_node_at set (Endpoint base badge rights) none named may node = false≢true node
     no_node_at set (Tcb base) none named may node = false≢true node
 
-    no_node : names_no_node (nodes_in flows from) flows.standing.items ≡ true → (f : Forest Entry) → IsHeld flow f → (word slot : ℕ) → slot_named p f (cap_at f from) word ≡ Ok slot →
+    no_node : names_no_node (nodes_in flows from) flows.standing.items ≡ true → (f : Forest Entry) → HoldsWhatMayStand flow f → (word slot : ℕ) → slot_named p f (cap_at f from) word ≡ Ok slot →
         is_cnode (cap_at f slot) ≡ true → ⊥
     no_node none f held word slot h node = no_node_at (flow.set_of slot) (cap_at f slot) none (node_at f held word slot h node) (held slot) node
 
-    still_by : names_no_node (nodes_in flows from) flows.standing.items ≡ true → (B : State) → IsHeld flow B.derivations → ChangesNone p B from
+    still_by : names_no_node (nodes_in flows from) flows.standing.items ≡ true → (B : State) → HoldsWhatMayStand flow B.derivations → ChangesNone p B from
     still_by none B held call own =
         quiet_step p B call
         (λ word n slot h node. no_node none B.derivations held n slot
@@ -311,7 +311,7 @@ module _ (p : ProfileName) (trusted : List ℕ) (v : Shown) (bound : Bound) (tes
 
   pub none_named : (from to : ℕ) →
       is_set_settled p flows.memory.items flows.standing.items (caller_of flows.callers.items (set_at flows.memory.items from)) ≡ true →
-      names_no_thread p (names_in flows from) flows.standing.items to ≡ true → NamesNoneEver p trusted v from to
+      names_no_thread p (sets_named flows from) flows.standing.items to ≡ true → NamesNoneEver p trusted v from to
   none_named from to is none A reached shows calls of = no_thread from is to none (state_after p A calls).derivations (held_after A reached shows calls of)
 
   pub none_changed : (from : ℕ) →

@@ -33,7 +33,7 @@ use Rattle.kernel_abstract.proofs.Reached.Stores.{checked_edit}
 use Rattle.kernel_abstract.proofs.Reached.Simulation.{reached_is}
 use Rattle.kernel_abstract.proofs.Reached.Runs.{reached_after}
 use Rattle.query_parts.proofs.Messages.{IsMessage, MayBeMessage, call_passes}
-use Rattle.query_flow.specs.Flow.{Flow, IsHeld, IsSettled, IsSettledFor}
+use Rattle.query_flow.specs.Flow.{Flow, HoldsWhatMayStand, IsSettled, IsSettledFor}
 use Rattle.query_flow.specs.Laws.{IsExpected, StayHeld}
 use Rattle.query_flow.proofs.Passed.{StaysIn, op_stays}
 use Rattle.query_flow.proofs.Changes.{IsFine, AreFine, held_of_fine, fine_of_held, fine-clear, fine-revoke, fine-with_derived, fine-with_moved, fine-with_space, fine-with_objects}
@@ -95,7 +95,7 @@ live_stands flow A thread fine live = stands_in flow thread (preorder A.derivati
 
 module _ (p : ProfileName) (flow : Flow) (settled : IsSettled p flow) where
   -- a thread that is not trusted and passes its checks
-  pub free_stays : (A : State) (call : Call) (done : Invocation) → IsReached p A → IsHeld flow A.derivations → flow.trusted call.thread ≡ false →
+  pub free_stays : (A : State) (call : Call) (done : Invocation) → IsReached p A → HoldsWhatMayStand flow A.derivations → flow.trusted call.thread ≡ false →
       decoded_call p (shown A) call ≡ Ok done → IsSettledFor p flow (flow.set_of call.thread) × StaysIn p flow (flow.set_of call.thread) done
   unfolding shown
   free_stays A call done reached held free h =
@@ -105,9 +105,9 @@ module _ (p : ProfileName) (flow : Flow) (settled : IsSettled p flow) where
       let caller = settled.callers set call.thread may free in
       (caller, op_stays p flow (flow.set_of call.thread) caller A.derivations held call.thread refl call.op done (call_passed p (shown A) call done h))
 
-  module _ (A : State) (held : IsHeld flow A.derivations) where
-    awaited_held : (awaited : Bool) (accepted : Outcome) (reply : Reply) → IsHeld flow accepted.state.derivations →
-        IsHeld flow (where_awaited A awaited accepted reply).state.derivations
+  module _ (A : State) (held : HoldsWhatMayStand flow A.derivations) where
+    awaited_held : (awaited : Bool) (accepted : Outcome) (reply : Reply) → HoldsWhatMayStand flow accepted.state.derivations →
+        HoldsWhatMayStand flow (where_awaited A awaited accepted reply).state.derivations
     awaited_held true accepted reply h = h
     awaited_held false accepted reply h = held
 
@@ -115,11 +115,11 @@ module _ (p : ProfileName) (flow : Flow) (settled : IsSettled p flow) where
       fine : AreFine flow A.derivations
       fine = fine_of_held p flow settled A.derivations store.slots_distinct held
 
-      now_held : (g : Forest Entry) → AreFine flow g → IsHeld flow g
+      now_held : (g : Forest Entry) → AreFine flow g → HoldsWhatMayStand flow g
       now_held g h = held_of_fine p flow settled g h
 
       performed_held : (done : Invocation) → IsEdit p A.derivations done → StaysIn p flow (flow.set_of thread) done →
-          IsHeld flow (performed p A thread done).state.derivations
+          HoldsWhatMayStand flow (performed p A thread done).state.derivations
       performed_held (Send service message true) edit stays = held
       performed_held (Send service message false) edit stays =
           awaited_held (is_send_awaited A (endpoint_at A service.endpoint)) (send_accepted A thread service message) _ held
@@ -140,7 +140,7 @@ module _ (p : ProfileName) (flow : Flow) (settled : IsSettled p flow) where
       performed_held (Suspend tcb) edit stays = held
       performed_held (Resume tcb) edit stays = held
 
-    message_held : (thread : ℕ) (done : Invocation) → IsMessage done → IsHeld flow (performed p A thread done).state.derivations
+    message_held : (thread : ℕ) (done : Invocation) → IsMessage done → HoldsWhatMayStand flow (performed p A thread done).state.derivations
     message_held thread (Send service message true) is = held
     message_held thread (Send service message false) is =
         awaited_held (is_send_awaited A (endpoint_at A service.endpoint)) (send_accepted A thread service message) _ held
@@ -157,26 +157,26 @@ module _ (p : ProfileName) (flow : Flow) (settled : IsSettled p flow) where
     message_held thread (Suspend tcb) is = absurd is
     message_held thread (Resume tcb) is = absurd is
 
-    outcome_held : (thread : ℕ) (r : Result Invocation Refusal) → MayBeMessage r → IsHeld flow (outcome p A thread r).state.derivations
+    outcome_held : (thread : ℕ) (r : Result Invocation Refusal) → MayBeMessage r → HoldsWhatMayStand flow (outcome p A thread r).state.derivations
     outcome_held thread (Err refusal) is = held
     outcome_held thread (Ok done) is = message_held thread done is
 
   free_held : (memory : ℕ) (A : State) (call : Call) (r : Result Invocation Refusal) → IsReached p A → IsKernelStore p memory A.derivations →
-      IsHeld flow A.derivations → flow.trusted call.thread ≡ false → decoded_call p (shown A) call ≡ r → IsHeld flow (outcome p A call.thread r).state.derivations
+      HoldsWhatMayStand flow A.derivations → flow.trusted call.thread ≡ false → decoded_call p (shown A) call ≡ r → HoldsWhatMayStand flow (outcome p A call.thread r).state.derivations
   free_held memory A call (Err refusal) reached store held free h = held
   free_held memory A call (Ok done) reached store held free h =
       let stays = free_stays A call done reached held free h in
       performed_held A held memory call.thread store stays.0 done (checked_edit p memory A call done store h) stays.1
 
-  pub step_held : (A : State) (call : Call) → IsReached p A → IsHeld flow A.derivations → IsExpected flow call → IsHeld flow (step p A call).state.derivations
+  pub step_held : (A : State) (call : Call) → IsReached p A → HoldsWhatMayStand flow A.derivations → IsExpected flow call → HoldsWhatMayStand flow (step p A call).state.derivations
   unfolding step
   step_held A call reached held (inl free) =
       free_held reached.plan.memory_bits A call (decoded_call p (shown A) call) reached (reached_is p A reached).store held free refl
   step_held A call reached held (inr passes) =
       outcome_held A held call.thread (decoded_call p (shown A) call) (call_passes p (shown A) call passes)
 
-  pub run_held : (A : State) (calls : List Call) → IsReached p A → IsHeld flow A.derivations → Each (IsExpected flow) calls →
-      IsHeld flow (state_after p A calls).derivations
+  pub run_held : (A : State) (calls : List Call) → IsReached p A → HoldsWhatMayStand flow A.derivations → Each (IsExpected flow) calls →
+      HoldsWhatMayStand flow (state_after p A calls).derivations
   unfolding state_after
   run_held A [] reached held of = held
   run_held A (call ∷ calls) reached held of =

@@ -35,8 +35,8 @@ use Rattle.query_flow.specs.declared.listed.Flows.{Flows}
 use Rattle.query_flow.specs.Laws.{TellsOfFlow, IsFlowEver}
 use Rattle.query_flow.proofs.Runs.{stay_held}
 use Rattle.query_flow.proofs.Told.{tell_flow}
-use Rattle.query_flow.specs.Flow.{Flow, IsHeld, IsMadeOf, IsSettledFor, IsSettled}
-use Rattle.query_flow.specs.Listed.{is_among, set_at, fits_bits, within, last_le, covers, may_in, may_stand, caller_of, names_of, nodes_of, fills_of, flow_listed, misses, has_all, lie_where, slots_lie, lead_to, is_ending, are_ending, may_end, goes_on, are_put, are_made, is_made, made_of, roots_stand, threads_get, roots_set, opened, has_slots, is_over, stands_over, has_over, all_have, is_caller_settled, is_set_settled, are_threads_settled, is_settled, is_entry_told, are_told, flow_of_lists}
+use Rattle.query_flow.specs.Flow.{Flow, HoldsWhatMayStand, MayBeMadeOf, IsSettledFor, IsSettled}
+use Rattle.query_flow.specs.Listed.{is_among, set_at, fits_bits, within, last_le, stands_for_cap, may_in, may_stand, caller_of, caller_names, caller_nodes, caller_fills, flow_listed, misses_range, has_range, lie_where, slots_lie, lead_to, is_ending, are_ending, may_end, caller_goes_on, are_put, are_made, makes_what_may_stand, made_of, roots_stand, threads_get, roots_set, opened, may_have_slots, is_over, stands_over, has_over, all_have, is_caller_settled, is_set_settled, are_threads_settled, is_settled, is_entry_told, are_told, flow_of_lists}
 
 -- ---- addresses of a range
 
@@ -46,25 +46,25 @@ le_of a b h = leb-true a b h
 in_stretch : (m : PartMemory) (address : ℕ) → m.first ≤ address → address ≤ m.last → lies_in m address ≡ true
 in_stretch m address low high = grind (arith, nat_tests, low, high)
 
-not_missed : (first last address : ℕ) (m : PartMemory) → first ≤ address → address ≤ last → lies_in m address ≡ true → misses first last m ≡ false
+not_missed : (first last address : ℕ) (m : PartMemory) → first ≤ address → address ≤ last → lies_in m address ≡ true → misses_range first last m ≡ false
 not_missed first last address m low high h = grind (arith, nat_tests, low, high, h)
 
 -- an address of a range lies in a set that passes the test
 lies_where : (test : ℕ → Bool) (first last address : ℕ) (memory : List PartMemory) → first ≤ address → address ≤ last →
-    list_all (λ (m : PartMemory). misses first last m || test m.part) memory ≡ true → list_any (has_all first last) memory ≡ true →
+    list_all (λ (m : PartMemory). misses_range first last m || test m.part) memory ≡ true → list_any (has_range first last) memory ≡ true →
     test (set_at memory address) ≡ true
 lies_where test first last address [] low high all one = absurd (false≢true one)
 lies_where test first last address (m ∷ memory) low high all one =
-    let both = both_true (misses first last m || test m.part) (list_all (λ (m : PartMemory). misses first last m || test m.part) memory) all in
+    let both = both_true (misses_range first last m || test m.part) (list_all (λ (m : PartMemory). misses_range first last m || test m.part) memory) all in
     by (lies_in m address) refl both.0 (lies_where test first last address memory low high both.1)
   where
-    by : (b : Bool) → lies_in m address ≡ b → misses first last m || test m.part ≡ true →
-        (list_any (has_all first last) memory ≡ true → test (set_at memory address) ≡ true) →
+    by : (b : Bool) → lies_in m address ≡ b → misses_range first last m || test m.part ≡ true →
+        (list_any (has_range first last) memory ≡ true → test (set_at memory address) ≡ true) →
         test (unwrap_or (option_map (λ (x : PartMemory). x.part) (cond b (Some m) (find (λ (x : PartMemory). lies_in x address) memory))) 0) ≡ true
     by true is here on = rw (not_missed first last address m low high is) at here
-    by false is here on = on (rest (either_true (has_all first last m) _ one))
+    by false is here on = on (rest (either_true (has_range first last m) _ one))
       where
-        rest : (has_all first last m ≡ true) ⊎ (list_any (has_all first last) memory ≡ true) → list_any (has_all first last) memory ≡ true
+        rest : (has_range first last m ≡ true) ⊎ (list_any (has_range first last) memory ≡ true) → list_any (has_range first last) memory ≡ true
         rest (inr h) = h
         rest (inl h) =
             let ends = both_true (nat_le m.first first) (nat_le last m.last) h in
@@ -95,7 +95,7 @@ range_where : (test : ℕ → Bool) (memory : List PartMemory) (first bits addre
     first ≤ address → address < first + 2 ^ bits → test (set_at memory address) ≡ true
 range_where test memory first bits address None is h low high = absurd (false≢true h)
 range_where test memory first bits address (Some last) is h low high =
-    let both = both_true (list_all (λ (m : PartMemory). misses first last m || test m.part) memory) (list_any (has_all first last) memory) h in
+    let both = both_true (list_all (λ (m : PartMemory). misses_range first last m || test m.part) memory) (list_any (has_range first last) memory) h in
     let end = last_is first bits last is in
     lies_where test first last address memory low (omega (arith, end, high, pow_pos bits)) both.0 both.1
 
@@ -114,7 +114,7 @@ within_range base bits other few address (Some a) (Some b) x y h low high =
 
 module _ (p : ProfileName) (memory : List PartMemory) where
   -- the slots of a CNode that something stands for
-  slot_lies : (sets : List ℕ) (what : Standing) (cap : Cap) (slot : ℕ) → covers p what cap ≡ true → slots_lie p memory sets what ≡ true → IsSlotOf p cap slot →
+  slot_lies : (sets : List ℕ) (what : Standing) (cap : Cap) (slot : ℕ) → stands_for_cap p what cap ≡ true → slots_lie p memory sets what ≡ true → IsSlotOf p cap slot →
       is_among sets (set_at memory slot) ≡ true
   slot_lies sets what Null slot over lie is = absurd is
   slot_lies sets what (Untyped base bits free) slot over lie is = absurd is
@@ -171,7 +171,7 @@ within_trans a i b j c k h l = by (last_in a i) (last_in b j) (last_in c k) h l
         grind (arith, nat_tests, ab, yx, bc, zy)
 
 -- what stands over it stands for what it stands for
-over_covers : (p : ProfileName) (most what : Standing) (cap : Cap) → is_over most what ≡ true → covers p what cap ≡ true → covers p most cap ≡ true
+over_covers : (p : ProfileName) (most what : Standing) (cap : Cap) → is_over most what ≡ true → stands_for_cap p what cap ≡ true → stands_for_cap p most cap ≡ true
 over_covers p (standing.Untyped base bits) (standing.Untyped other few) (Untyped b k free) h c =
     let x = both_true (base == other) (bits == few) h in
     subst (λ n. n == b && bits == k ≡ true) (sym (eqb-true base other x.0)) (subst (λ n. other == b && n == k ≡ true) (sym (eqb-true bits few x.1)) c)
@@ -199,17 +199,17 @@ over_covers p (standing.Thread base) (standing.Thread other) (Tcb b) h c = subst
 over_covers p most what cap h c = cc
 
 -- and what is made of a capability
-opened_covers : (p : ProfileName) (what : Standing) (cap made : Cap) → covers p what cap ≡ true → IsMadeOf cap made → covers p (opened what) made ≡ true
-opened_covers p (standing.Untyped base bits) (Untyped b k free) made c is = subst (λ m. covers p (standing.Untyped base bits) m ≡ true) (sym is) c
-opened_covers p (standing.Region base bits) Null made c is = subst (λ m. covers p (standing.Region base bits) m ≡ true) (sym is) c
-opened_covers p (standing.Region base bits) (Untyped b k free) made c is = subst (λ m. covers p (standing.Region base bits) m ≡ true) (sym is) c
-opened_covers p (standing.Region base bits) (Endpoint b badge rights) made c (other, (few, (is, more))) = subst (λ m. covers p (standing.Region base bits) m ≡ true) (sym is) c
-opened_covers p (standing.Region base bits) (CNode b r guard) made c (other, is) = subst (λ m. covers p (standing.Region base bits) m ≡ true) (sym is) c
-opened_covers p (standing.Region base bits) (Tcb b) made c is = subst (λ m. covers p (standing.Region base bits) m ≡ true) (sym is) c
+opened_covers : (p : ProfileName) (what : Standing) (cap made : Cap) → stands_for_cap p what cap ≡ true → MayBeMadeOf cap made → stands_for_cap p (opened what) made ≡ true
+opened_covers p (standing.Untyped base bits) (Untyped b k free) made c is = subst (λ m. stands_for_cap p (standing.Untyped base bits) m ≡ true) (sym is) c
+opened_covers p (standing.Region base bits) Null made c is = subst (λ m. stands_for_cap p (standing.Region base bits) m ≡ true) (sym is) c
+opened_covers p (standing.Region base bits) (Untyped b k free) made c is = subst (λ m. stands_for_cap p (standing.Region base bits) m ≡ true) (sym is) c
+opened_covers p (standing.Region base bits) (Endpoint b badge rights) made c (other, (few, (is, more))) = subst (λ m. stands_for_cap p (standing.Region base bits) m ≡ true) (sym is) c
+opened_covers p (standing.Region base bits) (CNode b r guard) made c (other, is) = subst (λ m. stands_for_cap p (standing.Region base bits) m ≡ true) (sym is) c
+opened_covers p (standing.Region base bits) (Tcb b) made c is = subst (λ m. stands_for_cap p (standing.Region base bits) m ≡ true) (sym is) c
 opened_covers p (standing.Endpoint base most rights) (Endpoint b badge had) made c (other, (few, (is, (fits, among)))) =
     let x = both_true (base == b) _ c in
     let xs = both_true (most.0 == badge.0 || most.0 == 0) _ x.1 in
-    subst (λ m. covers p (standing.Endpoint base most rights) m ≡ true) (sym is)
+    subst (λ m. stands_for_cap p (standing.Endpoint base most rights) m ≡ true) (sym is)
     (and_true (base == b) _ x.0 (and_true (most.0 == other.0 || most.0 == 0) _ (badged (either_true (most.0 == badge.0) (most.0 == 0) xs.0) fits) (rights_fit rights had few xs.1 (subst (λ n. n == few.0 ≡ true) (sym among) (eqb_self few.0)))))
   where
     badged : ((most.0 == badge.0) ≡ true) ⊎ ((most.0 == 0) ≡ true) → ((badge.0 ≡ other.0) ⊎ (badge.0 ≡ 0)) → (most.0 == other.0 || most.0 == 0) ≡ true
@@ -219,13 +219,13 @@ opened_covers p (standing.Endpoint base most rights) (Endpoint b badge had) made
 opened_covers p (standing.Node base radix takes) (CNode b r guard) made c (other, is) =
     let x = both_true (base == b) _ c in
     let xs = both_true (radix == r) _ x.1 in
-    subst (λ m. covers p (standing.Node base radix 0) m ≡ true) (sym is)
+    subst (λ m. stands_for_cap p (standing.Node base radix 0) m ≡ true) (sym is)
     (and_true (base == b) _ x.0 (and_true (radix == r) _ xs.0 (true_right (0 == other.size + r) (0 == 0) refl)))
-opened_covers p (standing.Thread base) (Tcb b) made c is = subst (λ m. covers p (standing.Thread base) m ≡ true) (sym is) c
+opened_covers p (standing.Thread base) (Tcb b) made c is = subst (λ m. stands_for_cap p (standing.Thread base) m ≡ true) (sym is) c
 opened_covers p what cap made c is = cc
 
 -- a CNode, or a region, has slots
-pub with_slots : (p : ProfileName) (what : Standing) (base radix : ℕ) (guard : Guard) → covers p what (CNode base radix guard) ≡ true → has_slots what ≡ true
+pub with_slots : (p : ProfileName) (what : Standing) (base radix : ℕ) (guard : Guard) → stands_for_cap p what (CNode base radix guard) ≡ true → may_have_slots what ≡ true
 with_slots p (standing.Region first bits) base radix guard c = refl
 with_slots p (standing.Node first bits takes) base radix guard c = refl
 with_slots p (standing.Untyped first bits) base radix guard c = absurd (false≢true c)
@@ -237,7 +237,7 @@ some_bits : (p : ProfileName) → word_bits p ≡ 0 → ⊥
 some_bits Wide h = cc
 some_bits Narrow h = cc
 
-ends : (p : ProfileName) (what : Standing) (base radix : ℕ) (guard : Guard) → covers p what (CNode base radix guard) ≡ true → is_ending p what ≡ true → guard.size + radix ≡ word_bits p
+ends : (p : ProfileName) (what : Standing) (base radix : ℕ) (guard : Guard) → stands_for_cap p what (CNode base radix guard) ≡ true → is_ending p what ≡ true → guard.size + radix ≡ word_bits p
 ends p (standing.Region first bits) base radix guard c e = absurd (false≢true e)
 ends p (standing.Untyped first bits) base radix guard c e = absurd (false≢true c)
 ends p (standing.Endpoint first most rights) base radix guard c e = absurd (false≢true c)
@@ -252,7 +252,7 @@ ends p (standing.Node first bits takes) base radix guard c e =
     ]
 
 -- and one by which words may end
-may_end_by : (p : ProfileName) (what : Standing) (base radix : ℕ) (guard : Guard) → covers p what (CNode base radix guard) ≡ true → guard.size + radix ≡ word_bits p →
+may_end_by : (p : ProfileName) (what : Standing) (base radix : ℕ) (guard : Guard) → stands_for_cap p what (CNode base radix guard) ≡ true → guard.size + radix ≡ word_bits p →
     may_end p what ≡ true
 may_end_by p (standing.Region first bits) base radix guard c whole = refl
 may_end_by p (standing.Untyped first bits) base radix guard c whole = absurd (false≢true c)
@@ -330,7 +330,7 @@ module _ (p : ProfileName) (memory : List PartMemory) (all : List MayStand) (cal
   flow = flow_listed p memory all callers trusted
 
   -- a capability that is not null stands for something in the set
-  pub stands_by : (set : ℕ) (cap : Cap) → is_null cap ≡ false → may_stand p all set cap ≡ true → (s : MayStand) × (In s all × ((s.set ≡ set) × (covers p s.what cap ≡ true)))
+  pub stands_by : (set : ℕ) (cap : Cap) → is_null cap ≡ false → may_stand p all set cap ≡ true → (s : MayStand) × (In s all × ((s.set ≡ set) × (stands_for_cap p s.what cap ≡ true)))
   stands_by set cap full h =
       let one = any_of (may_in p set cap) all (by (is_null cap) full h) in
       let both = both_true (one.0.set == set) _ one.1.1 in
@@ -341,7 +341,7 @@ module _ (p : ProfileName) (memory : List PartMemory) (all : List MayStand) (cal
       by false e h = h
 
   -- and where a set has what is over it, it may stand there
-  may_of : (set : ℕ) (what : Standing) (cap : Cap) → has_over all set what ≡ true → covers p what cap ≡ true → may_stand p all set cap ≡ true
+  may_of : (set : ℕ) (what : Standing) (cap : Cap) → has_over all set what ≡ true → stands_for_cap p what cap ≡ true → may_stand p all set cap ≡ true
   may_of set what cap h c =
       let one = any_of (stands_over set what) all h in
       let both = both_true (one.0.set == set) _ one.1.1 in
@@ -380,7 +380,7 @@ module _ (p : ProfileName) (memory : List PartMemory) (all : List MayStand) (cal
     whole = list_all (λ (s : MayStand). not (s.set == k.set && may_end p s.what) || slots_lie p memory k.nodes.items s.what) all
 
     after_begin : (whole
-        && ((are_ending p all k.set || goes_on p memory all k)
+        && ((are_ending p all k.set || caller_goes_on p memory all k)
         && (lead_to p memory all k.nodes.items k.fills.items
         && (lead_to p memory all k.fills.items k.fills.items
         && (are_put all k && (are_made all k && roots_set memory all k)))))) ≡ true
@@ -389,19 +389,19 @@ module _ (p : ProfileName) (memory : List PartMemory) (all : List MayStand) (cal
     whole_is : whole ≡ true
     whole_is = (both_true whole _ after_begin).0
 
-    after_whole : ((are_ending p all k.set || goes_on p memory all k)
+    after_whole : ((are_ending p all k.set || caller_goes_on p memory all k)
         && (lead_to p memory all k.nodes.items k.fills.items
         && (lead_to p memory all k.fills.items k.fills.items
         && (are_put all k && (are_made all k && roots_set memory all k))))) ≡ true
     after_whole = (both_true whole _ after_begin).1
 
-    goes_is : (are_ending p all k.set || goes_on p memory all k) ≡ true
-    goes_is = (both_true (are_ending p all k.set || goes_on p memory all k) _ after_whole).0
+    goes_is : (are_ending p all k.set || caller_goes_on p memory all k) ≡ true
+    goes_is = (both_true (are_ending p all k.set || caller_goes_on p memory all k) _ after_whole).0
 
     after_goes : (lead_to p memory all k.nodes.items k.fills.items
         && (lead_to p memory all k.fills.items k.fills.items
         && (are_put all k && (are_made all k && roots_set memory all k)))) ≡ true
-    after_goes = (both_true (are_ending p all k.set || goes_on p memory all k) _ after_whole).1
+    after_goes = (both_true (are_ending p all k.set || caller_goes_on p memory all k) _ after_whole).1
 
     given_is : lead_to p memory all k.nodes.items k.fills.items ≡ true
     given_is = (both_true (lead_to p memory all k.nodes.items k.fills.items) _ after_goes).0
@@ -448,7 +448,7 @@ module _ (p : ProfileName) (memory : List PartMemory) (all : List MayStand) (cal
         (subst (λ n. n == k.set ≡ true) (sym s.1.1.0) (eqb_self k.set)))
 
     -- what stands in a set that is filled is put
-    puts_at : (from to : ℕ) (cap made : Cap) → is_among k.fills.items from ≡ true → is_among k.fills.items to ≡ true → may_stand p all from cap ≡ true → IsMadeOf cap made →
+    puts_at : (from to : ℕ) (cap made : Cap) → is_among k.fills.items from ≡ true → is_among k.fills.items to ≡ true → may_stand p all from cap ≡ true → MayBeMadeOf cap made →
         may_stand p all to made ≡ true
     puts_at from to cap made in_from in_to may is = by (is_null cap) refl
       where
@@ -459,7 +459,7 @@ module _ (p : ProfileName) (memory : List PartMemory) (all : List MayStand) (cal
             (subst (λ n. is_among k.fills.items n ≡ true) (sym s.1.1.0) in_from) in
             may_of to (opened s.0.what) made (each_has k.fills.items to (opened s.0.what) have in_to) (opened_covers p s.0.what cap made s.1.1.1 is)
 
-        none : (c : Cap) → is_null c ≡ true → IsMadeOf c made → may_stand p all to made ≡ true
+        none : (c : Cap) → is_null c ≡ true → MayBeMadeOf c made → may_stand p all to made ≡ true
         none Null n m = subst (λ x. may_stand p all to x ≡ true) (sym m) refl
         none (Untyped base bits free) n m = absurd (false≢true n)
         none (Endpoint base badge rights) n m = absurd (false≢true n)
@@ -471,7 +471,7 @@ module _ (p : ProfileName) (memory : List PartMemory) (all : List MayStand) (cal
         by false n = put n
 
     -- what is made in a region that stands in a set that is named
-    in_made : (what : Standing) (base bits free : ℕ) (made : Cap) (sets : List ℕ) (to : ℕ) → covers p what (Untyped base bits free) ≡ true → is_made all sets (made_of what) ≡ true →
+    in_made : (what : Standing) (base bits free : ℕ) (made : Cap) (sets : List ℕ) (to : ℕ) → stands_for_cap p what (Untyped base bits free) ≡ true → makes_what_may_stand all sets (made_of what) ≡ true →
         is_among sets to ≡ true → within base bits (base_of made) (bits_of p made) ≡ true → may_stand p all to made ≡ true
     in_made (standing.Untyped first few) base bits free made sets to c m in_to inside =
         let x = both_true (first == base) (few == bits) c in
@@ -485,7 +485,7 @@ module _ (p : ProfileName) (memory : List PartMemory) (all : List MayStand) (cal
     in_made (standing.Node first radix takes) base bits free made sets to c m in_to inside = absurd (false≢true c)
     in_made (standing.Thread first) base bits free made sets to c m in_to inside = absurd (false≢true c)
 
-    made_in : (what : Standing) (base bits free : ℕ) (made : Cap) (to : ℕ) → covers p what (Untyped base bits free) ≡ true → is_made all k.fills.items (made_of what) ≡ true →
+    made_in : (what : Standing) (base bits free : ℕ) (made : Cap) (to : ℕ) → stands_for_cap p what (Untyped base bits free) ≡ true → makes_what_may_stand all k.fills.items (made_of what) ≡ true →
         is_among k.fills.items to ≡ true → base ≤ base_of made → end_of p made ≤ base + 2 ^ bits → may_stand p all to made ≡ true
     made_in (standing.Untyped first few) base bits free made to c m in_to low high =
         let x = both_true (first == base) (few == bits) c in
@@ -506,12 +506,12 @@ module _ (p : ProfileName) (memory : List PartMemory) (all : List MayStand) (cal
         may_stand p all from (Untyped base bits free) ≡ true → base ≤ base_of made → end_of p made ≤ base + 2 ^ bits → may_stand p all to made ≡ true
     makes_at from to base bits free made in_from in_to may low high =
         let s = stands_by from (Untyped base bits free) refl may in
-        let m = either_way (is_among k.names.items s.0.set) _ (all_in (λ (x : MayStand). not (is_among k.names.items x.set) || is_made all k.fills.items (made_of x.what)) all s.0 made_is s.1.0)
+        let m = either_way (is_among k.names.items s.0.set) _ (all_in (λ (x : MayStand). not (is_among k.names.items x.set) || makes_what_may_stand all k.fills.items (made_of x.what)) all s.0 made_is s.1.0)
         (subst (λ n. is_among k.names.items n ≡ true) (sym s.1.1.0) in_from) in
         made_in s.0.what base bits free made to s.1.1.1 m in_to low high
 
     -- the roots that a thread may get
-    thread_gets : (what : Standing) (thread : ℕ) → covers p what (Tcb thread) ≡ true → threads_get memory all k what ≡ true → roots_stand all k (set_at memory thread) ≡ true
+    thread_gets : (what : Standing) (thread : ℕ) → stands_for_cap p what (Tcb thread) ≡ true → threads_get memory all k what ≡ true → roots_stand all k (set_at memory thread) ≡ true
     thread_gets (standing.Thread base) thread c g = subst (λ n. roots_stand all k (set_at memory n) ≡ true) (eqb-true base thread c) g
     thread_gets (standing.Region base bits) thread c g =
         let inside = within_range base bits thread (bits_of p (Tcb thread)) thread (last_in thread (bits_of p (Tcb thread))) (last_in base bits) refl refl c (omega arith)
@@ -529,8 +529,8 @@ module _ (p : ProfileName) (memory : List PartMemory) (all : List MayStand) (cal
         let gets = either_way (is_among k.names.items t.0.set) _ (all_in (λ (x : MayStand). not (is_among k.names.items x.set) || threads_get memory all k x.what) all t.0 roots_is t.1.0)
         (subst (λ m. is_among k.names.items m ≡ true) (sym t.1.1.0) in_of) in
         let roots = thread_gets t.0.what thread t.1.1.1 gets in
-        let stands = either_way (is_among k.nodes.items n.0.set && has_slots n.0.what) _
-        (all_in (λ (x : MayStand). not (is_among k.nodes.items x.set && has_slots x.what) || has_over all (set_at memory thread) (opened x.what)) all n.0 roots n.1.0)
+        let stands = either_way (is_among k.nodes.items n.0.set && may_have_slots n.0.what) _
+        (all_in (λ (x : MayStand). not (is_among k.nodes.items x.set && may_have_slots x.what) || has_over all (set_at memory thread) (opened x.what)) all n.0 roots n.1.0)
         (and_true (is_among k.nodes.items n.0.set) _ (subst (λ m. is_among k.nodes.items m ≡ true) (sym n.1.1.0) in_from) (with_slots p n.0.what base radix guard n.1.1.1)) in
         may_of (set_at memory thread) (opened n.0.what) (CNode base radix other) stands
         (opened_covers p n.0.what (CNode base radix guard) (CNode base radix other) n.1.1.1 (other, refl))
@@ -549,12 +549,12 @@ module _ (p : ProfileName) (memory : List PartMemory) (all : List MayStand) (cal
   caller_settled c None is h = absurd (false≢true h)
   caller_settled c (Some k) is h =
       let at = set_is callers c k is in
-      let named : (set : ℕ) → names_of (caller_of callers c) set ≡ is_among k.names.items set = λ set. ap (λ (o : Option Caller). names_of o set) is in
-      let noded : (set : ℕ) → nodes_of (caller_of callers c) set ≡ is_among k.nodes.items set = λ set. ap (λ (o : Option Caller). nodes_of o set) is in
-      let filled : (set : ℕ) → fills_of (caller_of callers c) set ≡ is_among k.fills.items set = λ set. ap (λ (o : Option Caller). fills_of o set) is in
+      let named : (set : ℕ) → caller_names (caller_of callers c) set ≡ is_among k.names.items set = λ set. ap (λ (o : Option Caller). caller_names o set) is in
+      let noded : (set : ℕ) → caller_nodes (caller_of callers c) set ≡ is_among k.nodes.items set = λ set. ap (λ (o : Option Caller). caller_nodes o set) is in
+      let filled : (set : ℕ) → caller_fills (caller_of callers c) set ≡ is_among k.fills.items set = λ set. ap (λ (o : Option Caller). caller_fills o set) is in
       record {
         begins = λ root slot may here. named (set_at memory slot) ∙ begins_at k h root slot (subst (λ n. may_stand p all n root ≡ true) (sym at) may) here;
-        goes_on = elim (either_true (are_ending p all k.set) (goes_on p memory all k) (goes_is k h)) [
+        goes_on = elim (either_true (are_ending p all k.set) (caller_goes_on p memory all k) (goes_is k h)) [
           | inl e ↦ inl (λ base radix guard may. ending_at k h e base radix guard (subst (λ n. may_stand p all n (CNode base radix guard) ≡ true) (sym at) may))
           | inr g ↦ inr (λ set cap slot in_names may here.
               let both = both_true (lead_to p memory all k.names.items k.names.items) (lead_to p memory all k.names.items k.nodes.items) g in
@@ -577,7 +577,7 @@ module _ (p : ProfileName) (memory : List PartMemory) (all : List MayStand) (cal
       }
 
   -- each thread that may stand somewhere and is not trusted has a settled set
-  thread_settled : (what : Standing) (thread : ℕ) → covers p what (Tcb thread) ≡ true → are_threads_settled p memory all callers trusted what ≡ true →
+  thread_settled : (what : Standing) (thread : ℕ) → stands_for_cap p what (Tcb thread) ≡ true → are_threads_settled p memory all callers trusted what ≡ true →
       is_among trusted thread ≡ false → IsSettledFor p flow (set_at memory thread)
   thread_settled (standing.Thread base) thread c h free =
       let same = eqb-true base thread c in
@@ -597,7 +597,7 @@ module _ (p : ProfileName) (memory : List PartMemory) (all : List MayStand) (cal
   thread_settled (standing.Node base radix takes) thread c h free = absurd (false≢true c)
 
   -- how much is used of a region does not matter
-  used_same : (what : Standing) (base bits free other : ℕ) → covers p what (Untyped base bits free) ≡ covers p what (Untyped base bits other)
+  used_same : (what : Standing) (base bits free other : ℕ) → stands_for_cap p what (Untyped base bits free) ≡ stands_for_cap p what (Untyped base bits other)
   used_same (standing.Untyped first few) base bits free other = refl
   used_same (standing.Region first few) base bits free other = refl
   used_same (standing.Endpoint first most rights) base bits free other = refl
@@ -629,7 +629,7 @@ told_slots p memory all slot (e ∷ es) h =
 
 -- in each state that is shown
 pub held_of_told : (p : ProfileName) (flows : Flows) (v : Shown) → are_told p flows.memory.items flows.standing.items v.derivations ≡ true →
-    (A : State) → v ≡ shown A → IsHeld (flow_of_lists p flows) A.derivations
+    (A : State) → v ≡ shown A → HoldsWhatMayStand (flow_of_lists p flows) A.derivations
 unfolding shown
 held_of_told p flows v told A shows slot =
     told_slots p flows.memory.items flows.standing.items slot (preorder A.derivations)

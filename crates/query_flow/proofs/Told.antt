@@ -19,18 +19,18 @@ use Rattle.kernel_abstract.proofs.Reached.Invariant.{Invariant}
 use Rattle.kernel_abstract.proofs.Reached.Simulation.{reached_inv}
 use Rattle.query_parts.proofs.Messages.{IsMessage, MayBeMessage, call_passes}
 use Rattle.query_parts.proofs.Going.{Wait, wait_before, Tells, Fits, run_told, TellsShown, those}
-use Rattle.query_flow.specs.Flow.{Flow, IsHeld, IsSettled}
-use Rattle.query_flow.specs.Laws.{IsExpected, MayUse, TellsOfFlow, TellFlow}
+use Rattle.query_flow.specs.Flow.{Flow, HoldsWhatMayStand, IsSettled}
+use Rattle.query_flow.specs.Laws.{IsExpected, MayUseByFlow, TellsOfFlow, TellFlow}
 use Rattle.query_flow.proofs.Passed.{StaysIn}
 use Rattle.query_flow.proofs.Runs.{free_stays}
 use Rattle.query_flow.proofs.Idle.{NoneWakes, IsKept, IsAllowed, no_call, kept_step}
 
 module _ (p : ProfileName) (flow : Flow) (settled : IsSettled p flow) (idle : ℕ → Bool) (none : NoneWakes flow idle) (A : State) where
   abbrev pub MaySend : ℕ → ℕ → Badge → Type 0
-  MaySend endpoint thread badge = (idle thread ≡ false) × (flow.trusted thread ≡ false → MayUse flow write_bit (flow.set_of thread) endpoint badge)
+  MaySend endpoint thread badge = (idle thread ≡ false) × (flow.trusted thread ≡ false → MayUseByFlow flow write_bit (flow.set_of thread) endpoint badge)
 
   abbrev pub MayReceive : ℕ → ℕ → Type 0
-  MayReceive endpoint thread = (idle thread ≡ false) × (flow.trusted thread ≡ false → (badge : Badge) × MayUse flow read_bit (flow.set_of thread) endpoint badge)
+  MayReceive endpoint thread = (idle thread ≡ false) × (flow.trusted thread ≡ false → (badge : Badge) × MayUseByFlow flow read_bit (flow.set_of thread) endpoint badge)
 
   module _ (B : State) (inv : Invariant B) (wait : Wait p A MaySend MayReceive B) (t : ℕ) (awake : idle t ≡ false) where
     fits_flow : (done : Invocation) → StaysIn p flow (flow.set_of t) done → Fits p A MaySend MayReceive B inv wait t done
@@ -61,7 +61,7 @@ module _ (p : ProfileName) (flow : Flow) (settled : IsSettled p flow) (idle : �
     fits_message trusted (Resume tcb) is = absurd is
 
   fits_awake : (B : State) (call : Call) (done : Invocation) (t : Bool) → flow.trusted call.thread ≡ t → IsReached p B → (inv : Invariant B) →
-      (wait : Wait p A MaySend MayReceive B) → IsHeld flow B.derivations → idle call.thread ≡ false → IsExpected flow call →
+      (wait : Wait p A MaySend MayReceive B) → HoldsWhatMayStand flow B.derivations → idle call.thread ≡ false → IsExpected flow call →
       decoded_call p (shown B) call ≡ Ok done → Fits p A MaySend MayReceive B inv wait call.thread done
   fits_awake B call done false free reached inv wait held awake of h =
       fits_flow B inv wait call.thread awake done (free_stays p flow settled B call done reached held free h).1
@@ -112,7 +112,7 @@ module _ (p : ProfileName) (flow : Flow) (settled : IsSettled p flow) (A : State
   of_those (Refused refusal) told = tt
   of_those (Delivered endpoint from to badge message) told = (waits_or told.0, waits_or told.1)
 
-  tell : (calls : List Call) → IsReached p A → IsHeld flow A.derivations → Each (IsExpected flow) calls → Each (TellsOfFlow flow (shown A)) (replies_of p A calls)
+  tell : (calls : List Call) → IsReached p A → HoldsWhatMayStand flow A.derivations → Each (IsExpected flow) calls → Each (TellsOfFlow flow (shown A)) (replies_of p A calls)
   tell calls reached held of =
       each-weaker (Tells p A Sends Receives) (TellsOfFlow flow (shown A)) (λ reply told. of_those reply (those p A Sends Receives (reached_inv p A reached) reply told))
       (replies_of p A calls)

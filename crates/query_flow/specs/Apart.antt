@@ -16,7 +16,7 @@ use Rattle.query_flow.specs.declared.listed.Caller.{Caller}
 use Rattle.query_flow.specs.declared.listed.Flows.{Flows}
 use Rattle.query_flow.specs.declared.excluded.Spot.{Spot}
 use Rattle.query_flow.specs.declared.excluded.Bound.{Bound}
-use Rattle.query_flow.specs.Listed.{is_among, set_at, covers, caller_of, has_slots, IsFlow}
+use Rattle.query_flow.specs.Listed.{is_among, set_at, stands_for_cap, caller_of, may_have_slots, IsFlow}
 
 -- ---- what a thread names
 
@@ -25,8 +25,8 @@ names_by None = []
 names_by (Some k) = k.names.items
 
 -- the sets in which the thread's words may end
-abbrev pub names_in : Flows → ℕ → List ℕ
-names_in flows thread = names_by (caller_of flows.callers.items (set_at flows.memory.items thread))
+abbrev pub sets_named : Flows → ℕ → List ℕ
+sets_named flows thread = names_by (caller_of flows.callers.items (set_at flows.memory.items thread))
 
 abbrev pub nodes_by : Option Caller → List ℕ
 nodes_by None = []
@@ -68,18 +68,18 @@ abbrev pub and_spot : List Spot → Option Spot → List Spot
 and_spot spots None = spots
 and_spot spots (Some spot) = spots ++ spot ∷ []
 
-abbrev pub sends_of : List ℕ → List MayStand → Shown → List ℕ → ℕ → List Spot
-sends_of names all v by thread = and_spot (filter_map (spot_in write_bit by names) all) (send_spot by (state_at v thread))
+abbrev pub send_spots : List ℕ → List MayStand → Shown → List ℕ → ℕ → List Spot
+send_spots names all v by thread = and_spot (filter_map (spot_in write_bit by names) all) (send_spot by (state_at v thread))
 
-abbrev pub receives_of : List ℕ → List MayStand → Shown → List ℕ → ℕ → List Spot
-receives_of names all v by thread = and_spot (filter_map (spot_in read_bit by names) all) (receive_spot by (state_at v thread))
+abbrev pub receive_spots : List ℕ → List MayStand → Shown → List ℕ → ℕ → List Spot
+receive_spots names all v by thread = and_spot (filter_map (spot_in read_bit by names) all) (receive_spot by (state_at v thread))
 
 -- no address lies in two spots
-abbrev pub is_apart : Spot → Spot → Bool
-is_apart a b = nat_lt a.last b.first || nat_lt b.last a.first
+abbrev pub is_spot_apart : Spot → Spot → Bool
+is_spot_apart a b = nat_lt a.last b.first || nat_lt b.last a.first
 
-abbrev pub are_apart : List Spot → List Spot → Bool
-are_apart some others = list_all (λ a. list_all (is_apart a) others) some
+abbrev pub are_spots_apart : List Spot → List Spot → Bool
+are_spots_apart some others = list_all (λ a. list_all (is_spot_apart a) others) some
 
 -- ---- neither thread is trusted; and nothing that the one may send to the other may receive on
 
@@ -88,15 +88,15 @@ are_free trusted from to = not (is_among trusted from || is_among trusted to)
 
 abbrev pub are_kept : Flows → Shown → List ℕ → ℕ → ℕ → Bool
 are_kept flows v by from to =
-    are_apart (sends_of (names_in flows from) flows.standing.items v by from) (receives_of (names_in flows to) flows.standing.items v by to)
+    are_spots_apart (send_spots (sets_named flows from) flows.standing.items v by from) (receive_spots (sets_named flows to) flows.standing.items v by to)
 
 -- ---- what stands in the sets that a thread names
 
 abbrev pub names_no_thread : ProfileName → List ℕ → List MayStand → ℕ → Bool
-names_no_thread p names all to = list_all (λ (s : MayStand). not (is_among names s.set && covers p s.what (Tcb to))) all
+names_no_thread p names all to = list_all (λ (s : MayStand). not (is_among names s.set && stands_for_cap p s.what (Tcb to))) all
 
 abbrev pub names_no_node : List ℕ → List MayStand → Bool
-names_no_node nodes all = list_all (λ (s : MayStand). not (is_among nodes s.set && has_slots s.what)) all
+names_no_node nodes all = list_all (λ (s : MayStand). not (is_among nodes s.set && may_have_slots s.what)) all
 
 -- ---- threads that never make a call: suspended, and no word of a thread that makes calls leads to their control blocks
 
@@ -122,14 +122,14 @@ are_silent trusted bound v by from to =
     either_idle bound.idle.items from to || (are_free trusted from to && are_kept bound.flows v by from to)
 
 -- the flows take no other threads for trusted than these and those that never make a call
-abbrev pub is_one_of : List ℕ → List ℕ → ℕ → Bool
-is_one_of trusted idle thread = is_among trusted thread || is_among idle thread
+abbrev pub is_trusted_or_idle : List ℕ → List ℕ → ℕ → Bool
+is_trusted_or_idle trusted idle thread = is_among trusted thread || is_among idle thread
 
-abbrev pub are_known : List ℕ → Bound → Bool
-are_known trusted bound = list_all (is_one_of trusted bound.idle.items) bound.flows.trusted.items
+abbrev pub trusts_none_else : List ℕ → Bound → Bool
+trusts_none_else trusted bound = list_all (is_trusted_or_idle trusted bound.idle.items) bound.flows.trusted.items
 
 -- flows that pass the tests, with these threads trusted
 pub record IsTested (p : ProfileName) (trusted : List ℕ) (v : Shown) (bound : Bound) : Type 0 where
-  pub known : are_known trusted bound ≡ true
+  pub known : trusts_none_else trusted bound ≡ true
   pub idle : stay_idle p bound.flows v bound.idle.items ≡ true
   pub flow : IsFlow p bound.flows v

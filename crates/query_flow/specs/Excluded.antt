@@ -16,12 +16,12 @@ use Rattle.kernel_abstract.specs.Reached.{IsReached}
 use Rattle.query_parts.specs.Laws.{OnlyPasses}
 
 -- a number is listed
-abbrev pub is_listed : List ℕ → ℕ → Bool
-is_listed numbers n = list_any (λ k. n == k) numbers
+abbrev pub is_number_listed : List ℕ → ℕ → Bool
+is_number_listed numbers n = list_any (λ k. n == k) numbers
 
 -- a call of a thread that is not trusted, or a send or a receive
 abbrev pub IsOfOthers : List ℕ → Call → Type 0
-IsOfOthers trusted call = (is_listed trusted call.thread ≡ false) ⊎ OnlyPasses call.op
+IsOfOthers trusted call = (is_number_listed trusted call.thread ≡ false) ⊎ OnlyPasses call.op
 
 -- what holds of each state that is shown, and of each list of calls of threads that are not trusted, with sends and receives of others
 abbrev pub IsSoEver : ProfileName → List ℕ → Shown → (State → List Call → Type 0) → Type 0
@@ -30,7 +30,7 @@ IsSoEver p trusted v Holds =
 
 -- a reply tells of no delivery from the one thread to the other, but by an endpoint that is named
 abbrev pub TellsNone : List ℕ → ℕ → ℕ → Reply → Type 0
-TellsNone by from to (Delivered endpoint sender receiver badge message) = sender ≡ from → receiver ≡ to → is_listed by endpoint ≡ true
+TellsNone by from to (Delivered endpoint sender receiver badge message) = sender ≡ from → receiver ≡ to → is_number_listed by endpoint ≡ true
 TellsNone by from to reply = ⊤
 
 -- whatever calls threads make that are not trusted, no message of the one thread is delivered to the other, but by the endpoints that are

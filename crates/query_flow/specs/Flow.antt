@@ -28,21 +28,21 @@ abbrev pub StandsAt : Flow → ℕ → Cap → Type 0
 StandsAt flow slot cap = flow.may (flow.set_of slot) cap ≡ true
 
 -- each slot holds what may stand there
-abbrev pub IsHeld : Flow → Forest Entry → Type 0
-IsHeld flow f = (slot : ℕ) → StandsAt flow slot (cap_at f slot)
+abbrev pub HoldsWhatMayStand : Flow → Forest Entry → Type 0
+HoldsWhatMayStand flow f = (slot : ℕ) → StandsAt flow slot (cap_at f slot)
 
 -- a slot lies in one of some sets
-abbrev pub LiesIn : Flow → (ℕ → Bool) → ℕ → Type 0
-LiesIn flow among slot = among (flow.set_of slot) ≡ true
+abbrev pub LiesAmong : Flow → (ℕ → Bool) → ℕ → Type 0
+LiesAmong flow among slot = among (flow.set_of slot) ≡ true
 
 -- what a copy, a mint, a move, a mutate or the setting of a space may make of a capability: it names the same object
-abbrev pub IsMadeOf : Cap → Cap → Type 0
-IsMadeOf Null made = made ≡ Null
-IsMadeOf (Untyped base bits free) made = made ≡ Untyped base bits free
-IsMadeOf (Endpoint base badge rights) made =
+abbrev pub MayBeMadeOf : Cap → Cap → Type 0
+MayBeMadeOf Null made = made ≡ Null
+MayBeMadeOf (Untyped base bits free) made = made ≡ Untyped base bits free
+MayBeMadeOf (Endpoint base badge rights) made =
     (other : Badge) × ((few : Rights) × ((made ≡ Endpoint base other few) × (((badge.0 ≡ other.0) ⊎ (badge.0 ≡ 0)) × (bit_and few.0 rights.0 ≡ few.0))))
-IsMadeOf (CNode base radix guard) made = (other : Guard) × (made ≡ CNode base radix other)
-IsMadeOf (Tcb base) made = made ≡ Tcb base
+MayBeMadeOf (CNode base radix guard) made = (other : Guard) × (made ≡ CNode base radix other)
+MayBeMadeOf (Tcb base) made = made ≡ Tcb base
 
 -- each CNode that may be the root of the set's threads takes all bits of a word
 abbrev pub IsEnding : ProfileName → Flow → ℕ → Type 0
@@ -50,25 +50,25 @@ IsEnding p flow c =
     (base radix : ℕ) (guard : Guard) → flow.may c (CNode base radix guard) ≡ true → guard.size + radix ≡ word_bits p
 
 -- words go on from a CNode's capability in a slot in which they may end, and may end at one behind it
-abbrev pub GoesOn : ProfileName → Flow → ℕ → Type 0
-GoesOn p flow c =
+abbrev pub WordsGoOn : ProfileName → Flow → ℕ → Type 0
+WordsGoOn p flow c =
     (set : ℕ) (cap : Cap) (slot : ℕ) → flow.names c set ≡ true → flow.may set cap ≡ true → IsSlotOf p cap slot →
-    LiesIn flow (flow.names c) slot × LiesIn flow (flow.nodes c) slot
+    LiesAmong flow (flow.names c) slot × LiesAmong flow (flow.nodes c) slot
 
 -- what threads do whose root slots lie in set c: nothing that is not told
 pub record IsSettledFor (p : ProfileName) (flow : Flow) (c : ℕ) : Type 0 where
   -- their words end in the slots of their roots, or go on
-  pub begins : (root : Cap) (slot : ℕ) → flow.may c root ≡ true → IsSlotOf p root slot → LiesIn flow (flow.names c) slot
-  pub goes_on : IsEnding p flow c ⊎ GoesOn p flow c
+  pub begins : (root : Cap) (slot : ℕ) → flow.may c root ≡ true → IsSlotOf p root slot → LiesAmong flow (flow.names c) slot
+  pub goes_on : IsEnding p flow c ⊎ WordsGoOn p flow c
   -- words end at a CNode's capability in a root where that takes all their bits
   pub ends : (base radix : ℕ) (guard : Guard) (slot : ℕ) → flow.may c (CNode base radix guard) ≡ true → guard.size + radix ≡ word_bits p →
-      IsSlotOf p (CNode base radix guard) slot → LiesIn flow (flow.nodes c) slot
+      IsSlotOf p (CNode base radix guard) slot → LiesAmong flow (flow.nodes c) slot
   -- they fill and read the slots of CNodes whose capabilities words lead to, or stand in slots that they read
   pub reaches : (set : ℕ) (cap : Cap) (slot : ℕ) → (flow.nodes c set ≡ true) ⊎ (flow.fills c set ≡ true) → flow.may set cap ≡ true →
-      IsSlotOf p cap slot → LiesIn flow (flow.fills c) slot
+      IsSlotOf p cap slot → LiesAmong flow (flow.fills c) slot
   -- what they read they may put where they fill
   pub puts : (from to : ℕ) (cap made : Cap) → flow.fills c from ≡ true → flow.fills c to ≡ true → flow.may from cap ≡ true →
-      IsMadeOf cap made → flow.may to made ≡ true
+      MayBeMadeOf cap made → flow.may to made ≡ true
   -- and what is made in a region that a word leads to
   pub makes : (from to base bits free : ℕ) (made : Cap) → flow.names c from ≡ true → flow.fills c to ≡ true →
       flow.may from (Untyped base bits free) ≡ true → base ≤ base_of made → end_of p made ≤ base + 2 ^ bits → flow.may to made ≡ true

@@ -17,7 +17,7 @@ use Rattle.kernel_abstract.specs.State.{State, shown}
 use Rattle.kernel_abstract.specs.Step.{state_after, replies_of}
 use Rattle.kernel_abstract.specs.Reached.{IsReached}
 use Rattle.query_parts.specs.Laws.{OnlyPasses}
-use Rattle.query_flow.specs.Flow.{Flow, IsHeld, IsSettled}
+use Rattle.query_flow.specs.Flow.{Flow, HoldsWhatMayStand, IsSettled}
 
 -- a call of a thread that is not trusted, or a send or a receive
 abbrev pub IsExpected : Flow → Call → Type 0
@@ -26,25 +26,25 @@ IsExpected flow call = (flow.trusted call.thread ≡ false) ⊎ OnlyPasses call.
 -- whatever calls these threads make, each slot holds what may stand there
 abbrev pub StayHeld : ProfileName → Flow → State → List Call → Type 0
 StayHeld p flow A calls =
-    IsReached p A → IsSettled p flow → IsHeld flow A.derivations → Each (IsExpected flow) calls →
-    IsHeld flow (state_after p A calls).derivations
+    IsReached p A → IsSettled p flow → HoldsWhatMayStand flow A.derivations → Each (IsExpected flow) calls →
+    HoldsWhatMayStand flow (state_after p A calls).derivations
 
 -- a word of a thread whose root slot lies in set c may lead to a capability to the endpoint with a badge and a right
-abbrev pub MayUse : Flow → ℕ → ℕ → ℕ → Badge → Type 0
-MayUse flow right c endpoint badge =
+abbrev pub MayUseByFlow : Flow → ℕ → ℕ → ℕ → Badge → Type 0
+MayUseByFlow flow right c endpoint badge =
     (set : ℕ) × ((flow.names c set ≡ true) × ((rights : Rights) × ((flow.may set (Endpoint endpoint badge rights) ≡ true) × (has_right right rights ≡ true))))
 
 -- a thread is shown to wait on an endpoint with this message and badge; or it is trusted, or may send so
 abbrev pub WaitsOrSends : Flow → Shown → ℕ → ℕ → Badge → Message → Type 0
 WaitsOrSends flow v endpoint thread badge message =
     Contains (waiting_at v endpoint) (Sender thread badge message)
-    ⊎ (flow.trusted thread ≡ false → MayUse flow write_bit (flow.set_of thread) endpoint badge)
+    ⊎ (flow.trusted thread ≡ false → MayUseByFlow flow write_bit (flow.set_of thread) endpoint badge)
 
 -- a thread is shown to wait to receive on an endpoint; or it is trusted, or may receive there
 abbrev pub WaitsOrHears : Flow → Shown → ℕ → ℕ → Type 0
 WaitsOrHears flow v endpoint thread =
     Contains (waiting_at v endpoint) (Receiver thread)
-    ⊎ (flow.trusted thread ≡ false → (badge : Badge) × MayUse flow read_bit (flow.set_of thread) endpoint badge)
+    ⊎ (flow.trusted thread ≡ false → (badge : Badge) × MayUseByFlow flow read_bit (flow.set_of thread) endpoint badge)
 
 -- a reply tells of a delivery from such a thread to such a thread, or of none
 abbrev pub TellsOfFlow : Flow → Shown → Reply → Type 0
@@ -54,12 +54,12 @@ TellsOfFlow flow v reply = ⊤
 -- so it is of each reply to these calls
 abbrev pub TellFlow : ProfileName → Flow → State → List Call → Type 0
 TellFlow p flow A calls =
-    IsReached p A → IsSettled p flow → IsHeld flow A.derivations → Each (IsExpected flow) calls →
+    IsReached p A → IsSettled p flow → HoldsWhatMayStand flow A.derivations → Each (IsExpected flow) calls →
     Each (TellsOfFlow flow (shown A)) (replies_of p A calls)
 
 -- so it is of a list of calls, by what is shown before them
 pub record HoldsEver (p : ProfileName) (flow : Flow) (v : Shown) (A : State) (calls : List Call) : Type 0 where
-  pub held : IsHeld flow (state_after p A calls).derivations
+  pub held : HoldsWhatMayStand flow (state_after p A calls).derivations
   pub deliveries : Each (TellsOfFlow flow v) (replies_of p A calls)
 
 -- whatever calls these threads make from a state that is shown, each slot holds what may stand there, and replies tell of no other deliveries

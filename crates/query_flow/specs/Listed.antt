@@ -50,16 +50,16 @@ within base bits other few = nat_le base other && last_le (last_in other few) (l
 
 -- what stands for a capability: an untyped region for its own, a region for all that lies in it, an endpoint with a badge that fits and no more rights, a CNode with
 -- any guard, or with one by which it takes so many bits, and a thread
-abbrev pub covers : ProfileName → Standing → Cap → Bool
-covers p (standing.Untyped base bits) (Untyped other few free) = base == other && bits == few
-covers p (standing.Region base bits) cap = within base bits (base_of cap) (bits_of p cap)
-covers p (standing.Endpoint base most rights) (Endpoint other badge few) = base == other && (fits_badge most badge && has_rights rights few)
-covers p (standing.Node base radix takes) (CNode other bits guard) = base == other && (radix == bits && fits_bits takes (guard.size + bits))
-covers p (standing.Thread base) (Tcb other) = base == other
-covers p what cap = false
+abbrev pub stands_for_cap : ProfileName → Standing → Cap → Bool
+stands_for_cap p (standing.Untyped base bits) (Untyped other few free) = base == other && bits == few
+stands_for_cap p (standing.Region base bits) cap = within base bits (base_of cap) (bits_of p cap)
+stands_for_cap p (standing.Endpoint base most rights) (Endpoint other badge few) = base == other && (fits_badge most badge && has_rights rights few)
+stands_for_cap p (standing.Node base radix takes) (CNode other bits guard) = base == other && (radix == bits && fits_bits takes (guard.size + bits))
+stands_for_cap p (standing.Thread base) (Tcb other) = base == other
+stands_for_cap p what cap = false
 
 abbrev pub may_in : ProfileName → ℕ → Cap → MayStand → Bool
-may_in p set cap s = s.set == set && covers p s.what cap
+may_in p set cap s = s.set == set && stands_for_cap p s.what cap
 
 abbrev pub may_stand : ProfileName → List MayStand → ℕ → Cap → Bool
 may_stand p all set cap = is_null cap || list_any (may_in p set cap) all
@@ -67,26 +67,26 @@ may_stand p all set cap = is_null cap || list_any (may_in p set cap) all
 abbrev pub caller_of : List Caller → ℕ → Option Caller
 caller_of callers set = find (λ (k : Caller). k.set == set) callers
 
-abbrev pub names_of : Option Caller → ℕ → Bool
-names_of None set = false
-names_of (Some k) set = is_among k.names.items set
+abbrev pub caller_names : Option Caller → ℕ → Bool
+caller_names None set = false
+caller_names (Some k) set = is_among k.names.items set
 
-abbrev pub nodes_of : Option Caller → ℕ → Bool
-nodes_of None set = false
-nodes_of (Some k) set = is_among k.nodes.items set
+abbrev pub caller_nodes : Option Caller → ℕ → Bool
+caller_nodes None set = false
+caller_nodes (Some k) set = is_among k.nodes.items set
 
-abbrev pub fills_of : Option Caller → ℕ → Bool
-fills_of None set = false
-fills_of (Some k) set = is_among k.fills.items set
+abbrev pub caller_fills : Option Caller → ℕ → Bool
+caller_fills None set = false
+caller_fills (Some k) set = is_among k.fills.items set
 
 abbrev pub flow_listed : ProfileName → List PartMemory → List MayStand → List Caller → List ℕ → Flow
 flow_listed p memory all callers trusted = record {
   set_of = set_at memory;
   may = may_stand p all;
   trusted = is_among trusted;
-  names = λ c. names_of (caller_of callers c);
-  nodes = λ c. nodes_of (caller_of callers c);
-  fills = λ c. fills_of (caller_of callers c);
+  names = λ c. caller_names (caller_of callers c);
+  nodes = λ c. caller_nodes (caller_of callers c);
+  fills = λ c. caller_fills (caller_of callers c);
 }
 
 -- the flow that the lists of flows give
@@ -96,17 +96,17 @@ flow_of_lists p flows = flow_listed p flows.memory.items flows.standing.items fl
 -- ---- the test that it is settled
 
 -- a stretch has none of these addresses; it has all of them
-abbrev pub misses : ℕ → ℕ → PartMemory → Bool
-misses first last m = nat_lt m.last first || nat_lt last m.first
+abbrev pub misses_range : ℕ → ℕ → PartMemory → Bool
+misses_range first last m = nat_lt m.last first || nat_lt last m.first
 
-abbrev pub has_all : ℕ → ℕ → PartMemory → Bool
-has_all first last m = nat_le m.first first && nat_le last m.last
+abbrev pub has_range : ℕ → ℕ → PartMemory → Bool
+has_range first last m = nat_le m.first first && nat_le last m.last
 
 -- all these addresses lie in sets that pass a test
 abbrev pub lie_where : (ℕ → Bool) → List PartMemory → ℕ → Option ℕ → Bool
 lie_where test memory first None = false
 lie_where test memory first (Some last) =
-    list_all (λ (m : PartMemory). misses first last m || test m.part) memory && list_any (has_all first last) memory
+    list_all (λ (m : PartMemory). misses_range first last m || test m.part) memory && list_any (has_range first last) memory
 
 -- the slots of what a standing stands for
 abbrev pub slots_lie : ProfileName → List PartMemory → List ℕ → Standing → Bool
@@ -164,26 +164,26 @@ made_of (standing.Untyped base bits) = Some (standing.Region base bits)
 made_of (standing.Region base bits) = Some (standing.Region base bits)
 made_of what = None
 
-abbrev pub is_made : List MayStand → List ℕ → Option Standing → Bool
-is_made all sets None = true
-is_made all sets (Some what) = all_have all sets what
+abbrev pub makes_what_may_stand : List MayStand → List ℕ → Option Standing → Bool
+makes_what_may_stand all sets None = true
+makes_what_may_stand all sets (Some what) = all_have all sets what
 
-abbrev pub has_slots : Standing → Bool
-has_slots (standing.Region base bits) = true
-has_slots (standing.Node base radix takes) = true
-has_slots what = false
+abbrev pub may_have_slots : Standing → Bool
+may_have_slots (standing.Region base bits) = true
+may_have_slots (standing.Node base radix takes) = true
+may_have_slots what = false
 
 -- what stands in the sets that are filled stands in each of them, and so do the regions in the sets that are named
 abbrev pub are_put : List MayStand → Caller → Bool
 are_put all k = list_all (λ (s : MayStand). not (is_among k.fills.items s.set) || all_have all k.fills.items (opened s.what)) all
 
 abbrev pub are_made : List MayStand → Caller → Bool
-are_made all k = list_all (λ (s : MayStand). not (is_among k.names.items s.set) || is_made all k.fills.items (made_of s.what)) all
+are_made all k = list_all (λ (s : MayStand). not (is_among k.names.items s.set) || makes_what_may_stand all k.fills.items (made_of s.what)) all
 
 -- each CNode whose capability words may lead to may be a root in a set
 abbrev pub roots_stand : List MayStand → Caller → ℕ → Bool
 roots_stand all k set =
-    list_all (λ (s : MayStand). not (is_among k.nodes.items s.set && has_slots s.what) || has_over all set (opened s.what)) all
+    list_all (λ (s : MayStand). not (is_among k.nodes.items s.set && may_have_slots s.what) || has_over all set (opened s.what)) all
 
 -- and is one of each thread that stands there
 abbrev pub threads_get : List PartMemory → List MayStand → Caller → Standing → Bool
@@ -195,14 +195,14 @@ abbrev pub roots_set : List PartMemory → List MayStand → Caller → Bool
 roots_set memory all k = list_all (λ (s : MayStand). not (is_among k.names.items s.set) || threads_get memory all k s.what) all
 
 -- words go on from what stands in the sets in which they end
-abbrev pub goes_on : ProfileName → List PartMemory → List MayStand → Caller → Bool
-goes_on p memory all k = lead_to p memory all k.names.items k.names.items && lead_to p memory all k.names.items k.nodes.items
+abbrev pub caller_goes_on : ProfileName → List PartMemory → List MayStand → Caller → Bool
+caller_goes_on p memory all k = lead_to p memory all k.names.items k.names.items && lead_to p memory all k.names.items k.nodes.items
 
 abbrev pub is_caller_settled : ProfileName → List PartMemory → List MayStand → Caller → Bool
 is_caller_settled p memory all k =
     list_all (λ (s : MayStand). not (s.set == k.set) || slots_lie p memory k.names.items s.what) all
     && (list_all (λ (s : MayStand). not (s.set == k.set && may_end p s.what) || slots_lie p memory k.nodes.items s.what) all
-    && ((are_ending p all k.set || goes_on p memory all k)
+    && ((are_ending p all k.set || caller_goes_on p memory all k)
     && (lead_to p memory all k.nodes.items k.fills.items
     && (lead_to p memory all k.fills.items k.fills.items
     && (are_put all k && (are_made all k && roots_set memory all k))))))

@@ -60,7 +60,7 @@ fn names_by(callers: &[Caller], set: u64) -> &[u64]
 
 /// The sets in which the words of a thread may end.
 fn names_in(flows: &Flows, thread: u64) -> &[u64]
-    ensures { result.now ≡ spec.names_in flows.entry.now thread }
+    ensures { result.now ≡ spec.sets_named flows.entry.now thread }
 {
     let set = set_of(flows, thread);
     names_by(flows.callers.as_slice(), set)
@@ -183,7 +183,7 @@ fn sends_of<P: Profile, S: DerivationStore<P> + Drop, W: Waiters<P> + Drop>(
     by: &[u64],
     thread: u64,
 ) -> Result<Vec<Spot>, AllocError>
-    ensures { IfOk result (λ spots. spots.items ≡ spec.sends_of names.now all.now kernel.now by.now thread) }
+    ensures { IfOk result (λ spots. spots.items ≡ spec.send_spots names.now all.now kernel.now by.now thread) }
 {
     let mut spots = spots_in(alloc, Rights::WRITE, by, names, all)?;
     and_spot(&mut spots, send_spot(by, kernel.thread_state(thread)))?;
@@ -199,7 +199,7 @@ fn receives_of<P: Profile, S: DerivationStore<P> + Drop, W: Waiters<P> + Drop>(
     by: &[u64],
     thread: u64,
 ) -> Result<Vec<Spot>, AllocError>
-    ensures { IfOk result (λ spots. spots.items ≡ spec.receives_of names.now all.now kernel.now by.now thread) }
+    ensures { IfOk result (λ spots. spots.items ≡ spec.receive_spots names.now all.now kernel.now by.now thread) }
 {
     let mut spots = spots_in(alloc, Rights::READ, by, names, all)?;
     and_spot(&mut spots, receive_spot(by, kernel.thread_state(thread)))?;
@@ -207,19 +207,19 @@ fn receives_of<P: Profile, S: DerivationStore<P> + Drop, W: Waiters<P> + Drop>(
 }
 
 fn is_apart(spot: &Spot, other: &Spot) -> bool
-    ensures { result ≡ spec.is_apart spot.now other.now }
+    ensures { result ≡ spec.is_spot_apart spot.now other.now }
 {
     spot.last < other.first || other.last < spot.first
 }
 
 fn is_apart_from_all(spot: &Spot, others: &[Spot]) -> bool
-    ensures { result ≡ list_all (spec.is_apart spot.now) others.now }
+    ensures { result ≡ list_all (spec.is_spot_apart spot.now) others.now }
 {
     others.iter().all(|other| is_apart(spot, other))
 }
 
 fn are_apart(spots: &[Spot], others: &[Spot]) -> bool
-    ensures { result ≡ spec.are_apart spots.now others.now }
+    ensures { result ≡ spec.are_spots_apart spots.now others.now }
 {
     spots.iter().all(|spot| is_apart_from_all(spot, others))
 }
@@ -268,7 +268,7 @@ fn names_no_node(nodes: &[u64], all: &[MayStand]) -> bool
 /// Whether a thread's set is settled, and no word of it leads to another thread's control block.
 fn holds_none<P: Profile>(flows: &Flows, from: u64, to: u64) -> bool
     ensures settled { result ≡ true → listed.is_set_settled P.profile flows.now.memory.items flows.now.standing.items (listed.caller_of flows.now.callers.items (listed.set_at flows.now.memory.items from)) ≡ true }
-    ensures none { result ≡ true → spec.names_no_thread P.profile (spec.names_in flows.now from) flows.now.standing.items to ≡ true }
+    ensures none { result ≡ true → spec.names_no_thread P.profile (spec.sets_named flows.now from) flows.now.standing.items to ≡ true }
 {
     is_thread_settled::<P>(flows, from)
         && names_no_thread::<P>(names_in(flows, from), flows.standing.as_slice(), to)
@@ -324,14 +324,14 @@ fn stay_idle<P: Profile, S: DerivationStore<P> + Drop, W: Waiters<P> + Drop>(
 }
 
 fn is_one_of(trusted: &[u64], idle: &[u64], thread: u64) -> bool
-    ensures { result ≡ spec.is_one_of trusted.now idle.now thread }
+    ensures { result ≡ spec.is_trusted_or_idle trusted.now idle.now thread }
 {
     trusted.contains(&thread) || idle.contains(&thread)
 }
 
 /// Whether flows take no other threads for trusted than these and those that never make a call.
 fn are_known(trusted: &[u64], bound: &Bound) -> bool
-    ensures { result ≡ spec.are_known trusted.now bound.now }
+    ensures { result ≡ spec.trusts_none_else trusted.now bound.now }
 {
     let idle = bound.idle.as_slice();
     bound

@@ -114,25 +114,25 @@ fn fits_bits(most: u64, takes: u64) -> bool
 
 /// Whether a stretch has none of some addresses.
 pub fn misses(memory: &PartMemory, first: u64, last: u64) -> bool
-    ensures { result ≡ spec.misses first last memory.now }
+    ensures { result ≡ spec.misses_range first last memory.now }
 {
     memory.last < first || last < memory.first
 }
 
 pub fn has_all(memory: &PartMemory, first: u64, last: u64) -> bool
-    ensures { result ≡ spec.has_all first last memory.now }
+    ensures { result ≡ spec.has_range first last memory.now }
 {
     memory.first <= first && last <= memory.last
 }
 
 fn are_in_one(memory: &[PartMemory], first: u64, last: u64) -> bool
-    ensures { result ≡ list_any (spec.has_all first last) memory.now }
+    ensures { result ≡ list_any (spec.has_range first last) memory.now }
 {
     memory.iter().any(|m| has_all(m, first, last))
 }
 
 fn are_all_among(memory: &[PartMemory], sets: &[u64], first: u64, last: u64) -> bool
-    ensures { result ≡ list_all (λ m. spec.misses first last m || spec.is_among sets.now m.part) memory.now }
+    ensures { result ≡ list_all (λ m. spec.misses_range first last m || spec.is_among sets.now m.part) memory.now }
 {
     memory
         .iter()
@@ -221,7 +221,7 @@ pub fn are_ending<P: Profile>(all: &[MayStand], set: u64) -> bool
 
 /// Whether words go on from what stands in the sets in which they end.
 fn goes_on<P: Profile>(memory: &[PartMemory], all: &[MayStand], caller: &Caller) -> bool
-    ensures { result ≡ spec.goes_on P.profile memory.now all.now caller.now }
+    ensures { result ≡ spec.caller_goes_on P.profile memory.now all.now caller.now }
 {
     let (names, nodes) = (caller.names.as_slice(), caller.nodes.as_slice());
     lead_to::<P>(memory, all, names, names) && lead_to::<P>(memory, all, names, nodes)
@@ -315,7 +315,7 @@ fn are_put(all: &[MayStand], caller: &Caller) -> bool
 
 /// Whether all that may be made of it stands in each of some sets.
 fn is_made(all: &[MayStand], sets: &[u64], what: Standing) -> bool
-    ensures { result ≡ spec.is_made all.now sets.now (spec.made_of what) }
+    ensures { result ≡ spec.makes_what_may_stand all.now sets.now (spec.made_of what) }
 {
     match what {
         Standing::Untyped { base, bits } | Standing::Region { base, bits } => {
@@ -334,7 +334,7 @@ fn are_made(all: &[MayStand], caller: &Caller) -> bool
 }
 
 pub fn has_slots(what: Standing) -> bool
-    ensures { result ≡ spec.has_slots what }
+    ensures { result ≡ spec.may_have_slots what }
 {
     matches!(what, Standing::Region { .. } | Standing::Node { .. })
 }
@@ -356,7 +356,7 @@ fn roots_stand_in_all(
     first: u64,
     last: u64,
 ) -> bool
-    ensures { result ≡ list_all (λ m. spec.misses first last m || spec.roots_stand all.now caller.now m.part) memory.now }
+    ensures { result ≡ list_all (λ m. spec.misses_range first last m || spec.roots_stand all.now caller.now m.part) memory.now }
 {
     memory.iter().all(|m| misses(m, first, last) || roots_stand(all, caller, m.part))
 }
@@ -424,7 +424,7 @@ fn are_all_settled<P: Profile>(
     first: u64,
     last: u64,
 ) -> bool
-    ensures { result ≡ list_all (λ m. spec.misses first last m || spec.is_set_settled P.profile memory.now all.now (spec.caller_of callers.now m.part)) memory.now }
+    ensures { result ≡ list_all (λ m. spec.misses_range first last m || spec.is_set_settled P.profile memory.now all.now (spec.caller_of callers.now m.part)) memory.now }
 {
     memory.iter().all(|m| {
         misses(m, first, last) || is_set_settled::<P>(memory, all, callers, m.part)
@@ -470,7 +470,7 @@ fn is_settled<P: Profile>(flows: &Flows) -> bool
 
 /// Whether something stands for a capability.
 pub fn covers<P: Profile>(what: Standing, cap: Cap) -> bool
-    ensures { result ≡ spec.covers P.profile what cap }
+    ensures { result ≡ spec.stands_for_cap P.profile what cap }
 {
     match (what, cap) {
         (

@@ -26,11 +26,11 @@ use Rattle.kernel_delete.proofs.Objects.{same_sym}
 use Rattle.kernel_delete.proofs.Orders.{apart_of}
 use Rattle.query_revoke.specs.declared.keyed.Keyed.{Keyed}
 use Rattle.query_revoke.specs.declared.revoked.Revoked.{Revoked}
-use Rattle.query_revoke.specs.Keyed.{has_key, AreKeyed}
+use Rattle.query_revoke.specs.Keyed.{is_keyed_by, AreKeyed}
 use Rattle.query_revoke.specs.Objects.{size_in, object_number}
-use Rattle.query_revoke.specs.Runs.{Derived, part, run, run_behind, AreOnce}
-use Rattle.query_revoke.specs.Private.{lies_within, is_within_alone, has_slots, ends_slots}
-use Rattle.query_revoke.specs.Below.{AreTold, is_below, IsNamedBelow, IsRevokedAlone}
+use Rattle.query_revoke.specs.Runs.{EntryBelow, part, run, run_behind, AreOnce}
+use Rattle.query_revoke.specs.Private.{lies_within, is_within_alone, is_node_or_thread, ends_slots}
+use Rattle.query_revoke.specs.Below.{TellBelow, is_below, IsNamedBelow, IsRevokedAlone}
 use Rattle.query_revoke.proofs.Below.{revoke_below, closed_below}
 use Rattle.query_revoke.proofs.Keys.{found_in, found_all}
 use Rattle.query_revoke.proofs.Objects.{one_number}
@@ -39,36 +39,36 @@ use Rattle.query_revoke.proofs.Runs.{told, split, run_of}
 
 -- ---- the derivations and the entries of the forest
 
-abbrev view : ProfileName → List Derivation → List Derived
+abbrev view : ProfileName → List Derivation → List EntryBelow
 view p ds = map (derivation_view p) ds
 
-abbrev entries : List Derived → List Entry
-entries v = map (λ (x : Derived). x.0) v
+abbrev entries : List EntryBelow → List Entry
+entries v = map (λ (x : EntryBelow). x.0) v
 
 pub entries_told : (above : Option Entry) (f : Forest Entry) → entries (map told (parented above f)) ≡ preorder f
 entries_told above none = refl
 entries_told above (tree a k r) = ap (λ (l : List Entry). a ∷ l)
     (ap entries (map-append told (parented (Some a) k) (parented above r))
-    ∙ map-append (λ (x : Derived). x.0) (map told (parented (Some a) k)) (map told (parented above r))
+    ∙ map-append (λ (x : EntryBelow). x.0) (map told (parented (Some a) k)) (map told (parented above r))
     ∙ (λ i. entries_told (Some a) k i ++ entries_told above r i))
 
-pub addresses_seen : (p : ProfileName) (ds : List Derivation) → map (λ (d : Derivation). address_of p d.slot) ds ≡ map (λ (x : Derived). x.0.slot) (view p ds)
+pub addresses_seen : (p : ProfileName) (ds : List Derivation) → map (λ (d : Derivation). address_of p d.slot) ds ≡ map (λ (x : EntryBelow). x.0.slot) (view p ds)
 addresses_seen p [] = refl
 addresses_seen p (d ∷ ds) = ap (λ (l : List ℕ). address_of p d.slot ∷ l) (addresses_seen p ds)
 
-numbers_seen : (p : ProfileName) (ds : List Derivation) → map (λ (d : Derivation). object_number d.cap) ds ≡ map (λ (x : Derived). object_number x.0.cap) (view p ds)
+numbers_seen : (p : ProfileName) (ds : List Derivation) → map (λ (d : Derivation). object_number d.cap) ds ≡ map (λ (x : EntryBelow). object_number x.0.cap) (view p ds)
 numbers_seen p [] = refl
 numbers_seen p (d ∷ ds) = ap (λ (l : List ℕ). object_number d.cap ∷ l) (numbers_seen p ds)
 
-caps_seen : (p : ProfileName) (ds : List Derivation) → map (λ (d : Derivation). d.cap) ds ≡ map (λ (x : Derived). x.0.cap) (view p ds)
+caps_seen : (p : ProfileName) (ds : List Derivation) → map (λ (d : Derivation). d.cap) ds ≡ map (λ (x : EntryBelow). x.0.cap) (view p ds)
 caps_seen p [] = refl
 caps_seen p (d ∷ ds) = ap (λ (l : List Cap). d.cap ∷ l) (caps_seen p ds)
 
-sizes_seen : (p : ProfileName) (ds : List Derivation) → All (λ (d : Derivation). size_in d.cap < 2 ^ 32) ds → (k : ℕ) (x : Derived) → slice_get (view p ds) k ≡ Some x → size_in x.0.cap < 2 ^ 32
+sizes_seen : (p : ProfileName) (ds : List Derivation) → All (λ (d : Derivation). size_in d.cap < 2 ^ 32) ds → (k : ℕ) (x : EntryBelow) → slice_get (view p ds) k ≡ Some x → size_in x.0.cap < 2 ^ 32
 sizes_seen p [] small k x e = cc
 sizes_seen p (d ∷ ds) small zero x e =
     let same : derivation_view p d ≡ x = cc in
-    subst (λ (y : Derived). size_in y.0.cap < 2 ^ 32) same (small 0 d (omega arith))
+    subst (λ (y : EntryBelow). size_in y.0.cap < 2 ^ 32) same (small 0 d (omega arith))
 sizes_seen p (d ∷ ds) small (suc k) x e = sizes_seen p ds (λ i d' h. small (suc i) d' (omega arith)) k x e
 
 -- an element of a list that is read by a function
@@ -98,21 +98,21 @@ got_behind : {X : Type 0} (u v : List X) (x : X) → slice_get (u ++ x ∷ v) (l
 got_behind [] v x = refl
 got_behind (y ∷ u) v x = got_behind u v x
 
-behind : (f : Forest Entry) (list : List Derived) (start slot : ℕ) → list ≡ map told (parented None f) → AreApart (preorder f) → AreOnce (map (λ (x : Derived). x.0.slot) list) →
-    slice_get (map (λ (x : Derived). x.0.slot) list) start ≡ Some slot → entries (run_behind start list) ≡ descendants (is_at slot) f
+behind : (f : Forest Entry) (list : List EntryBelow) (start slot : ℕ) → list ≡ map told (parented None f) → AreApart (preorder f) → AreOnce (map (λ (x : EntryBelow). x.0.slot) list) →
+    slice_get (map (λ (x : EntryBelow). x.0.slot) list) start ≡ Some slot → entries (run_behind start list) ≡ descendants (is_at slot) f
 behind f list start slot is apart once here =
-    let x = read_from (λ (x : Derived). x.0.slot) list start slot here in
+    let x = read_from (λ (x : EntryBelow). x.0.slot) list start slot here in
     let a : Entry = x.0.0 in
     let P : List Entry → Type 0 = λ l. In a l in
-    let i : In a (preorder f) = subst P (ap entries is ∙ entries_told None f) (got_in (entries list) start a (reads (λ (y : Derived). y.0) list start x.0 x.1.0)) in
+    let i : In a (preorder f) = subst P (ap entries is ∙ entries_told None f) (got_in (entries list) start a (reads (λ (y : EntryBelow). y.0) list start x.0 x.1.0)) in
     let s = split a None f apart i in
-    let F : List Derived = map told s.front in
-    let B : List Derived = map told (parented (Some a) s.under) in
+    let F : List EntryBelow = map told s.front in
+    let B : List EntryBelow = map told (parented (Some a) s.under) in
     let all : list ≡ F ++ (told (a, s.over) ∷ (B ++ map told s.back)) =
     is ∙ ap (map told) s.is ∙ map-append told s.front ((a, s.over) ∷ (parented (Some a) s.under ++ s.back))
-    ∙ ap (λ (l : List Derived). F ++ (told (a, s.over) ∷ l)) (map-append told (parented (Some a) s.under) s.back) in
-    let there : slice_get (map (λ (x : Derived). x.0.slot) list) (length F) ≡ Some slot =
-    reads (λ (x : Derived). x.0.slot) list (length F) (told (a, s.over)) (ap (λ (l : List Derived). slice_get l (length F)) all ∙ got_behind F (B ++ map told s.back) (told (a, s.over)))
+    ∙ ap (λ (l : List EntryBelow). F ++ (told (a, s.over) ∷ l)) (map-append told (parented (Some a) s.under) s.back) in
+    let there : slice_get (map (λ (x : EntryBelow). x.0.slot) list) (length F) ≡ Some slot =
+    reads (λ (x : EntryBelow). x.0.slot) list (length F) (told (a, s.over)) (ap (λ (l : List EntryBelow). slice_get l (length F)) all ∙ got_behind F (B ++ map told s.back) (told (a, s.over)))
     ∙ ap Some x.1.1 in
     let at : start ≡ length F = once start (length F) slot here there in
     ap entries (ap (λ (n : ℕ). run_behind n list) at
@@ -139,11 +139,11 @@ apart_once (e ∷ l) apart (suc i) zero n a b = absurd (
     cc)
 apart_once (e ∷ l) apart (suc i) (suc j) n a b = ap suc (apart_once l (λ k. (apart k).1) i j n a b)
 
-slots_viewed : (v : List Derived) → map (λ (e : Entry). e.slot) (entries v) ≡ map (λ (x : Derived). x.0.slot) v
+slots_viewed : (v : List EntryBelow) → map (λ (e : Entry). e.slot) (entries v) ≡ map (λ (x : EntryBelow). x.0.slot) v
 slots_viewed [] = refl
 slots_viewed (x ∷ v) = ap (λ (l : List ℕ). x.0.slot ∷ l) (slots_viewed v)
 
-pub once_told : (p : ProfileName) (ds : List Derivation) (f : Forest Entry) → AreTold p ds f → AreOnce (map (λ (d : Derivation). address_of p d.slot) ds)
+pub once_told : (p : ProfileName) (ds : List Derivation) (f : Forest Entry) → TellBelow p ds f → AreOnce (map (λ (d : Derivation). address_of p d.slot) ds)
 once_told p ds f t =
     subst AreOnce (sym (addresses_seen p ds ∙ sym (slots_viewed (view p ds)) ∙ ap (map (λ (e : Entry). e.slot)) (ap entries t.told ∙ entries_told None f)))
     (apart_once (preorder f) (apart_of (preorder f) t.apart))
@@ -154,17 +154,17 @@ pub record Found (p : ProfileName) (ds : List Derivation) (f : Forest Entry) (sl
   pub entries_are : entries (view p ds) ≡ preorder f
   pub apart : AreApart (preorder f)
   pub full : (a : Entry) → In a (preorder f) → is_null a.cap ≡ false
-  pub once : AreOnce (map (λ (x : Derived). x.0.slot) (view p ds))
-  pub here : slice_get (map (λ (x : Derived). x.0.slot) (view p ds)) start ≡ Some slot
+  pub once : AreOnce (map (λ (x : EntryBelow). x.0.slot) (view p ds))
+  pub here : slice_get (map (λ (x : EntryBelow). x.0.slot) (view p ds)) start ≡ Some slot
   pub below : entries (part (start + 1) end (view p ds)) ≡ descendants (is_at slot) f
 
-pub found : (p : ProfileName) (ds : List Derivation) (f : Forest Entry) (slot start end : ℕ) → AreTold p ds f → AreOnce (map (λ (d : Derivation). address_of p d.slot) ds) →
+pub found : (p : ProfileName) (ds : List Derivation) (f : Forest Entry) (slot start end : ℕ) → TellBelow p ds f → AreOnce (map (λ (d : Derivation). address_of p d.slot) ds) →
     slice_get (map (λ (d : Derivation). address_of p d.slot) ds) start ≡ Some slot → part (start + 1) end (view p ds) ≡ run_behind start (view p ds) → Found p ds f slot start end
 found p ds f slot start end t once here run =
     let apart : AreApart (preorder f) = apart_of (preorder f) t.apart in
     let all : entries (view p ds) ≡ preorder f = ap entries t.told ∙ entries_told None f in
-    let once' : AreOnce (map (λ (x : Derived). x.0.slot) (view p ds)) = subst AreOnce (addresses_seen p ds) once in
-    let here' : slice_get (map (λ (x : Derived). x.0.slot) (view p ds)) start ≡ Some slot = ap (λ (l : List ℕ). slice_get l start) (sym (addresses_seen p ds)) ∙ here in
+    let once' : AreOnce (map (λ (x : EntryBelow). x.0.slot) (view p ds)) = subst AreOnce (addresses_seen p ds) once in
+    let here' : slice_get (map (λ (x : EntryBelow). x.0.slot) (view p ds)) start ≡ Some slot = ap (λ (l : List ℕ). slice_get l start) (sym (addresses_seen p ds)) ∙ here in
     record {
       entries_are = all;
       apart = apart;
@@ -176,17 +176,17 @@ found p ds f slot start end t once here run =
     }
 
 -- an entry, and its place
-entry_at : (p : ProfileName) (ds : List Derivation) (f : Forest Entry) (slot start end k : ℕ) (x : Derived) → Found p ds f slot start end → slice_get (view p ds) k ≡ Some x → In x.0 (preorder f)
+entry_at : (p : ProfileName) (ds : List Derivation) (f : Forest Entry) (slot start end k : ℕ) (x : EntryBelow) → Found p ds f slot start end → slice_get (view p ds) k ≡ Some x → In x.0 (preorder f)
 entry_at p ds f slot start end k x w e =
     let P : List Entry → Type 0 = λ l. In x.0 l in
-    subst P w.entries_are (got_in (entries (view p ds)) k x.0 (reads (λ (y : Derived). y.0) (view p ds) k x e))
+    subst P w.entries_are (got_in (entries (view p ds)) k x.0 (reads (λ (y : EntryBelow). y.0) (view p ds) k x e))
 
 place_of : (p : ProfileName) (ds : List Derivation) (f : Forest Entry) (slot start end : ℕ) (b : Entry) → Found p ds f slot start end → In b (preorder f) →
-    (k : ℕ) × ((x : Derived) × ((slice_get (view p ds) k ≡ Some x) × (x.0 ≡ b)))
+    (k : ℕ) × ((x : EntryBelow) × ((slice_get (view p ds) k ≡ Some x) × (x.0 ≡ b)))
 place_of p ds f slot start end b w i =
     let P : List Entry → Type 0 = λ l. In b l in
     let k = in_got (entries (view p ds)) b (subst P (sym w.entries_are) i) in
-    let x = read_from (λ (y : Derived). y.0) (view p ds) k.0 b k.1 in
+    let x = read_from (λ (y : EntryBelow). y.0) (view p ds) k.0 b k.1 in
     (k.0, (x.0, (x.1.0, x.1.1)))
 
 any_seen : {X Y : Type 0} (g : X → Y) (q : Y → Bool) (xs : List X) → list_any q (map g xs) ≡ list_any (λ (x : X). q (g x)) xs
@@ -194,12 +194,12 @@ any_seen g q [] = refl
 any_seen g q (x ∷ xs) = ap (λ (b : Bool). q (g x) || b) (any_seen g q xs)
 
 -- an entry stands below the slot where its place lies behind the slot's, and in front of the end
-below_at : (p : ProfileName) (ds : List Derivation) (f : Forest Entry) (slot start end k : ℕ) (x : Derived) → Found p ds f slot start end → slice_get (view p ds) k ≡ Some x →
+below_at : (p : ProfileName) (ds : List Derivation) (f : Forest Entry) (slot start end k : ℕ) (x : EntryBelow) → Found p ds f slot start end → slice_get (view p ds) k ≡ Some x →
     is_below slot f x.0.slot ≡ (nat_le (start + 1) k && nat_lt k end)
 below_at p ds f slot start end k x w e =
     ap (list_any (is_at x.0.slot)) (sym w.below)
-    ∙ any_seen (λ (y : Derived). y.0) (is_at x.0.slot) (part (start + 1) end (view p ds))
-    ∙ any_within (λ (y : Derived). y.0.slot) (view p ds) (start + 1) end x.0.slot k (reads (λ (y : Derived). y.0.slot) (view p ds) k x e) w.once
+    ∙ any_seen (λ (y : EntryBelow). y.0) (is_at x.0.slot) (part (start + 1) end (view p ds))
+    ∙ any_within (λ (y : EntryBelow). y.0.slot) (view p ds) (start + 1) end x.0.slot k (reads (λ (y : EntryBelow). y.0.slot) (view p ds) k x e) w.once
 
 -- ---- objects
 
@@ -220,26 +220,26 @@ within_means nums objects s e cap keyed all j there =
     let w = found_all n 0 nums j there in
     let k : Keyed = record { key = n; place = 0 + j } in
     let plain : 0 + j ≡ j = omega arith in
-    let i : In k (filter (has_key n) objects) = got_in (filter (has_key n) objects) w.0 k (ap (λ (l : List Keyed). slice_get l w.0) (keyed.same n) ∙ w.1) in
-    ap (λ (m : ℕ). nat_le s m && nat_lt m e) (sym plain) ∙ all_in (lies_within s e) (filter (has_key n) objects) k all i
+    let i : In k (filter (is_keyed_by n) objects) = got_in (filter (is_keyed_by n) objects) w.0 k (ap (λ (l : List Keyed). slice_get l w.0) (keyed.same n) ∙ w.1) in
+    ap (λ (m : ℕ). nat_le s m && nat_lt m e) (sym plain) ∙ all_in (lies_within s e) (filter (is_keyed_by n) objects) k all i
 
 not_within : (nums : List ℕ) (objects : List Keyed) (s e : ℕ) (cap : Cap) → AreKeyed nums objects → is_within_alone objects s e cap ≡ false →
     (j : ℕ) × ((slice_get nums j ≡ Some (object_number cap)) × ((nat_le s j && nat_lt j e) ≡ false))
 not_within nums objects s e cap keyed fails =
     let n : ℕ = object_number cap in
-    let w = not_all (lies_within s e) (filter (has_key n) objects) fails in
-    let i = in_got (filter (has_key n) objects) w.0 w.1.0 in
+    let w = not_all (lies_within s e) (filter (is_keyed_by n) objects) fails in
+    let i = in_got (filter (is_keyed_by n) objects) w.0 w.1.0 in
     let g = found_in n 0 nums i.0 w.0 (ap (λ (l : List Keyed). slice_get l i.0) (sym (keyed.same n)) ∙ i.1) in
     let plain : w.0.place ≡ g.0 = (let h = g.1.0 in omega (arith, h)) in
     (g.0, (g.1.1.1, sym (ap (λ (m : ℕ). nat_le s m && nat_lt m e) plain) ∙ w.1.1))
 
 -- an entry whose capability has the number of another one names the same
-same_number : (p : ProfileName) (ds : List Derivation) (f : Forest Entry) (slot start end j k : ℕ) (b x : Derived) → Found p ds f slot start end → All (λ (d : Derivation). size_in d.cap < 2 ^ 32) ds →
+same_number : (p : ProfileName) (ds : List Derivation) (f : Forest Entry) (slot start end j k : ℕ) (b x : EntryBelow) → Found p ds f slot start end → All (λ (d : Derivation). size_in d.cap < 2 ^ 32) ds →
     slice_get (view p ds) j ≡ Some b → slice_get (view p ds) k ≡ Some x → names_same b.0.cap x.0.cap ≡ (object_number b.0.cap == object_number x.0.cap)
 same_number p ds f slot start end j k b x w small eb ex =
     one_number b.0.cap x.0.cap (w.full x.0 (entry_at p ds f slot start end k x w ex)) (sizes_seen p ds small j b eb) (sizes_seen p ds small k x ex)
 
-named_alone : (p : ProfileName) (ds : List Derivation) (f : Forest Entry) (objects : List Keyed) (slot start end k : ℕ) (x : Derived) → Found p ds f slot start end →
+named_alone : (p : ProfileName) (ds : List Derivation) (f : Forest Entry) (objects : List Keyed) (slot start end k : ℕ) (x : EntryBelow) → Found p ds f slot start end →
     All (λ (d : Derivation). size_in d.cap < 2 ^ 32) ds → AreKeyed (map (λ (d : Derivation). object_number d.cap) ds) objects → slice_get (view p ds) k ≡ Some x →
     is_within_alone objects (start + 1) end x.0.cap ≡ true → IsNamedBelow slot f x.0.cap
 named_alone p ds f objects slot start end k x w small keyed ex all b c other = elim (tells (names_same b.cap x.0.cap)) [
@@ -250,7 +250,7 @@ named_alone p ds f objects slot start end k x w small keyed ex all b c other = e
       let number : object_number j.1.0.0.cap ≡ object_number x.0.cap =
       eqb-true (object_number j.1.0.0.cap) (object_number x.0.cap) (sym (same_number p ds f slot start end j.0 k j.1.0 x w small j.1.1.0 ex) ∙ same) in
       let there : slice_get (map (λ (d : Derivation). object_number d.cap) ds) j.0 ≡ Some (object_number x.0.cap) =
-      ap (λ (l : List ℕ). slice_get l j.0) (numbers_seen p ds) ∙ reads (λ (y : Derived). object_number y.0.cap) (view p ds) j.0 j.1.0 j.1.1.0 ∙ ap Some number in
+      ap (λ (l : List ℕ). slice_get l j.0) (numbers_seen p ds) ∙ reads (λ (y : EntryBelow). object_number y.0.cap) (view p ds) j.0 j.1.0 j.1.1.0 ∙ ap Some number in
       let inside = within_means (map (λ (d : Derivation). object_number d.cap) ds) objects (start + 1) end x.0.cap keyed all j.0 there in
       let below : is_below slot f b.slot ≡ true = ap (λ (e : Entry). is_below slot f e.slot) (sym j.1.1.1) ∙ below_at p ds f slot start end j.0 j.1.0 w j.1.1.0 ∙ inside in
       let z : true ≡ false = sym below ∙ other in
@@ -258,13 +258,13 @@ named_alone p ds f objects slot start end k x w small keyed ex all b c other = e
 ]
 
 -- where some capability of its object stands elsewhere
-outside : (p : ProfileName) (ds : List Derivation) (f : Forest Entry) (objects : List Keyed) (slot start end k : ℕ) (x : Derived) → Found p ds f slot start end →
+outside : (p : ProfileName) (ds : List Derivation) (f : Forest Entry) (objects : List Keyed) (slot start end k : ℕ) (x : EntryBelow) → Found p ds f slot start end →
     All (λ (d : Derivation). size_in d.cap < 2 ^ 32) ds → AreKeyed (map (λ (d : Derivation). object_number d.cap) ds) objects → slice_get (view p ds) k ≡ Some x →
     is_within_alone objects (start + 1) end x.0.cap ≡ false →
     (b : Entry) × (In b (preorder f) × ((names_same b.cap x.0.cap ≡ true) × (is_below slot f b.slot ≡ false)))
 outside p ds f objects slot start end k x w small keyed ex fails =
     let o = not_within (map (λ (d : Derivation). object_number d.cap) ds) objects (start + 1) end x.0.cap keyed fails in
-    let b = read_from (λ (y : Derived). object_number y.0.cap) (view p ds) o.0 (object_number x.0.cap) (ap (λ (l : List ℕ). slice_get l o.0) (sym (numbers_seen p ds)) ∙ o.1.0) in (
+    let b = read_from (λ (y : EntryBelow). object_number y.0.cap) (view p ds) o.0 (object_number x.0.cap) (ap (λ (l : List ℕ). slice_get l o.0) (sym (numbers_seen p ds)) ∙ o.1.0) in (
       b.0.0,
       (
         entry_at p ds f slot start end o.0 b.0 w b.1.0,
@@ -275,7 +275,7 @@ outside p ds f objects slot start end k x w small keyed ex fails =
       ),
     )
 
-alone_named : (p : ProfileName) (ds : List Derivation) (f : Forest Entry) (objects : List Keyed) (slot start end k : ℕ) (x : Derived) → Found p ds f slot start end →
+alone_named : (p : ProfileName) (ds : List Derivation) (f : Forest Entry) (objects : List Keyed) (slot start end k : ℕ) (x : EntryBelow) → Found p ds f slot start end →
     All (λ (d : Derivation). size_in d.cap < 2 ^ 32) ds → AreKeyed (map (λ (d : Derivation). object_number d.cap) ds) objects → slice_get (view p ds) k ≡ Some x →
     IsNamedBelow slot f x.0.cap → is_within_alone objects (start + 1) end x.0.cap ≡ true
 alone_named p ds f objects slot start end k x w small keyed ex named = elim (tells (is_within_alone objects (start + 1) end x.0.cap)) [
@@ -287,7 +287,7 @@ alone_named p ds f objects slot start end k x w small keyed ex named = elim (tel
 ]
 
 -- no object with slots ends: then the set is closed
-no_slots : (p : ProfileName) (cap : Cap) → has_slots cap ≡ false → slots_of p cap ≡ []
+no_slots : (p : ProfileName) (cap : Cap) → is_node_or_thread cap ≡ false → slots_of p cap ≡ []
 unfolding slots_of
 no_slots p Null e = refl
 no_slots p (Untyped base bits free) e = refl
@@ -313,15 +313,15 @@ closed : (p : ProfileName) (ds : List Derivation) (f : Forest Entry) (objects : 
     list_any (ends_slots objects (start + 1) end) (map (λ (d : Derivation). d.cap) (part (start + 1) end ds)) ≡ false → IsClosed p (preorder f) (is_below slot f)
 closed p ds f objects slot start end w small keyed stay = closed_below p f (is_below slot f) w.apart (λ a i inside.
     let k = place_of p ds f slot start end a w i in
-    let x : Derived = k.1.0 in
+    let x : EntryBelow = k.1.0 in
     let ex = k.1.1.0 in
     let range = both_true (nat_le (start + 1) k.0) (nat_lt k.0 end) (sym (below_at p ds f slot start end k.0 x w ex) ∙ (ap (λ (e : Entry). is_below slot f e.slot) k.1.1.1 ∙ inside)) in
     let member : In x.0.cap (map (λ (d : Derivation). d.cap) (part (start + 1) end ds)) =
     (let P : List Cap → Type 0 = λ l. In x.0.cap l in
     subst P (sym (map_part (λ (d : Derivation). d.cap) (start + 1) end ds)) (in_part (map (λ (d : Derivation). d.cap) ds) (start + 1) end k.0 x.0.cap
-    (ap (λ (l : List Cap). slice_get l k.0) (caps_seen p ds) ∙ reads (λ (y : Derived). y.0.cap) (view p ds) k.0 x ex) (leb-true (start + 1) k.0 range.0) (ltb-true k.0 end range.1))) in
-    let ends : (has_slots x.0.cap && is_within_alone objects (start + 1) end x.0.cap) ≡ false = none_where (ends_slots objects (start + 1) end) (map (λ (d : Derivation). d.cap) (part (start + 1) end ds)) x.0.cap stay member in
-    elim (tells (has_slots x.0.cap)) [
+    (ap (λ (l : List Cap). slice_get l k.0) (caps_seen p ds) ∙ reads (λ (y : EntryBelow). y.0.cap) (view p ds) k.0 x ex) (leb-true (start + 1) k.0 range.0) (ltb-true k.0 end range.1))) in
+    let ends : (is_node_or_thread x.0.cap && is_within_alone objects (start + 1) end x.0.cap) ≡ false = none_where (ends_slots objects (start + 1) end) (map (λ (d : Derivation). d.cap) (part (start + 1) end ds)) x.0.cap stay member in
+    elim (tells (is_node_or_thread x.0.cap)) [
       | inr fails ↦ inl (ap (λ (e : Entry). slots_of p e.cap) (sym k.1.1.1) ∙ no_slots p x.0.cap fails)
       | inl passes ↦ (
           let elsewhere : is_within_alone objects (start + 1) end x.0.cap ≡ false = sym (ap (λ (b : Bool). b && is_within_alone objects (start + 1) end x.0.cap) passes) ∙ ends in
@@ -330,7 +330,7 @@ closed p ds f objects slot start end w small keyed stay = closed_below p f (is_b
           inr (o.0, (o.1.0, (ap (λ (e : Entry). same_object e.cap o.0.cap) (sym k.1.1.1) ∙ same_sym o.0.cap x.0.cap same, o.1.1.1))))
     ])
   where
-    named_other : (b x : Cap) → has_slots x ≡ true → names_same b x ≡ true → same_object b x ≡ true
+    named_other : (b x : Cap) → is_node_or_thread x ≡ true → names_same b x ≡ true → same_object b x ≡ true
     named_other (Untyped base bits free) Null h e = cc
     named_other (Untyped base bits free) (Untyped c t g) h e = cc
     named_other (Untyped base bits free) (Endpoint c d r) h e = cc
@@ -342,7 +342,7 @@ closed p ds f objects slot start end w small keyed stay = closed_below p f (is_b
     named_other (Tcb base) x h e = e
 
 -- what passes lies in one part
-slots_seen : (v : List Derived) → map (λ (e : Entry). e.slot) (entries v) ≡ map (λ (x : Derived). x.0.slot) v
+slots_seen : (v : List EntryBelow) → map (λ (e : Entry). e.slot) (entries v) ≡ map (λ (x : EntryBelow). x.0.slot) v
 slots_seen [] = refl
 slots_seen (x ∷ v) = ap (λ (l : List ℕ). x.0.slot ∷ l) (slots_seen v)
 
@@ -396,27 +396,27 @@ revoked p ds f objects slot start end r w small keyed high count stay ended = re
   forest = revoke_below p f slot w.apart out (closed p ds f objects slot start end w small keyed stay);
   count = count ∙ sym (sym (length-filter (is_below slot f) (slots f))
       ∙ ap (λ (l : List ℕ). length (filter (is_below slot f) l)) (sym slots_are)
-      ∙ ap length (filter_part (is_below slot f) (map (λ (x : Derived). x.0.slot) (view p ds)) (start + 1) end inside_only)
-      ∙ part_length (map (λ (x : Derived). x.0.slot) (view p ds)) (start + 1) end (omega (arith, m, m', high)) ∙ omega arith);
+      ∙ ap length (filter_part (is_below slot f) (map (λ (x : EntryBelow). x.0.slot) (view p ds)) (start + 1) end inside_only)
+      ∙ part_length (map (λ (x : EntryBelow). x.0.slot) (view p ds)) (start + 1) end (omega (arith, m, m', high)) ∙ omega arith);
   only = λ cap c. (
       let P : List Cap → Type 0 = λ l. In cap l in
       let i = in_filter (is_within_alone objects (start + 1) end) (map (λ (d : Derivation). d.cap) (part (start + 1) end ds)) cap (subst P ended (contains_in r.ended.items cap c)) in
       let k = part_in (map (λ (d : Derivation). d.cap) ds) (start + 1) end cap (subst P (map_part (λ (d : Derivation). d.cap) (start + 1) end ds) i.0) in
-      let x = read_from (λ (y : Derived). y.0.cap) (view p ds) k.0 cap (ap (λ (l : List Cap). slice_get l k.0) (sym (caps_seen p ds)) ∙ k.1.0) in
+      let x = read_from (λ (y : EntryBelow). y.0.cap) (view p ds) k.0 cap (ap (λ (l : List Cap). slice_get l k.0) (sym (caps_seen p ds)) ∙ k.1.0) in
       let inside : (nat_le (start + 1) k.0 && nat_lt k.0 end) ≡ true = both (nat_le (start + 1) k.0) (nat_lt k.0 end) (le-leb (start + 1) k.0 (let l = k.1.1.0 in omega arith)) (lt-ltb k.0 end (let l = k.1.1.1 in omega arith)) in
       let named : IsNamedBelow slot f x.0.0.cap =
       named_alone p ds f objects slot start end k.0 x.0 w small keyed x.1.0 (ap (is_within_alone objects (start + 1) end) x.1.1 ∙ i.1) in
       (x.0.0, (in_contains (preorder f) x.0.0 (entry_at p ds f slot start end k.0 x.0 w x.1.0), (below_at p ds f slot start end k.0 x.0 w x.1.0 ∙ inside, (x.1.1, subst (IsNamedBelow slot f) x.1.1 named)))));
   all = λ a c inside named. (
       let k = place_of p ds f slot start end a w (contains_in (preorder f) a c) in
-      let x : Derived = k.1.0 in
+      let x : EntryBelow = k.1.0 in
       let ex = k.1.1.0 in
       let range = both_true (nat_le (start + 1) k.0) (nat_lt k.0 end) (sym (below_at p ds f slot start end k.0 x w ex) ∙ (ap (λ (e : Entry). is_below slot f e.slot) k.1.1.1 ∙ inside)) in
       let alone : is_within_alone objects (start + 1) end x.0.cap ≡ true = alone_named p ds f objects slot start end k.0 x w small keyed ex (subst (λ (e : Entry). IsNamedBelow slot f e.cap) (sym k.1.1.1) named) in
       let P : List Cap → Type 0 = λ l. In x.0.cap l in
       let member : In x.0.cap (map (λ (d : Derivation). d.cap) (part (start + 1) end ds)) =
       subst P (sym (map_part (λ (d : Derivation). d.cap) (start + 1) end ds)) (in_part (map (λ (d : Derivation). d.cap) ds) (start + 1) end k.0 x.0.cap
-      (ap (λ (l : List Cap). slice_get l k.0) (caps_seen p ds) ∙ reads (λ (y : Derived). y.0.cap) (view p ds) k.0 x ex) (leb-true (start + 1) k.0 range.0) (ltb-true k.0 end range.1)) in
+      (ap (λ (l : List Cap). slice_get l k.0) (caps_seen p ds) ∙ reads (λ (y : EntryBelow). y.0.cap) (view p ds) k.0 x ex) (leb-true (start + 1) k.0 range.0) (ltb-true k.0 end range.1)) in
       let listed : In x.0.cap r.ended.items = subst P (sym ended) (filter_in (is_within_alone objects (start + 1) end) (map (λ (d : Derivation). d.cap) (part (start + 1) end ds)) x.0.cap member alone) in
       in_contains r.ended.items a.cap (subst (λ (e : Entry). In e.cap r.ended.items) k.1.1.1 listed));
 }
@@ -424,20 +424,20 @@ revoked p ds f objects slot start end r w small keyed high count stay ended = re
     m : length (view p ds) ≡ length ds
     m = length-map ds (derivation_view p)
 
-    m' : length (map (λ (x : Derived). x.0.slot) (view p ds)) ≡ length (view p ds)
-    m' = length-map (view p ds) (λ (x : Derived). x.0.slot)
+    m' : length (map (λ (x : EntryBelow). x.0.slot) (view p ds)) ≡ length (view p ds)
+    m' = length-map (view p ds) (λ (x : EntryBelow). x.0.slot)
 
-    slots_are : map (λ (x : Derived). x.0.slot) (view p ds) ≡ slots f
+    slots_are : map (λ (x : EntryBelow). x.0.slot) (view p ds) ≡ slots f
     slots_are = sym (slots_seen (view p ds)) ∙ ap (map (λ (e : Entry). e.slot)) w.entries_are
 
-    inside_only : (k n : ℕ) → slice_get (map (λ (x : Derived). x.0.slot) (view p ds)) k ≡ Some n → is_below slot f n ≡ (nat_le (start + 1) k && nat_lt k end)
+    inside_only : (k n : ℕ) → slice_get (map (λ (x : EntryBelow). x.0.slot) (view p ds)) k ≡ Some n → is_below slot f n ≡ (nat_le (start + 1) k && nat_lt k end)
     inside_only k n e =
-        let x = read_from (λ (y : Derived). y.0.slot) (view p ds) k n e in
+        let x = read_from (λ (y : EntryBelow). y.0.slot) (view p ds) k n e in
         ap (is_below slot f) (sym x.1.1) ∙ below_at p ds f slot start end k x.0 w x.1.0
 
     out : is_below slot f slot ≡ false
     out =
-        let x = read_from (λ (y : Derived). y.0.slot) (view p ds) start slot w.here in
+        let x = read_from (λ (y : EntryBelow). y.0.slot) (view p ds) start slot w.here in
         ap (is_below slot f) (sym x.1.1) ∙ below_at p ds f slot start end start x.0 w x.1.0 ∙ front
       where
         front : (nat_le (start + 1) start && nat_lt start end) ≡ false

@@ -9,7 +9,7 @@ use Rattle.std.proofs.lemmas.Bool.{eq-eqb, ne_eqb, ltb-true, ltb-false, leb-true
 use Rattle.std.proofs.lemmas.List.{append-nil, take-append-drop, length-take, length-drop, get_or-take, get_or-drop}
 use Rattle.std.proofs.lemmas.List.Elements.{filter-append}
 use Rattle.query_revoke.specs.declared.keyed.Keyed.{Keyed}
-use Rattle.query_revoke.specs.Keyed.{has_key}
+use Rattle.query_revoke.specs.Keyed.{is_keyed_by}
 
 filter_all : {X : Type 0} (p : X → Bool) (xs : List X) → All (λ (x : X). p x ≡ true) xs → filter p xs ≡ xs
 filter_all p [] h = refl
@@ -49,7 +49,7 @@ tie a b = elim (nat_lt a b) as (λ c. nat_lt a b ≡ c → (not (is_lt (nat_cmp 
 abbrev of_key : ℕ → Keyed
 of_key n = record { key = n; place = 0 }
 
-pub same_at : (n : ℕ) (xs ys : List Keyed) → IsStableByKey (λ (v : Keyed). v.key) nat_cmp xs ys → filter (has_key n) ys ≡ filter (has_key n) xs
+pub same_at : (n : ℕ) (xs ys : List Keyed) → IsStableByKey (λ (v : Keyed). v.key) nat_cmp xs ys → filter (is_keyed_by n) ys ≡ filter (is_keyed_by n) xs
 same_at n xs ys stable =
     (λ i. filter (λ (y : Keyed). (sym (tie n y.key)) i) ys)
     ∙ (stable (of_key n) ∙ (λ i. filter (λ (y : Keyed). (tie n y.key) i) xs))
@@ -68,33 +68,33 @@ exact_at e n h k = eq-eqb n e (let l = ltb-false n e h in let m = leb-true n e k
 pub between : (e : ℕ) (xs : List Keyed) (i j : ℕ) → i ≤ length xs →
     IsPartitionPoint (λ (y : Keyed). nat_lt y.key e ≡ true) (λ (y : Keyed). nat_lt y.key e ≡ false) xs i →
     IsPartitionPoint (λ (y : Keyed). nat_le y.key e ≡ true) (λ (y : Keyed). nat_le y.key e ≡ false) (drop i xs) j →
-    take j (drop i xs) ≡ filter (has_key e) xs
+    take j (drop i xs) ≡ filter (is_keyed_by e) xs
 between e xs i j in' low high =
-    sym (ap (filter (has_key e)) (sym (take-append-drop i xs))
-    ∙ (filter-append (has_key e) (take i xs) rest
-    ∙ (ap (λ (l : List Keyed). l ++ filter (has_key e) rest) (filter_none (has_key e) (take i xs) front)
-    ∙ (ap (filter (has_key e)) (sym (take-append-drop j rest))
-    ∙ (filter-append (has_key e) (take j rest) (drop j rest)
-    ∙ ((λ k. (filter_all (has_key e) (take j rest) middle) k ++ (filter_none (has_key e) (drop j rest) back) k)
+    sym (ap (filter (is_keyed_by e)) (sym (take-append-drop i xs))
+    ∙ (filter-append (is_keyed_by e) (take i xs) rest
+    ∙ (ap (λ (l : List Keyed). l ++ filter (is_keyed_by e) rest) (filter_none (is_keyed_by e) (take i xs) front)
+    ∙ (ap (filter (is_keyed_by e)) (sym (take-append-drop j rest))
+    ∙ (filter-append (is_keyed_by e) (take j rest) (drop j rest)
+    ∙ ((λ k. (filter_all (is_keyed_by e) (take j rest) middle) k ++ (filter_none (is_keyed_by e) (drop j rest) back) k)
     ∙ append-nil (take j rest)))))))
   where
     rest : List Keyed
     rest = drop i xs
 
-    front : All (λ (y : Keyed). has_key e y ≡ false) (take i xs)
+    front : All (λ (y : Keyed). is_keyed_by e y ≡ false) (take i xs)
     front k d lt =
         let short = length-take i xs in
-        ap (has_key e) (get_or-take i xs k d (omega arith)) ∙ less_at e (get_or xs k d).key (low.0 k d (omega arith) (omega arith))
+        ap (is_keyed_by e) (get_or-take i xs k d (omega arith)) ∙ less_at e (get_or xs k d).key (low.0 k d (omega arith) (omega arith))
 
-    middle : All (λ (y : Keyed). has_key e y ≡ true) (take j rest)
+    middle : All (λ (y : Keyed). is_keyed_by e y ≡ true) (take j rest)
     middle k d lt =
         let short = length-take j rest in
         let long = length-drop i xs in
         let at = ap (λ (y : Keyed). nat_le y.key e) (get_or-drop i xs k d) in
-        ap (has_key e) (get_or-take j rest k d (omega arith) ∙ get_or-drop i xs k d)
+        ap (is_keyed_by e) (get_or-take j rest k d (omega arith) ∙ get_or-drop i xs k d)
         ∙ exact_at e (get_or xs (i + k) d).key (low.1 (i + k) d (omega arith) (omega arith)) (sym at ∙ high.0 k d (omega arith) (omega arith))
 
-    back : All (λ (y : Keyed). has_key e y ≡ false) (drop j rest)
+    back : All (λ (y : Keyed). is_keyed_by e y ≡ false) (drop j rest)
     back k d lt =
         let long = length-drop j rest in
-        ap (has_key e) (get_or-drop j rest k d) ∙ more_at e (get_or rest (j + k) d).key (high.1 (j + k) d (omega arith) (omega arith))
+        ap (is_keyed_by e) (get_or-drop j rest k d) ∙ more_at e (get_or rest (j + k) d).key (high.1 (j + k) d (omega arith) (omega arith))

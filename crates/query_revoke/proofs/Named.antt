@@ -12,7 +12,7 @@ use Rattle.slot_core.specs.declared.derivations.Derivation.{Derivation}
 use Rattle.kernel_delete.specs.Members.{In}
 use Rattle.kernel_delete.proofs.Members.{any_of, any_in, all_in, all_of, tells, same_truth, both_true}
 use Rattle.query_revoke.specs.declared.keyed.Keyed.{Keyed}
-use Rattle.query_revoke.specs.Keyed.{has_key, AreKeyed}
+use Rattle.query_revoke.specs.Keyed.{is_keyed_by, AreKeyed}
 use Rattle.query_revoke.specs.Objects.{size_in, object_number}
 use Rattle.query_revoke.specs.Private.{lies_within, AreAscending}
 use Rattle.query_revoke.specs.Runs.{part}
@@ -58,22 +58,22 @@ left_some xs i x e = let l = slice_get_within xs i x e in ap not (ne_eqb (length
 
 pub named_by_number : (list : List Derivation) (objects : List Keyed) (cap : Cap) → AreKeyed (map (λ (d : Derivation). object_number d.cap) list) objects →
     All (λ (d : Derivation). size_in d.cap < 2 ^ 32) list → is_null cap ≡ false → size_in cap < 2 ^ 32 →
-    not (length (filter (has_key (object_number cap)) objects) == 0) ≡ list_any (λ (d : Derivation). names_same d.cap cap) list
+    not (length (filter (is_keyed_by (object_number cap)) objects) == 0) ≡ list_any (λ (d : Derivation). names_same d.cap cap) list
 named_by_number list objects cap keyed small full size =
-    same_truth (not (length (filter (has_key (object_number cap)) objects) == 0)) (list_any (λ (d : Derivation). names_same d.cap cap) list) there back
+    same_truth (not (length (filter (is_keyed_by (object_number cap)) objects) == 0)) (list_any (λ (d : Derivation). names_same d.cap cap) list) there back
   where
     nums : List ℕ
     nums = map (λ (d : Derivation). object_number d.cap) list
 
-    there : not (length (filter (has_key (object_number cap)) objects) == 0) ≡ true → list_any (λ (d : Derivation). names_same d.cap cap) list ≡ true
+    there : not (length (filter (is_keyed_by (object_number cap)) objects) == 0) ≡ true → list_any (λ (d : Derivation). names_same d.cap cap) list ≡ true
     there h =
-        let k = some_left (filter (has_key (object_number cap)) objects) h in
+        let k = some_left (filter (is_keyed_by (object_number cap)) objects) h in
         let g = found_in (object_number cap) 0 nums 0 k.0 (ap (λ (l : List Keyed). slice_get l 0) (sym (keyed.same (object_number cap))) ∙ k.1) in
         let d = read_in list g.0 (object_number cap) g.1.1.1 in
         any_in (λ (d : Derivation). names_same d.cap cap) list d.0 d.1.0
         (one_number d.0.cap cap full (size_at list d.0 small d.1.0) size ∙ eq-eqb (object_number d.0.cap) (object_number cap) d.1.1)
 
-    back : list_any (λ (d : Derivation). names_same d.cap cap) list ≡ true → not (length (filter (has_key (object_number cap)) objects) == 0) ≡ true
+    back : list_any (λ (d : Derivation). names_same d.cap cap) list ≡ true → not (length (filter (is_keyed_by (object_number cap)) objects) == 0) ≡ true
     back h =
         let d = any_of (λ (d : Derivation). names_same d.cap cap) list h in
         let i = in_got list d.0 d.1.0 in
@@ -81,7 +81,7 @@ named_by_number list objects cap keyed small full size =
         eqb-true (object_number d.0.cap) (object_number cap) (sym (one_number d.0.cap cap full (size_at list d.0 small d.1.0) size) ∙ d.1.1) in
         let at : slice_get nums i.0 ≡ Some (object_number cap) = slice_get-map (λ (d : Derivation). object_number d.cap) list i.0 ∙ ap (option_map (λ (d : Derivation). object_number d.cap)) i.1 ∙ ap Some number in
         let w = found_all (object_number cap) 0 nums i.0 at in
-        left_some (filter (has_key (object_number cap)) objects) w.0 _ (ap (λ (l : List Keyed). slice_get l w.0) (keyed.same (object_number cap)) ∙ w.1)
+        left_some (filter (is_keyed_by (object_number cap)) objects) w.0 _ (ap (λ (l : List Keyed). slice_get l w.0) (keyed.same (object_number cap)) ∙ w.1)
 
 -- ---- places that rise lie within where the first and the last do
 

@@ -6,31 +6,31 @@ use Rattle.cap_core.specs.declared.capability.Cap.{Cap}
 use Rattle.cap_core.specs.declared.capability.Cap.TheVariants.{Null, Untyped, Endpoint, CNode, Tcb}
 use Rattle.cap_core.specs.Objects.{is_null}
 use Rattle.kernel_forest.specs.Derivation.{names_same}
-use Rattle.query_revoke.specs.Objects.{size_in, number_of, object_number}
+use Rattle.query_revoke.specs.Objects.{size_in, key_of_object, object_number}
 
 record Same (a k s b l t : ℕ) : Type 0 where
   base : a ≡ b
   kind : k ≡ l
   size : s ≡ t
 
-parts : (a k s b l t : ℕ) → k < 8 → l < 8 → s < 2 ^ 32 → t < 2 ^ 32 → number_of a k s ≡ number_of b l t → Same a k s b l t
+parts : (a k s b l t : ℕ) → k < 8 → l < 8 → s < 2 ^ 32 → t < 2 ^ 32 → key_of_object a k s ≡ key_of_object b l t → Same a k s b l t
 parts a k s b l t k8 l8 s32 t32 e = record { base = omega arith; kind = omega arith; size = omega arith }
 
-other_kind : (a k s b l t : ℕ) → k < 8 → l < 8 → s < 2 ^ 32 → t < 2 ^ 32 → k ≢ l → false ≡ (number_of a k s == number_of b l t)
-other_kind a k s b l t k8 l8 s32 t32 ne = sym (ne_eqb (number_of a k s) (number_of b l t) (λ e. ne (parts a k s b l t k8 l8 s32 t32 e).kind))
+other_kind : (a k s b l t : ℕ) → k < 8 → l < 8 → s < 2 ^ 32 → t < 2 ^ 32 → k ≢ l → false ≡ (key_of_object a k s == key_of_object b l t)
+other_kind a k s b l t k8 l8 s32 t32 ne = sym (ne_eqb (key_of_object a k s) (key_of_object b l t) (λ e. ne (parts a k s b l t k8 l8 s32 t32 e).kind))
 
-one_kind : (a b k : ℕ) → k < 8 → (a == b) ≡ (number_of a k 0 == number_of b k 0)
+one_kind : (a b k : ℕ) → k < 8 → (a == b) ≡ (key_of_object a k 0 == key_of_object b k 0)
 one_kind a b k k8 = elim (cases_eq a b) [
-  | inl e ↦ eq-eqb a b e ∙ sym (eq-eqb (number_of a k 0) (number_of b k 0) (ap (λ (n : ℕ). number_of n k 0) e))
-  | inr ne ↦ ne_eqb a b ne ∙ sym (ne_eqb (number_of a k 0) (number_of b k 0) (λ e. ne (parts a k 0 b k 0 k8 k8 (omega arith) (omega arith) e).base))
+  | inl e ↦ eq-eqb a b e ∙ sym (eq-eqb (key_of_object a k 0) (key_of_object b k 0) (ap (λ (n : ℕ). key_of_object n k 0) e))
+  | inr ne ↦ ne_eqb a b ne ∙ sym (ne_eqb (key_of_object a k 0) (key_of_object b k 0) (λ e. ne (parts a k 0 b k 0 k8 k8 (omega arith) (omega arith) e).base))
 ]
 
-sized : (a b k s t : ℕ) → k < 8 → s < 2 ^ 32 → t < 2 ^ 32 → (a == b && s == t) ≡ (number_of a k s == number_of b k t)
+sized : (a b k s t : ℕ) → k < 8 → s < 2 ^ 32 → t < 2 ^ 32 → (a == b && s == t) ≡ (key_of_object a k s == key_of_object b k t)
 sized a b k s t k8 s32 t32 = elim (cases_eq a b) [
-  | inr ne ↦ ap (λ (c : Bool). c && s == t) (ne_eqb a b ne) ∙ sym (ne_eqb (number_of a k s) (number_of b k t) (λ e. ne (parts a k s b k t k8 k8 s32 t32 e).base))
+  | inr ne ↦ ap (λ (c : Bool). c && s == t) (ne_eqb a b ne) ∙ sym (ne_eqb (key_of_object a k s) (key_of_object b k t) (λ e. ne (parts a k s b k t k8 k8 s32 t32 e).base))
   | inl e ↦ ap (λ (c : Bool). c && s == t) (eq-eqb a b e) ∙ elim (cases_eq s t) [
-    | inl f ↦ eq-eqb s t f ∙ sym (eq-eqb (number_of a k s) (number_of b k t) (ap (λ (n : ℕ). number_of n k s) e ∙ ap (number_of b k) f))
-    | inr ne ↦ ne_eqb s t ne ∙ sym (ne_eqb (number_of a k s) (number_of b k t) (λ e'. ne (parts a k s b k t k8 k8 s32 t32 e').size))
+    | inl f ↦ eq-eqb s t f ∙ sym (eq-eqb (key_of_object a k s) (key_of_object b k t) (ap (λ (n : ℕ). key_of_object n k s) e ∙ ap (key_of_object b k) f))
+    | inr ne ↦ ne_eqb s t ne ∙ sym (ne_eqb (key_of_object a k s) (key_of_object b k t) (λ e'. ne (parts a k s b k t k8 k8 s32 t32 e').size))
   ]
 ]
 

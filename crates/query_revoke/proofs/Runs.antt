@@ -8,53 +8,53 @@ use Rattle.kernel_forest.specs.Entries.{Entry, is_at, slot_of}
 use Rattle.kernel_delete.specs.Members.{In, OneAtMost, AreApart}
 use Rattle.kernel_delete.proofs.Members.{any_in, any_of, in_append, in_left, in_right, tells, eqb_self}
 use Rattle.kernel_delete.proofs.Without.{one-left, one-right}
-use Rattle.query_revoke.specs.Runs.{Derived, part, stands_in, run, run_behind}
+use Rattle.query_revoke.specs.Runs.{EntryBelow, part, is_below_one_of, run, run_behind}
 use Rattle.query_revoke.proofs.Parts.{part_more, part_none, drop_more, drop_past}
 
 -- ---- as the code finds it, one more
 
-pub run_begins : (start : ℕ) (list : List Derived) → run_behind start list ≡ part (start + 1) (start + 1) list ++ run (part start (start + 1) list) (drop (start + 1) list)
-run_begins start list = ap (λ (l : List Derived). l ++ run (part start (start + 1) list) (drop (start + 1) list)) (sym (part_none list (start + 1)))
+pub run_begins : (start : ℕ) (list : List EntryBelow) → run_behind start list ≡ part (start + 1) (start + 1) list ++ run (part start (start + 1) list) (drop (start + 1) list)
+run_begins start list = ap (λ (l : List EntryBelow). l ++ run (part start (start + 1) list) (drop (start + 1) list)) (sym (part_none list (start + 1)))
 
-run_taken : (above : List Derived) (d : Derived) (rest : List Derived) → stands_in above d ≡ true → run above (d ∷ rest) ≡ d ∷ run (above ++ d ∷ []) rest
+run_taken : (above : List EntryBelow) (d : EntryBelow) (rest : List EntryBelow) → is_below_one_of above d ≡ true → run above (d ∷ rest) ≡ d ∷ run (above ++ d ∷ []) rest
 run_taken above d rest h = ap (λ (b : Bool). cond b (d ∷ run (above ++ d ∷ []) rest) []) h
 
-run_left : (above : List Derived) (d : Derived) (rest : List Derived) → stands_in above d ≡ false → run above (d ∷ rest) ≡ []
+run_left : (above : List EntryBelow) (d : EntryBelow) (rest : List EntryBelow) → is_below_one_of above d ≡ false → run above (d ∷ rest) ≡ []
 run_left above d rest h = ap (λ (b : Bool). cond b (d ∷ run (above ++ d ∷ []) rest) []) h
 
-pub run_goes_on : (start end : ℕ) (list : List Derived) (d : Derived) → start < end → end < length list → stands_in (part start end list) (get_or list end d) ≡ true →
+pub run_goes_on : (start end : ℕ) (list : List EntryBelow) (d : EntryBelow) → start < end → end < length list → is_below_one_of (part start end list) (get_or list end d) ≡ true →
     run_behind start list ≡ part (start + 1) end list ++ run (part start end list) (drop end list) →
     run_behind start list ≡ part (start + 1) (end + 1) list ++ run (part start (end + 1) list) (drop (end + 1) list)
 run_goes_on start end list d less within stands is =
-    let x : Derived = get_or list end d in
-    let rest : List Derived = drop (end + 1) list in
+    let x : EntryBelow = get_or list end d in
+    let rest : List EntryBelow = drop (end + 1) list in
     is
-    ∙ ap (λ (l : List Derived). part (start + 1) end list ++ run (part start end list) l) (drop_more list end (end + 1) d refl within)
-    ∙ ap (λ (l : List Derived). part (start + 1) end list ++ l) (run_taken (part start end list) x rest stands)
+    ∙ ap (λ (l : List EntryBelow). part (start + 1) end list ++ run (part start end list) l) (drop_more list end (end + 1) d refl within)
+    ∙ ap (λ (l : List EntryBelow). part (start + 1) end list ++ l) (run_taken (part start end list) x rest stands)
     ∙ sym (append_assoc (part (start + 1) end list) (x ∷ []) (run (part start end list ++ x ∷ []) rest))
     ∙ (λ i. (sym (part_more list (start + 1) end d (omega arith) within)) i ++ run ((sym (part_more list start end d (omega arith) within)) i) rest)
 
-pub run_ends : (start end : ℕ) (list : List Derived) (d : Derived) → end < length list → stands_in (part start end list) (get_or list end d) ≡ false →
+pub run_ends : (start end : ℕ) (list : List EntryBelow) (d : EntryBelow) → end < length list → is_below_one_of (part start end list) (get_or list end d) ≡ false →
     run_behind start list ≡ part (start + 1) end list ++ run (part start end list) (drop end list) → part (start + 1) end list ≡ run_behind start list
 run_ends start end list d within stands is =
     sym (is
-    ∙ ap (λ (l : List Derived). part (start + 1) end list ++ run (part start end list) l) (drop_more list end (end + 1) d refl within)
-    ∙ ap (λ (l : List Derived). part (start + 1) end list ++ l) (run_left (part start end list) (get_or list end d) (drop (end + 1) list) stands)
+    ∙ ap (λ (l : List EntryBelow). part (start + 1) end list ++ run (part start end list) l) (drop_more list end (end + 1) d refl within)
+    ∙ ap (λ (l : List EntryBelow). part (start + 1) end list ++ l) (run_left (part start end list) (get_or list end d) (drop (end + 1) list) stands)
     ∙ append-nil (part (start + 1) end list))
 
-pub run_all : (start end : ℕ) (list : List Derived) → length list ≤ end →
+pub run_all : (start end : ℕ) (list : List EntryBelow) → length list ≤ end →
     run_behind start list ≡ part (start + 1) end list ++ run (part start end list) (drop end list) → part (start + 1) end list ≡ run_behind start list
 run_all start end list past is =
     sym (is
-    ∙ ap (λ (l : List Derived). part (start + 1) end list ++ run (part start end list) l) (drop_past list end past)
+    ∙ ap (λ (l : List EntryBelow). part (start + 1) end list ++ run (part start end list) l) (drop_past list end past)
     ∙ append-nil (part (start + 1) end list))
 
 -- ---- in a forest
 
-abbrev pub told : Entry × Option Entry → Derived
+abbrev pub told : Entry × Option Entry → EntryBelow
 told x = (x.0, option_map slot_of x.1)
 
-any_last : (f : Derived → Bool) (xs : List Derived) (x : Derived) → f x ≡ true → list_any f (xs ++ x ∷ []) ≡ true
+any_last : (f : EntryBelow → Bool) (xs : List EntryBelow) (x : EntryBelow) → f x ≡ true → list_any f (xs ++ x ∷ []) ≡ true
 any_last f [] x h = ap (λ (b : Bool). b || false) h
 any_last f (y ∷ xs) x h = or_true (f y) (list_any f (xs ++ x ∷ [])) (any_last f xs x h)
   where
@@ -62,31 +62,31 @@ any_last f (y ∷ xs) x h = or_true (f y) (list_any f (xs ++ x ∷ [])) (any_las
     or_true true b h = refl
     or_true false b h = h
 
-any_more : (f : Derived → Bool) (xs ys : List Derived) → list_any f xs ≡ true → list_any f (xs ++ ys) ≡ true
+any_more : (f : EntryBelow → Bool) (xs ys : List EntryBelow) → list_any f xs ≡ true → list_any f (xs ++ ys) ≡ true
 any_more f xs ys h = list_any-append f xs ys ∙ ap (λ (b : Bool). b || list_any f ys) h
 
 -- what stands below one of those above is taken
-run_below : (above : List Derived) (b : Entry) (g : Forest Entry) (rest : List Derived) → list_any (λ (x : Derived). x.0.slot == b.slot) above ≡ true →
+run_below : (above : List EntryBelow) (b : Entry) (g : Forest Entry) (rest : List EntryBelow) → list_any (λ (x : EntryBelow). x.0.slot == b.slot) above ≡ true →
     run above (map told (parented (Some b) g) ++ rest) ≡ map told (parented (Some b) g) ++ run (above ++ map told (parented (Some b) g)) rest
-run_below above b none rest h = ap (λ (l : List Derived). run l rest) (sym (append-nil above))
+run_below above b none rest h = ap (λ (l : List EntryBelow). run l rest) (sym (append-nil above))
 run_below above b (tree c k r) rest h =
-    let x : Derived = (c, Some b.slot) in
-    let K : List Derived = map told (parented (Some c) k) in
-    let R : List Derived = map told (parented (Some b) r) in
+    let x : EntryBelow = (c, Some b.slot) in
+    let K : List EntryBelow = map told (parented (Some c) k) in
+    let R : List EntryBelow = map told (parented (Some b) r) in
     let split : map told (parented (Some c) k ++ parented (Some b) r) ≡ K ++ R = map-append told (parented (Some c) k) (parented (Some b) r) in
-    let first : list_any (λ (y : Derived). y.0.slot == c.slot) (above ++ x ∷ []) ≡ true = any_last (λ (y : Derived). y.0.slot == c.slot) above x (eqb_self c.slot) in
-    let second : list_any (λ (y : Derived). y.0.slot == b.slot) ((above ++ x ∷ []) ++ K) ≡ true =
-    any_more (λ (y : Derived). y.0.slot == b.slot) (above ++ x ∷ []) K (any_more (λ (y : Derived). y.0.slot == b.slot) above (x ∷ []) h) in
+    let first : list_any (λ (y : EntryBelow). y.0.slot == c.slot) (above ++ x ∷ []) ≡ true = any_last (λ (y : EntryBelow). y.0.slot == c.slot) above x (eqb_self c.slot) in
+    let second : list_any (λ (y : EntryBelow). y.0.slot == b.slot) ((above ++ x ∷ []) ++ K) ≡ true =
+    any_more (λ (y : EntryBelow). y.0.slot == b.slot) (above ++ x ∷ []) K (any_more (λ (y : EntryBelow). y.0.slot == b.slot) above (x ∷ []) h) in
     let seen : ((above ++ x ∷ []) ++ K) ++ R ≡ above ++ (x ∷ (K ++ R)) = append_assoc (above ++ x ∷ []) K R ∙ append_assoc above (x ∷ []) (K ++ R) in
     let all : run (above ++ x ∷ []) ((K ++ R) ++ rest) ≡ (K ++ R) ++ run (above ++ (x ∷ (K ++ R))) rest =
     ap (run (above ++ x ∷ [])) (append_assoc K R rest)
     ∙ run_below (above ++ x ∷ []) c k (R ++ rest) first
-    ∙ ap (λ (l : List Derived). K ++ l) (run_below ((above ++ x ∷ []) ++ K) b r rest second)
+    ∙ ap (λ (l : List EntryBelow). K ++ l) (run_below ((above ++ x ∷ []) ++ K) b r rest second)
     ∙ sym (append_assoc K R (run (((above ++ x ∷ []) ++ K) ++ R) rest))
-    ∙ ap (λ (l : List Derived). (K ++ R) ++ run l rest) seen in
+    ∙ ap (λ (l : List EntryBelow). (K ++ R) ++ run l rest) seen in
     run_taken above x (map told (parented (Some c) k ++ parented (Some b) r) ++ rest) h
-    ∙ ap (λ (l : List Derived). x ∷ run (above ++ x ∷ []) (l ++ rest)) split
-    ∙ ap (λ (l : List Derived). x ∷ l) all
+    ∙ ap (λ (l : List EntryBelow). x ∷ run (above ++ x ∷ []) (l ++ rest)) split
+    ∙ ap (λ (l : List EntryBelow). x ∷ l) all
     ∙ (λ i. (x ∷ (sym split) i) ++ run (above ++ (x ∷ (sym split) i)) rest)
 
 -- ---- where an entry stands
@@ -256,38 +256,38 @@ split a above (tree b k r) apart (inr i) = elim (in_append a (preorder k) (preor
 
 -- ---- so the run behind an entry is what stands below it
 
-any_told : (n : ℕ) (above : Option Entry) (f : Forest Entry) → list_any (λ (x : Derived). x.0.slot == n) (map told (parented above f)) ≡ list_any (is_at n) (preorder f)
+any_told : (n : ℕ) (above : Option Entry) (f : Forest Entry) → list_any (λ (x : EntryBelow). x.0.slot == n) (map told (parented above f)) ≡ list_any (is_at n) (preorder f)
 any_told n above none = refl
 any_told n above (tree a k r) =
     ap (λ (b : Bool). (a.slot == n) || b)
-    (ap (list_any (λ (x : Derived). x.0.slot == n)) (map-append told (parented (Some a) k) (parented above r))
-    ∙ list_any-append (λ (x : Derived). x.0.slot == n) (map told (parented (Some a) k)) (map told (parented above r))
+    (ap (list_any (λ (x : EntryBelow). x.0.slot == n)) (map-append told (parented (Some a) k) (parented above r))
+    ∙ list_any-append (λ (x : EntryBelow). x.0.slot == n) (map told (parented (Some a) k)) (map told (parented above r))
     ∙ (λ i. any_told n (Some a) k i || any_told n above r i)
     ∙ sym (list_any-append (is_at n) (preorder k) (preorder r)))
 
-stops : (above back : List Derived) → ((x : Derived) (rest : List Derived) → back ≡ x ∷ rest → stands_in above x ≡ false) → run above back ≡ []
+stops : (above back : List EntryBelow) → ((x : EntryBelow) (rest : List EntryBelow) → back ≡ x ∷ rest → is_below_one_of above x ≡ false) → run above back ≡ []
 stops above [] h = refl
 stops above (x ∷ back) h = run_left above x back (h x back refl)
 
 pub run_of : (a : Entry) (f : Forest Entry) (s : Split a None f) → run (told (a, s.over) ∷ []) (map told (parented (Some a) s.under) ++ map told s.back) ≡ map told (parented (Some a) s.under)
 run_of a f s =
-    let one : list_any (λ (x : Derived). x.0.slot == a.slot) (told (a, s.over) ∷ []) ≡ true = ap (λ (b : Bool). b || false) (eqb_self a.slot) in
-    let B : List Derived = map told (parented (Some a) s.under) in
+    let one : list_any (λ (x : EntryBelow). x.0.slot == a.slot) (told (a, s.over) ∷ []) ≡ true = ap (λ (b : Bool). b || false) (eqb_self a.slot) in
+    let B : List EntryBelow = map told (parented (Some a) s.under) in
     run_below (told (a, s.over) ∷ []) a s.under (map told s.back) one
-    ∙ ap (λ (l : List Derived). B ++ l) (stops (told (a, s.over) ∷ B) (map told s.back) (λ x rest e. ended s.back s.rest x rest e))
+    ∙ ap (λ (l : List EntryBelow). B ++ l) (stops (told (a, s.over) ∷ B) (map told s.back) (λ x rest e. ended s.back s.rest x rest e))
     ∙ append-nil B
   where
     by_parent : (c : Entry × Option Entry) → ((c.1 ≡ None) ⊎ ((d : Entry) × ((c.1 ≡ Some d) × (In d (preorder f) × (list_any (is_at d.slot) (a ∷ preorder s.under) ≡ false))))) →
-        stands_in (told (a, s.over) ∷ map told (parented (Some a) s.under)) (told c) ≡ false
-    by_parent (e, o) (inl top) = ap (λ (p : Option Entry). stands_in (told (a, s.over) ∷ map told (parented (Some a) s.under)) (e, option_map slot_of p)) top
+        is_below_one_of (told (a, s.over) ∷ map told (parented (Some a) s.under)) (told c) ≡ false
+    by_parent (e, o) (inl top) = ap (λ (p : Option Entry). is_below_one_of (told (a, s.over) ∷ map told (parented (Some a) s.under)) (e, option_map slot_of p)) top
     by_parent (e, o) (inr w) =
-        ap (λ (p : Option Entry). stands_in (told (a, s.over) ∷ map told (parented (Some a) s.under)) (e, option_map slot_of p)) w.1.0
+        ap (λ (p : Option Entry). is_below_one_of (told (a, s.over) ∷ map told (parented (Some a) s.under)) (e, option_map slot_of p)) w.1.0
         ∙ ap (λ (b : Bool). (a.slot == w.0.slot) || b) (any_told w.0.slot (Some a) s.under) ∙ w.1.1.1
 
     ended : (back : List (Entry × Option Entry)) →
         ((x : Entry × Option Entry) → In x back → (x.1 ≡ None) ⊎ ((c : Entry) × ((x.1 ≡ Some c) × (In c (preorder f) × (list_any (is_at c.slot) (a ∷ preorder s.under) ≡ false))))) →
-        (x : Derived) (rest : List Derived) → map told back ≡ x ∷ rest → stands_in (told (a, s.over) ∷ map told (parented (Some a) s.under)) x ≡ false
+        (x : EntryBelow) (rest : List EntryBelow) → map told back ≡ x ∷ rest → is_below_one_of (told (a, s.over) ∷ map told (parented (Some a) s.under)) x ≡ false
     ended [] own x rest e = cc
     ended (c ∷ back) own x rest e =
         let same : told c ≡ x = cc in
-        ap (stands_in (told (a, s.over) ∷ map told (parented (Some a) s.under))) (sym same) ∙ by_parent c (own c (inl refl))
+        ap (is_below_one_of (told (a, s.over) ∷ map told (parented (Some a) s.under))) (sym same) ∙ by_parent c (own c (inl refl))

@@ -14,7 +14,7 @@ use Rattle.kernel_delete.specs.Revoke.{revoke}
 use Rattle.query_revoke.specs.declared.revoked.Revoked.{Revoked}
 
 -- derivations are those of a forest in which each slot stands once and holds a capability
-pub record AreTold (p : ProfileName) (list : List Derivation) (f : Forest Entry) : Type 0 where
+pub record TellBelow (p : ProfileName) (list : List Derivation) (f : Forest Entry) : Type 0 where
   pub told : map (derivation_view p) list ≡ derivations_of f
   pub apart : IsDistinct (λ (a b : ℕ). a == b) (slots f)
   pub full : All (λ (cap : Cap). is_null cap ≡ false) (caps f)

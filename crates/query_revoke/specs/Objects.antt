@@ -11,12 +11,12 @@ size_in (Endpoint base badge rights) = 0
 size_in (CNode base radix guard) = radix
 size_in (Tcb base) = 0
 
-abbrev pub number_of : ℕ → ℕ → ℕ → ℕ
-number_of base kind size = base * 2 ^ 64 + kind * 2 ^ 32 + size
+abbrev pub key_of_object : ℕ → ℕ → ℕ → ℕ
+key_of_object base kind size = base * 2 ^ 64 + kind * 2 ^ 32 + size
 
 abbrev pub object_number : Cap → ℕ
-object_number Null = number_of 0 0 0
-object_number (Untyped base bits free) = number_of base 1 bits
-object_number (Endpoint base badge rights) = number_of base 2 0
-object_number (CNode base radix guard) = number_of base 3 radix
-object_number (Tcb base) = number_of base 4 0
+object_number Null = key_of_object 0 0 0
+object_number (Untyped base bits free) = key_of_object base 1 bits
+object_number (Endpoint base badge rights) = key_of_object base 2 0
+object_number (CNode base radix guard) = key_of_object base 3 radix
+object_number (Tcb base) = key_of_object base 4 0

@@ -4,7 +4,7 @@ use Rattle.std.specs.List.{list_all}
 use Rattle.cap_core.specs.declared.capability.Cap.{Cap}
 use Rattle.cap_core.specs.declared.capability.Cap.TheVariants.{Null, Untyped, Endpoint, CNode, Tcb}
 use Rattle.query_revoke.specs.declared.keyed.Keyed.{Keyed}
-use Rattle.query_revoke.specs.Keyed.{has_key}
+use Rattle.query_revoke.specs.Keyed.{is_keyed_by}
 use Rattle.query_revoke.specs.Objects.{object_number}
 
 -- a place lies from one on, and in front of another one
@@ -17,14 +17,14 @@ AreAscending list = (i j : ℕ) (a b : Keyed) → i < j → slice_get list i ≡
 
 -- all capabilities of an object lie there
 abbrev pub is_within_alone : List Keyed → ℕ → ℕ → Cap → Bool
-is_within_alone objects start end cap = list_all (lies_within start end) (filter (has_key (object_number cap)) objects)
+is_within_alone objects start end cap = list_all (lies_within start end) (filter (is_keyed_by (object_number cap)) objects)
 
-abbrev pub has_slots : Cap → Bool
-has_slots Null = false
-has_slots (Untyped base bits free) = false
-has_slots (Endpoint base badge rights) = false
-has_slots (CNode base radix guard) = true
-has_slots (Tcb base) = true
+abbrev pub is_node_or_thread : Cap → Bool
+is_node_or_thread Null = false
+is_node_or_thread (Untyped base bits free) = false
+is_node_or_thread (Endpoint base badge rights) = false
+is_node_or_thread (CNode base radix guard) = true
+is_node_or_thread (Tcb base) = true
 
 abbrev pub ends_slots : List Keyed → ℕ → ℕ → Cap → Bool
-ends_slots objects start end cap = has_slots cap && is_within_alone objects start end cap
+ends_slots objects start end cap = is_node_or_thread cap && is_within_alone objects start end cap

@@ -4,24 +4,24 @@ use Rattle.std.specs.List.{list_any}
 use Rattle.kernel_forest.specs.Entries.{Entry}
 
 -- an entry, with the slot of the one that it stands right below
-abbrev pub Derived : Type 0
-Derived = Entry × Option ℕ
+abbrev pub EntryBelow : Type 0
+EntryBelow = Entry × Option ℕ
 
 -- from one place on, and in front of another one
 abbrev pub part : {A : Type 0} → ℕ → ℕ → List A → List A
 part start end xs = drop start (take end xs)
 
 -- it stands right below the slot of one of those
-abbrev pub stands_in : List Derived → Derived → Bool
-stands_in above (e, None) = false
-stands_in above (e, Some s) = list_any (λ (x : Derived). x.0.slot == s) above
+abbrev pub is_below_one_of : List EntryBelow → EntryBelow → Bool
+is_below_one_of above (e, None) = false
+is_below_one_of above (e, Some s) = list_any (λ (x : EntryBelow). x.0.slot == s) above
 
 -- as many of a list, from its front on, as stand right below one of those above them or in front of them
-abbrev pub run : List Derived → List Derived → List Derived
+abbrev pub run : List EntryBelow → List EntryBelow → List EntryBelow
 run above [] = []
-run above (d ∷ rest) = cond (stands_in above d) (d ∷ run (above ++ (d ∷ [])) rest) []
+run above (d ∷ rest) = cond (is_below_one_of above d) (d ∷ run (above ++ (d ∷ [])) rest) []
 
-abbrev pub run_behind : ℕ → List Derived → List Derived
+abbrev pub run_behind : ℕ → List EntryBelow → List EntryBelow
 run_behind start list = run (part start (start + 1) list) (drop (start + 1) list)
 
 -- no number comes twice

@@ -84,7 +84,7 @@ impl<P: Profile> DerivationIndex<P> {
     ghost use Rattle.std.specs.Prelude.{◌≡◌, IfOk, IfSome};
     ghost use Rattle.kernel_forest.specs.Forest.{Forest};
     ghost use Rattle.kernel_forest.specs.Entries.{Entry};
-    ghost use Rattle.query_revoke.specs.Below.{AreTold, IsRevokedAlone};
+    ghost use Rattle.query_revoke.specs.Below.{TellBelow, IsRevokedAlone};
 
     /// The index of some derivations.
     ///
@@ -113,7 +113,7 @@ impl<P: Profile> DerivationIndex<P> {
     ///
     /// Memory was refused.
     pub fn revoked_alone(&self, alloc: Global, slot: u64) -> Result<Option<Revoked>, AllocError>
-        ensures { IfOk result (λ found. IfSome found (λ r. (f : Forest Entry) → AreTold P.profile self.now f → IsRevokedAlone P.profile f slot r)) }
+        ensures { IfOk result (λ found. IfSome found (λ r. (f : Forest Entry) → TellBelow P.profile self.now f → IsRevokedAlone P.profile f slot r)) }
     {
         revoked_alone::<P>(
             alloc,

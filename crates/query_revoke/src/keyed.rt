@@ -1,6 +1,6 @@
 //! Places of a list by rising keys, so that those of one key are found by halving.
 ghost use Rattle.std.specs.Prelude.{◌≡◌, ℕ, OnOk, filter};
-ghost use Rattle.query_revoke.specs.Keyed.{AreByKey, has_key};
+ghost use Rattle.query_revoke.specs.Keyed.{AreOrderedByKey, is_keyed_by};
 
 use std::alloc::AllocError;
 
@@ -13,8 +13,8 @@ pub struct Keyed {
 
 /// Puts places in the order of their keys. Those of one key stay in their order.
 pub fn put_in_order(list: &mut Vec<Keyed>) -> Result<(), AllocError>
-    ensures order { OnOk result (AreByKey list.new.items) }
-    ensures same { OnOk result ((n : ℕ) → filter (has_key n) list.new.items ≡ filter (has_key n) list.old.items) }
+    ensures order { OnOk result (AreOrderedByKey list.new.items) }
+    ensures same { OnOk result ((n : ℕ) → filter (is_keyed_by n) list.new.items ≡ filter (is_keyed_by n) list.old.items) }
 {
     list.sort_by_key(|keyed| keyed.key)?;
     Ok(())
@@ -22,8 +22,8 @@ pub fn put_in_order(list: &mut Vec<Keyed>) -> Result<(), AllocError>
 
 /// Those of one key, of places by rising keys.
 pub fn at_key(list: &[Keyed], key: u128) -> &[Keyed]
-    requires { AreByKey list.now }
-    ensures { result.now ≡ filter (has_key key) list.entry.now }
+    requires { AreOrderedByKey list.now }
+    ensures { result.now ≡ filter (is_keyed_by key) list.entry.now }
 {
     let start = list.partition_point(|keyed| keyed.key < key);
     let rest = &list[start..];

@@ -1,7 +1,7 @@
 //! The places of derivations by their slots, and by the objects that they name.
 ghost use Rattle.std.specs.Prelude.{◌≡◌, ◌^◌, ◌<◌, IfOk, All, map};
 ghost use Rattle.slot_core.specs.Places.{address_of};
-ghost use Rattle.query_revoke.specs.Keyed.{numbered, AreKeyed};
+ghost use Rattle.query_revoke.specs.Keyed.{keyed_by_place, AreKeyed};
 ghost use Rattle.query_revoke.specs.Index.{AreByObject};
 ghost use Rattle.query_revoke.specs.Objects as spec;
 
@@ -26,7 +26,7 @@ pub fn object_number(cap: Cap) -> u128
 }
 
 fn addresses<P: Profile>(alloc: Global, list: &[Derivation]) -> Result<Vec<Keyed>, AllocError>
-    ensures { IfOk result (λ keyed. keyed.items ≡ numbered 0 (map (λ d. address_of P.profile d.slot) list.now)) }
+    ensures { IfOk result (λ keyed. keyed.items ≡ keyed_by_place 0 (map (λ d. address_of P.profile d.slot) list.now)) }
 {
     let mut keyed = Vec::with_capacity(alloc, list.len())?;
     for place in 0..list.len() {
@@ -39,7 +39,7 @@ fn addresses<P: Profile>(alloc: Global, list: &[Derivation]) -> Result<Vec<Keyed
 }
 
 fn numbers(alloc: Global, list: &[Derivation]) -> Result<Vec<Keyed>, AllocError>
-    ensures numbers { IfOk result (λ keyed. keyed.items ≡ numbered 0 (map (λ d. spec.object_number d.cap) list.now)) }
+    ensures numbers { IfOk result (λ keyed. keyed.items ≡ keyed_by_place 0 (map (λ d. spec.object_number d.cap) list.now)) }
     ensures small { IfOk result (λ keyed. All (λ d. spec.size_in d.cap < 2 ^ 32) list.now) }
 {
     let mut keyed = Vec::with_capacity(alloc, list.len())?;

@@ -4,10 +4,10 @@ ghost use Rattle.std.specs.List.{list_all, list_any};
 ghost use Rattle.kernel_forest.specs.Forest.{Forest};
 ghost use Rattle.kernel_forest.specs.Entries.{Entry};
 ghost use Rattle.query_revoke.specs.Index.{IsIndex};
-ghost use Rattle.query_revoke.specs.Keyed.{AreByKey, has_key};
+ghost use Rattle.query_revoke.specs.Keyed.{AreOrderedByKey, is_keyed_by};
 ghost use Rattle.query_revoke.specs.Runs.{part};
-ghost use Rattle.query_revoke.specs.Private.{lies_within, is_within_alone, has_slots as holds_slots, ends_slots as ends_some, AreAscending};
-ghost use Rattle.query_revoke.specs.Below.{AreTold, IsRevokedAlone};
+ghost use Rattle.query_revoke.specs.Private.{lies_within, is_within_alone, is_node_or_thread as holds_slots, ends_slots as ends_some, AreAscending};
+ghost use Rattle.query_revoke.specs.Below.{TellBelow, IsRevokedAlone};
 
 use crate::keyed::{Keyed, at_key};
 use crate::numbers::object_number;
@@ -36,8 +36,8 @@ fn are_within(group: &[Keyed], start: usize, end: usize) -> bool
 
 /// Whether all capabilities of the object of one stand from a place on, and in front of another one.
 fn is_named_within(objects: &[Keyed], cap: Cap, start: usize, end: usize) -> bool
-    requires order { AreByKey objects.now }
-    requires ascending { (n : ℕ) → AreAscending (filter (has_key n) objects.now) }
+    requires order { AreOrderedByKey objects.now }
+    requires ascending { (n : ℕ) → AreAscending (filter (is_keyed_by n) objects.now) }
     ensures { result ≡ is_within_alone objects.now start end cap }
 {
     are_within(at_key(objects, object_number(cap)), start, end)
@@ -52,8 +52,8 @@ fn has_slots(cap: Cap) -> bool
 
 /// Whether an object that has slots ends where the derivations from a place on, and in front of another one, are cleared.
 fn ends_slots(list: &[Derivation], objects: &[Keyed], start: usize, end: usize) -> bool
-    requires order { AreByKey objects.now }
-    requires ascending { (n : ℕ) → AreAscending (filter (has_key n) objects.now) }
+    requires order { AreOrderedByKey objects.now }
+    requires ascending { (n : ℕ) → AreAscending (filter (is_keyed_by n) objects.now) }
     requires start { start ≤ end }
     requires end { end ≤ length list.now }
     ensures { result ≡ list_any (ends_some objects.now start end) (map (λ d. d.cap) (part start end list.now)) }
@@ -75,8 +75,8 @@ fn named_within(
     start: usize,
     end: usize,
 ) -> Result<Vec<Cap>, AllocError>
-    requires order { AreByKey objects.now }
-    requires ascending { (n : ℕ) → AreAscending (filter (has_key n) objects.now) }
+    requires order { AreOrderedByKey objects.now }
+    requires ascending { (n : ℕ) → AreAscending (filter (is_keyed_by n) objects.now) }
     requires start { start ≤ end }
     requires end { end ≤ length list.now }
     ensures { IfOk result (λ caps. caps.items ≡ filter (is_within_alone objects.now start end) (map (λ d. d.cap) (part start end list.now))) }
@@ -101,7 +101,7 @@ pub fn revoked_alone<P: Profile>(
     slot: u64,
 ) -> Result<Option<Revoked>, AllocError>
     requires { IsIndex P.profile list.now places.now objects.now }
-    ensures { IfOk result (λ found. IfSome found (λ r. (f : Forest Entry) → AreTold P.profile list.now f → IsRevokedAlone P.profile f slot r)) }
+    ensures { IfOk result (λ found. IfSome found (λ r. (f : Forest Entry) → TellBelow P.profile list.now f → IsRevokedAlone P.profile f slot r)) }
 {
     let Some(place) = place_at(places, slot) else {
         return Ok(None);

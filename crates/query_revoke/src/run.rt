@@ -2,8 +2,8 @@
 ghost use Rattle.std.specs.Prelude.{◌≡◌, ◌+◌, ◌<◌, ◌≤◌, filter, length, map, option_map, slice_get};
 ghost use Rattle.slot_core.specs.Places.{address_of};
 ghost use Rattle.slot_core.specs.Calls.{derivation_view};
-ghost use Rattle.query_revoke.specs.Keyed.{AreByKey, AreKeyed, has_key};
-ghost use Rattle.query_revoke.specs.Runs.{part, stands_in, run_behind, AreOnce};
+ghost use Rattle.query_revoke.specs.Keyed.{AreOrderedByKey, AreKeyed, is_keyed_by};
+ghost use Rattle.query_revoke.specs.Runs.{part, is_below_one_of, run_behind, AreOnce};
 
 use crate::keyed::{Keyed, at_key};
 use cap_core::Profile;
@@ -11,8 +11,8 @@ use slot_core::Derivation;
 
 /// The place of the slot at an address, where one of the derivations is of it.
 pub fn place_at(places: &[Keyed], address: u64) -> Option<usize>
-    requires { AreByKey places.now }
-    ensures { result ≡ option_map (λ k. k.place) (slice_get (filter (has_key address) places.now) 0) }
+    requires { AreOrderedByKey places.now }
+    ensures { result ≡ option_map (λ k. k.place) (slice_get (filter (is_keyed_by address) places.now) 0) }
 {
     match at_key(places, u128::from(address)).get(0) {
         Some(keyed) => Some(keyed.place),
@@ -30,7 +30,7 @@ fn is_below_one<P: Profile>(
 ) -> bool
     requires places { AreKeyed (map (λ d. address_of P.profile d.slot) list.now) places.now }
     requires end { end ≤ length list.now }
-    ensures { AreOnce (map (λ d. address_of P.profile d.slot) list.now) → result ≡ stands_in (part start end (map (derivation_view P.profile) list.now)) (derivation_view P.profile derivation.now) }
+    ensures { AreOnce (map (λ d. address_of P.profile d.slot) list.now) → result ≡ is_below_one_of (part start end (map (derivation_view P.profile) list.now)) (derivation_view P.profile derivation.now) }
 {
     let Some(parent) = derivation.parent else {
         return false;

@@ -35,16 +35,16 @@ each_item f (item d ds) = item (f d) (each_item f ds)
 -- ---- the names
 
 -- names for so many things: of each the prefix and its number, which counts from 0, and its word
-abbrev pub numbered : List ℕ → (ℕ → ℕ) → ℕ → Names
-numbered prefix word count = map (λ i. (prefix ++ decimal i, word i)) (range_with_len 0 count)
+abbrev pub numbered_names : List ℕ → (ℕ → ℕ) → ℕ → Names
+numbered_names prefix word count = map (λ i. (prefix ++ decimal i, word i)) (range_with_len 0 count)
 
 -- the slots that a boot fills, from slot 2 on with the threads, then the endpoints, then the untyped regions; and the threads' addresses
 abbrev pub boot_names : ProfileName → Plan → Names
 boot_names p plan =
-    numbered (codes "untyped_") (λ k. 2 + plan.threads + plan.endpoints + k) (length plan.untypeds)
-    ++ (numbered (codes "ep_") (λ j. 2 + plan.threads + j) plan.endpoints
-    ++ (numbered (codes "tcb_") (λ i. 2 + i) plan.threads
-    ++ numbered (codes "thread_") (tcb_place p plan) plan.threads))
+    numbered_names (codes "untyped_") (λ k. 2 + plan.threads + plan.endpoints + k) (length plan.untypeds)
+    ++ (numbered_names (codes "ep_") (λ j. 2 + plan.threads + j) plan.endpoints
+    ++ (numbered_names (codes "tcb_") (λ i. 2 + i) plan.threads
+    ++ numbered_names (codes "thread_") (tcb_place p plan) plan.threads))
 
 -- a table with the word of each name
 abbrev pub with_words : Names → Members → Members
@@ -54,12 +54,12 @@ with_words (n ∷ ns) ms = with_words ns (with_member n.0 (integer (pos n.1)) ms
 -- ---- the calls
 
 -- the boot thread at an address
-abbrev pub thread_at : ProfileName → Plan → ℕ → Option ℕ
-thread_at p plan address = find (λ i. tcb_place p plan i == address) (range_with_len 0 plan.threads)
+abbrev pub boot_thread_at : ProfileName → Plan → ℕ → Option ℕ
+boot_thread_at p plan address = find (λ i. tcb_place p plan i == address) (range_with_len 0 plan.threads)
 
 -- the boot thread whose address a value stands for
-abbrev pub boot_thread : ProfileName → Plan → Data → Option ℕ
-boot_thread p plan d = option_and_then (thread_at p plan) (result_ok (word p [] d))
+abbrev pub boot_thread_of : ProfileName → Plan → Data → Option ℕ
+boot_thread_of p plan d = option_and_then (boot_thread_at p plan) (result_ok (word p [] d))
 
 -- a boot thread by its name, and any other value as it is
 abbrev pub thread_or : Data → Option ℕ → Data
@@ -67,7 +67,7 @@ thread_or d None = d
 thread_or d (Some i) = string (codes "@thread_" ++ decimal i)
 
 abbrev pub named_thread : ProfileName → Plan → Data → Data
-named_thread p plan d = thread_or d (boot_thread p plan d)
+named_thread p plan d = thread_or d (boot_thread_of p plan d)
 
 abbrev pub named_call : ProfileName → Plan → Data → Data
 named_call p plan (table ms) = table (with_changed (codes "thread") (named_thread p plan) ms)

@@ -14,7 +14,7 @@ use toml::{Table, Value};
 /// The number of the boot thread at an address.
 fn thread_at<P: Profile>(plan: &BootPlan, address: u64) -> Option<u32>
     requires { IsPlan P.profile plan.now }
-    ensures { result ≡ spec.thread_at P.profile plan.now address }
+    ensures { result ≡ spec.boot_thread_at P.profile plan.now address }
 {
     (0..plan.threads()).find(|i| plan.tcb_place::<P>(*i) == address)
 }
@@ -22,7 +22,7 @@ fn thread_at<P: Profile>(plan: &BootPlan, address: u64) -> Option<u32>
 /// The number of the boot thread whose address a value stands for.
 fn boot_thread<P: Profile>(plan: &BootPlan, thread: &Value) -> Option<u32>
     requires { IsPlan P.profile plan.now }
-    ensures { result ≡ spec.boot_thread P.profile plan.now (view thread.now) }
+    ensures { result ≡ spec.boot_thread_of P.profile plan.now (view thread.now) }
 {
     let address = Word.read::<P>(&KnownNames::none(), thread).ok()?;
     thread_at::<P>(plan, address)

@@ -27,7 +27,7 @@ fn add_names(
 ) -> Result<(), AllocError>
     requires { first + step * count < 2 ^ 63 }
     ensures { IfOk result (λ _. table_view names.new
-        ≡ spec.with_words (spec.numbered prefix.now (λ i. first + step * i) count) (table_view names.old)) }
+        ≡ spec.with_words (spec.numbered_names prefix.now (λ i. first + step * i) count) (table_view names.old)) }
 {
     for i in 0..count {
         let word = first + step * u64::from(i);

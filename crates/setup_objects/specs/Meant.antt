@@ -19,10 +19,10 @@ abbrev pub untyped_base : Cap → Option ℕ
 untyped_base (Untyped base bits free) = Some base
 untyped_base cap = None
 
-abbrev pub object_of : ObjectKind → Cap → Option ℕ
-object_of Thread cap = tcb_base cap
-object_of Endpoint cap = endpoint_base cap
-object_of Region cap = untyped_base cap
+abbrev pub object_of_kind : ObjectKind → Cap → Option ℕ
+object_of_kind Thread cap = tcb_base cap
+object_of_kind Endpoint cap = endpoint_base cap
+object_of_kind Region cap = untyped_base cap
 
 -- ---- what boot puts into the root CNode: from slot 2 on its threads, its endpoints and its regions
 
@@ -35,8 +35,8 @@ first_region plan = 2 + plan.threads + plan.endpoints
 abbrev pub is_boot_slot : Plan → ℕ → Bool
 is_boot_slot plan i = nat_le 2 i && nat_lt i (first_region plan + length plan.untypeds)
 
-abbrev pub boot_thread : ProfileName → Plan → ℕ → Option ℕ
-boot_thread p plan i = cond (nat_le 2 i && nat_lt i (first_endpoint plan)) (Some (tcb_place p plan (i - 2))) None
+abbrev pub thread_of_boot_slot : ProfileName → Plan → ℕ → Option ℕ
+thread_of_boot_slot p plan i = cond (nat_le 2 i && nat_lt i (first_endpoint plan)) (Some (tcb_place p plan (i - 2))) None
 
 abbrev pub boot_endpoint : ProfileName → Plan → ℕ → Option ℕ
 boot_endpoint p plan i =
@@ -47,7 +47,7 @@ boot_region plan i =
     cond (nat_le (first_region plan) i) (option_map (λ (untyped : ℕ × ℕ). untyped.0) (slice_get plan.untypeds (i - first_region plan))) None
 
 abbrev pub boot_object : ObjectKind → ProfileName → Plan → ℕ → Option ℕ
-boot_object Thread p plan i = boot_thread p plan i
+boot_object Thread p plan i = thread_of_boot_slot p plan i
 boot_object Endpoint p plan i = boot_endpoint p plan i
 boot_object Region p plan i = boot_region plan i
 
@@ -56,15 +56,15 @@ boot_object Region p plan i = boot_region plan i
 -- a slot of the root CNode stands for what boot put there, and another one for what it holds
 abbrev pub in_slot : ObjectKind → ProfileName → Plan → Shown → ℕ → Option ℕ
 in_slot kind p plan v i =
-    cond (is_boot_slot plan i) (boot_object kind p plan i) (object_of kind (cap_at v.derivations (slot_size p * i)))
+    cond (is_boot_slot plan i) (boot_object kind p plan i) (object_of_kind kind (cap_at v.derivations (slot_size p * i)))
 
 -- a number below the count of the root CNode's slots is one of them, and each other number an address
-abbrev pub object_at : ObjectKind → ProfileName → Plan → Shown → ℕ → Option ℕ
-object_at kind p plan v n = cond (nat_lt n (2 ^ plan.root_radix)) (in_slot kind p plan v n) (Some n)
+abbrev pub object_or_address : ObjectKind → ProfileName → Plan → Shown → ℕ → Option ℕ
+object_or_address kind p plan v n = cond (nat_lt n (2 ^ plan.root_radix)) (in_slot kind p plan v n) (Some n)
 
 -- the object of a sort that a word stands for in a state, or none
 abbrev pub object_meant : ObjectKind → ProfileName → Names → Plan → Shown → List ℕ → Option ℕ
-object_meant kind p names plan v text = option_and_then (object_at kind p plan v) (number_meant names text)
+object_meant kind p names plan v text = option_and_then (object_or_address kind p plan v) (number_meant names text)
 
 -- each of some texts stands for such an object
 abbrev pub are_meant : ObjectKind → ProfileName → Names → Plan → Shown → List (List ℕ) → Bool

@@ -9,10 +9,10 @@ use Rattle.setup_values.specs.Names.{Names}
 use Rattle.setup_objects.specs.Words.{number_meant}
 
 -- a name's number below the count of the root CNode's slots is one of them, and each other number an address
-abbrev pub slot_named : ProfileName → Plan → ℕ → ℕ
-slot_named p plan n = cond (nat_lt n (2 ^ plan.root_radix)) (slot_size p * n) n
+abbrev pub slot_or_address : ProfileName → Plan → ℕ → ℕ
+slot_or_address p plan n = cond (nat_lt n (2 ^ plan.root_radix)) (slot_size p * n) n
 
 -- the address of the slot that a word stands for: decimal digits are the address itself
 abbrev pub slot_meant : ProfileName → Names → Plan → List ℕ → Option ℕ
 slot_meant p names plan text =
-    option_map (λ n. cond (list_all (between 48 57) text) n (slot_named p plan n)) (number_meant names text)
+    option_map (λ n. cond (list_all (between 48 57) text) n (slot_or_address p plan n)) (number_meant names text)

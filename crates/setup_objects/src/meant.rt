@@ -32,7 +32,7 @@ pub enum ObjectKind {
 
 /// The address of the object that a capability names, where it is of the kind.
 fn object_of(kind: ObjectKind, cap: Cap) -> Option<u64>
-    ensures { result ≡ spec.object_of kind cap }
+    ensures { result ≡ spec.object_of_kind kind cap }
 {
     match (kind, cap) {
         (ObjectKind::Thread, Cap::Tcb { base }) => Some(base),
@@ -68,7 +68,7 @@ fn is_boot_slot<P: Profile>(plan: &BootPlan, index: u64) -> bool
 
 fn boot_thread<P: Profile>(plan: &BootPlan, index: u64) -> Option<u64>
     requires { IsWithinLimits P.profile plan.now }
-    ensures { result ≡ spec.boot_thread P.profile plan.now index }
+    ensures { result ≡ spec.thread_of_boot_slot P.profile plan.now index }
 {
     if index >= FIRST_THREAD && index < first_endpoint::<P>(plan) {
         Some(plan.tcb_place::<P>((index - FIRST_THREAD) as u32))
@@ -156,7 +156,7 @@ fn object_at<P: Profile, S: CapStore<P> + Drop, W: Waiters<P> + Drop>(
     number: u64,
 ) -> Option<u64>
     requires { IsWithinLimits P.profile plan.now }
-    ensures { result ≡ spec.object_at kind P.profile plan.now kernel.now number }
+    ensures { result ≡ spec.object_or_address kind P.profile plan.now kernel.now number }
 {
     if number < slot_count::<P>(plan) {
         in_slot::<P, S, W>(plan, kernel, kind, number)

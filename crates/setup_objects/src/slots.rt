@@ -30,7 +30,7 @@ fn is_number(word: &[u8]) -> bool
 /// The address of the slot that the number of a name stands for.
 fn slot_named<P: Profile>(plan: &BootPlan, number: u64) -> u64
     requires { IsWithinLimits P.profile plan.now }
-    ensures { result ≡ spec.slot_named P.profile plan.now number }
+    ensures { result ≡ spec.slot_or_address P.profile plan.now number }
 {
     if number < slot_count::<P>(plan) {
         slot_address::<P>(number)

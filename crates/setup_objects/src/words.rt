@@ -10,7 +10,7 @@ use setup_values::Name;
 const MOST: u64 = 1_000_000_000_000_000_000;
 
 fn digit(byte: u8) -> Option<u8>
-    ensures digit { result ≡ spec.digit byte }
+    ensures digit { result ≡ spec.decimal_digit byte }
     ensures small { IfSome result (λ d. d < 10) }
 {
     match byte {
@@ -21,7 +21,7 @@ fn digit(byte: u8) -> Option<u8>
 
 /// The number of decimal digits.
 fn digits(text: &[u8]) -> Option<u64>
-    ensures { result ≡ spec.digits_after 0 text.now }
+    ensures { result ≡ spec.number_after 0 text.now }
 {
     let mut number = 0u64;
     for byte in text {
@@ -52,7 +52,7 @@ fn word_of(names: &[Name], text: &[u8]) -> Option<u64>
 }
 
 fn number_or_name(names: &[Name], text: &[u8]) -> Option<u64>
-    ensures { result ≡ spec.or_named (names_view names.now) text.now (spec.digits_after 0 text.now) }
+    ensures { result ≡ spec.or_named (names_view names.now) text.now (spec.number_after 0 text.now) }
 {
     match digits(text) {
         Some(number) => Some(number),

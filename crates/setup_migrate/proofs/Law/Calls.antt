@@ -19,7 +19,7 @@ use Rattle.setup_format.specs.declared.fault.Place.TheVariants as places
 use Rattle.setup_format.specs.Tables.{required, needed, known_only, no_unknown, is_one_of}
 use Rattle.setup_values.specs.Operations.{call_keys}
 use Rattle.setup_format.specs.Setups.{call_at}
-use Rattle.setup_migrate.specs.Migration.{with_changed, each_item, thread_at, thread_or, named_thread, named_call, named_calls}
+use Rattle.setup_migrate.specs.Migration.{with_changed, each_item, boot_thread_at, thread_or, named_thread, named_call, named_calls}
 use Rattle.setup_migrate.proofs.Parts.{get_changed, get_changed_other, keys_changed}
 use Rattle.setup_migrate.proofs.Law.Follows.{Follows, same, equal, after, together, at_key_follows, required_follows, optional_follows}
 use Rattle.setup_format.proofs.Grammar.Parts.{no_answer, parts}
@@ -27,7 +27,7 @@ use Rattle.setup_migrate.proofs.Law.Operations.{AgreesPast, word_follows, operat
 
 -- each boot thread's name stands for its address
 pub record NamesThreads (p : ProfileName) (plan : Plan) (names : Names) : Type 0 where
-  pub stands : (i address : ℕ) → thread_at p plan address ≡ Some i → word_named names (codes "thread_" ++ decimal i) ≡ Some address
+  pub stands : (i address : ℕ) → boot_thread_at p plan address ≡ Some i → word_named names (codes "thread_" ++ decimal i) ≡ Some address
 
 -- ---- a thread
 
@@ -47,14 +47,14 @@ word_fits p d w e =
     let (n, read, fits) = parts (natural [] d) (below (2 ^ word_bits p)) w e in
     below_itself (2 ^ word_bits p) n w fits
 
-named_word : (p : ProfileName) (plan : Plan) (names : Names) (d : Data) (w : ℕ) (o : Option ℕ) → NamesThreads p plan names → thread_at p plan w ≡ o → word p [] d ≡ Ok w
+named_word : (p : ProfileName) (plan : Plan) (names : Names) (d : Data) (w : ℕ) (o : Option ℕ) → NamesThreads p plan names → boot_thread_at p plan w ≡ o → word p [] d ≡ Ok w
     → word p names (thread_or d o) ≡ Ok w
 named_word p plan names d w None h at e = (word_follows p names d).follows w e
 named_word p plan names d w (Some i) h at e = rw (h.stands i w at) (word_fits p d w e)
 
 thread_follows : (p : ProfileName) (plan : Plan) (names : Names) (d : Data) → NamesThreads p plan names → Follows (word p [] d) (word p names (named_thread p plan d))
 thread_follows p plan names d h =
-    record { follows = λ w e. rw e (named_word p plan names d w (thread_at p plan w) h refl e) }
+    record { follows = λ w e. rw e (named_word p plan names d w (boot_thread_at p plan w) h refl e) }
 
 needed_thread : (p : ProfileName) (plan : Plan) (names : Names) (o : Option Data) → NamesThreads p plan names
     → Follows (needed (word p []) o) (needed (word p names) (option_map (named_thread p plan) o))

@@ -19,7 +19,7 @@ use Rattle.cap_core.specs.Numbers.{word_bits}
 use Rattle.setup_values.specs.Names.{Names, word_named}
 use Rattle.setup_values.specs.Keys.{entries_of}
 use Rattle.setup_values.specs.Kinds.{between, each, is_name, is_name_byte, entry, names, word}
-use Rattle.setup_migrate.specs.Migration.{with_member, with_words, numbered}
+use Rattle.setup_migrate.specs.Migration.{with_member, with_words, numbered_names}
 use Rattle.setup_migrate.proofs.Parts.{get_with, get_with_other, texts_tied, cases_ordering}
 
 -- ---- a table of names and their words
@@ -121,10 +121,10 @@ apart_numbers prefix i j hi hj differ =
     ]
 
 pub numbered-more : (prefix : List ℕ) (word : ℕ → ℕ) (n : ℕ) (t : Members)
-    → with_words (numbered prefix word (n + 1)) t ≡ with_member (prefix ++ decimal n) (integer (pos (word n))) (with_words (numbered prefix word n) t)
+    → with_words (numbered_names prefix word (n + 1)) t ≡ with_member (prefix ++ decimal n) (integer (pos (word n))) (with_words (numbered_names prefix word n) t)
 numbered-more prefix word n t =
     ap (λ ns. with_words ns t) (map-range_with_len_more (λ i. (prefix ++ decimal i, word i)) 0 n n (omega arith))
-    ∙ with_words-append (numbered prefix word n) ((prefix ++ decimal n, word n) ∷ []) t
+    ∙ with_words-append (numbered_names prefix word n) ((prefix ++ decimal n, word n) ∷ []) t
 
 last_or_before : (i n : ℕ) → i < n + 1 → (i ≡ n) ⊎ (i < n)
 last_or_before i n lt =
@@ -140,14 +140,14 @@ get_more prefix word n i t fits (inl e) before = rw e (get_with (prefix ++ decim
 get_more prefix word n i t fits (inr less) before =
     get_with_other (prefix ++ decimal i) (prefix ++ decimal n) (integer (pos (word n))) t (apart_numbers prefix i n (omega arith) fits (λ e. absurd (omega arith))) ∙ before less
 
-pub get_numbered : (prefix : List ℕ) (word : ℕ → ℕ) (n i : ℕ) (t : Members) → i < n → n ≤ 2 ^ 64 → get_member (prefix ++ decimal i) (with_words (numbered prefix word n) t) ≡ Some (integer (pos (word i)))
+pub get_numbered : (prefix : List ℕ) (word : ℕ → ℕ) (n i : ℕ) (t : Members) → i < n → n ≤ 2 ^ 64 → get_member (prefix ++ decimal i) (with_words (numbered_names prefix word n) t) ≡ Some (integer (pos (word i)))
 get_numbered prefix word zero i t lt le = absurd (omega arith)
 get_numbered prefix word (suc n) i t lt le =
     let more : suc n ≡ n + 1 = omega arith in
     let fits : n < 2 ^ 64 = omega arith in
-    subst (λ m. get_member (prefix ++ decimal i) (with_words (numbered prefix word m) t) ≡ Some (integer (pos (word i)))) (sym more)
+    subst (λ m. get_member (prefix ++ decimal i) (with_words (numbered_names prefix word m) t) ≡ Some (integer (pos (word i)))) (sym more)
     (ap (get_member (prefix ++ decimal i)) (numbered-more prefix word n t)
-    ∙ get_more prefix word n i (with_words (numbered prefix word n) t) fits (last_or_before i n (omega arith)) (λ less. get_numbered prefix word n i t less (omega arith)))
+    ∙ get_more prefix word n i (with_words (numbered_names prefix word n) t) fits (last_or_before i n (omega arith)) (λ less. get_numbered prefix word n i t less (omega arith)))
 
 or_true : (b : Bool) → (b || true) ≡ true
 or_true true = refl
@@ -192,7 +192,7 @@ numbered_same prefix f g a (suc n) h =
     ap (λ w. (prefix ++ decimal a, w) ∷ numbered_from prefix f (a + 1) n) (h a) ∙ ap (λ (ns : Names). (prefix ++ decimal a, g a) ∷ ns) rest
 
 -- names after others, where their number and each word is another's
-pub added : (prefix : List ℕ) (f g : ℕ → ℕ) (count wanted : ℕ) (t before u : Members) → u ≡ with_words (numbered prefix g count) t → t ≡ before → count ≡ wanted
-    → ((i : ℕ) → g i ≡ f i) → u ≡ with_words (numbered prefix f wanted) before
+pub added : (prefix : List ℕ) (f g : ℕ → ℕ) (count wanted : ℕ) (t before u : Members) → u ≡ with_words (numbered_names prefix g count) t → t ≡ before → count ≡ wanted
+    → ((i : ℕ) → g i ≡ f i) → u ≡ with_words (numbered_names prefix f wanted) before
 added prefix f g count wanted t before u e same counted words =
-    e ∙ (ap (λ ns. with_words ns t) (numbered_same prefix g f 0 count words) ∙ (ap (λ n. with_words (numbered prefix f n) t) counted ∙ ap (with_words (numbered prefix f wanted)) same))
+    e ∙ (ap (λ ns. with_words ns t) (numbered_same prefix g f 0 count words) ∙ (ap (λ n. with_words (numbered_names prefix f n) t) counted ∙ ap (with_words (numbered_names prefix f wanted)) same))

@@ -15,7 +15,7 @@ use Rattle.kernel_abstract.specs.Plan.{Plan, IsPlan, tcb_place, boot_end}
 use Rattle.kernel_abstract.proofs.Boot.Places.{tcb_fits}
 use Rattle.kernel_abstract.proofs.Boot.SoundPlans.{objects_within}
 use Rattle.setup_values.specs.Names.{word_named}
-use Rattle.setup_migrate.specs.Migration.{with_words, boot_names, thread_at}
+use Rattle.setup_migrate.specs.Migration.{with_words, boot_names, boot_thread_at}
 use Rattle.setup_migrate.proofs.Law.Names.{AreNamed, AllNamed, all_named-append, all_named-numbered, with_words-append, named-with_words, names_read, word_in, word_named_read, get_numbered}
 use Rattle.setup_migrate.proofs.Law.Calls.{NamesThreads}
 
@@ -82,7 +82,7 @@ thread_word p plan i h lt =
 pub names_threads : (p : ProfileName) (plan : Plan) → IsPlan p plan → NamesThreads p plan (names_read (name_table p plan))
 names_threads p plan h = record { stands = stands }
   where
-    stands : (i address : ℕ) → thread_at p plan address ≡ Some i → word_named (names_read (name_table p plan)) (codes "thread_" ++ decimal i) ≡ Some address
+    stands : (i address : ℕ) → boot_thread_at p plan address ≡ Some i → word_named (names_read (name_table p plan)) (codes "thread_" ++ decimal i) ≡ Some address
     stands i address found =
         let at = found_in_range (λ k. tcb_place p plan k == address) 0 plan.threads i found in
         let same : tcb_place p plan i ≡ address = grind (arith, nat_tests, at.0) in

@@ -3,7 +3,7 @@ use Rattle.kernel_forest.specs.Forest.{Forest}
 use Rattle.kernel_forest.specs.Entries.{Entry, cap_at}
 use Rattle.kernel_abstract.specs.Shown.{Shown, has_child}
 use Rattle.kernel_abstract.specs.State.{State, shown}
-use Rattle.query_revoke.specs.Below.{AreTold}
+use Rattle.query_revoke.specs.Below.{TellBelow}
 use Rattle.setup_report.specs.Naming.{naming_view}
 use Rattle.command_audit.specs.Revokes.{shown_after_revoke, revoke_lines, lines_of_revoke}
 use Rattle.command_audit.proofs.Alone.{alone_lines}
@@ -34,7 +34,7 @@ returns-in-Some g c = λ A reached shows.
     let slot = c.args.slot in
     let old = string_bytes c.args.out.now in
     let own : c.args.kernel.now.derivations ≡ A.derivations = ap (λ (w : Shown). w.derivations) shows ∙ derivations_shown A in
-    let told : AreTold p c.args.index.now A.derivations = subst (AreTold p c.args.index.now) own c.requires.told in
+    let told : TellBelow p c.args.index.now A.derivations = subst (TellBelow p c.args.index.now) own c.requires.told in
     let alone = (rw c.in-Some.is at c.in_ok-alone.ensures) A.derivations told in
     let one : has_child slot A.derivations ≡ true = same_child c.args.kernel.now A slot shows ∙ (sym c.has_children.ensures ∙ c.if-not-has_children.false) in
     c.in_ok-add_lines.ensures

@@ -1,7 +1,7 @@
 -- The names of one thread more; at the end, the names behind the head of their table.
 use Rattle.std.proofs.Common.{◌≡◌, ℕ, ◌++◌, string_bytes, ap, ◌∙◌, arith}
 use Rattle.std.specs.List.{flat_map, range_with_len}
-use Rattle.command_new.specs.Text.{thread_names, threads_text}
+use Rattle.command_new.specs.Text.{thread_names, new_threads_text}
 use Rattle.command_new.proofs.Appended.{both, one_more}
 use Rattle.command_new.proofs.text.add_threads.Goals as goal
 
@@ -10,7 +10,7 @@ loop-thread-preserved g c =
     one_more (thread_names g.P.Profile.profile c.args.plan.now) _ _ _ c.loop-thread.thread c.loop-thread.invariant c.in_ok-add_thread.ensures
 
 pub returns : goal.returns
-unfolding threads_text
+unfolding new_threads_text
 returns g c =
     let all : c.loop-thread.thread ≡ c.args.plan.now.threads = omega arith in
     let f = thread_names g.P.Profile.profile c.args.plan.now in

@@ -14,12 +14,12 @@ returns g c =
     let to = c.args.to in
     let sends =
     c.as_slice.ensures.value ∙ c.in_ok-sends.ensures
-    ∙ ap (λ (names : List ℕ). spec.sends_of names c.as_slice-all.result.now v by from) c.names_in-first.ensures
-    ∙ ap (λ (all : List MayStand). spec.sends_of (spec.names_in flows from) all v by from) c.as_slice-all.ensures.value in
+    ∙ ap (λ (names : List ℕ). spec.send_spots names c.as_slice-all.result.now v by from) c.names_in-first.ensures
+    ∙ ap (λ (all : List MayStand). spec.send_spots (spec.sets_named flows from) all v by from) c.as_slice-all.ensures.value in
     let receives =
     c.as_slice-2.ensures.value ∙ c.in_ok-receives.ensures
-    ∙ ap (λ (names : List ℕ). spec.receives_of names c.as_slice-all.result.now v by to) c.names_in-second.ensures
-    ∙ ap (λ (all : List MayStand). spec.receives_of (spec.names_in flows to) all v by to) c.as_slice-all.ensures.value in
+    ∙ ap (λ (names : List ℕ). spec.receive_spots names c.as_slice-all.result.now v by to) c.names_in-second.ensures
+    ∙ ap (λ (all : List MayStand). spec.receive_spots (spec.sets_named flows to) all v by to) c.as_slice-all.ensures.value in
     c.are_apart.ensures
-    ∙ ap (λ (spots : List Spot). spec.are_apart spots c.as_slice-2.result.now) sends
-    ∙ ap (spec.are_apart (spec.sends_of (spec.names_in flows from) flows.standing.items v by from)) receives
+    ∙ ap (λ (spots : List Spot). spec.are_spots_apart spots c.as_slice-2.result.now) sends
+    ∙ ap (spec.are_spots_apart (spec.send_spots (spec.sets_named flows from) flows.standing.items v by from)) receives

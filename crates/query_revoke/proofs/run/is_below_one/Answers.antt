@@ -6,8 +6,8 @@ use Rattle.slot_core.specs.Places.{address_of}
 use Rattle.slot_core.specs.Calls.{derivation_view}
 use Rattle.cap_core.specs.declared.profile.ProfileName.{ProfileName}
 use Rattle.query_revoke.specs.declared.keyed.Keyed.{Keyed}
-use Rattle.query_revoke.specs.Keyed.{AreKeyed, has_key}
-use Rattle.query_revoke.specs.Runs.{Derived, AreOnce, part, stands_in}
+use Rattle.query_revoke.specs.Keyed.{AreKeyed, is_keyed_by}
+use Rattle.query_revoke.specs.Runs.{EntryBelow, AreOnce, part, is_below_one_of}
 use Rattle.query_revoke.proofs.Found.{addresses_seen}
 use Rattle.query_revoke.proofs.Keys.{place_of, no_place}
 use Rattle.query_revoke.proofs.Parts.{any_within, none_within}
@@ -15,21 +15,21 @@ use Rattle.query_revoke.proofs.run.is_below_one.Goals as goal
 
 -- the parent's place tells
 placed : (p : ProfileName) (ds : List Derivation) (places : List Keyed) (d : Derivation) (start end n : ℕ) (o : Option ℕ) → AreKeyed (map (λ (d : Derivation). address_of p d.slot) ds) places →
-    option_map (address_of p) d.parent ≡ Some n → o ≡ option_map (λ (k : Keyed). k.place) (slice_get (filter (has_key n) places) 0) →
+    option_map (address_of p) d.parent ≡ Some n → o ≡ option_map (λ (k : Keyed). k.place) (slice_get (filter (is_keyed_by n) places) 0) →
     AreOnce (map (λ (d : Derivation). address_of p d.slot) ds) → (place : ℕ) → o ≡ Some place →
-    (nat_le start place && nat_lt place end) ≡ stands_in (part start end (map (derivation_view p) ds)) (derivation_view p d)
+    (nat_le start place && nat_lt place end) ≡ is_below_one_of (part start end (map (derivation_view p) ds)) (derivation_view p d)
 placed p ds places d start end n o keyed parent is once place at =
     let here : slice_get (map (λ (d : Derivation). address_of p d.slot) ds) place ≡ Some n = place_of (map (λ (d : Derivation). address_of p d.slot) ds) places n place keyed (sym is ∙ at) in
     let seen = addresses_seen p ds in
-    sym (ap (λ (q : Option ℕ). stands_in (part start end (map (derivation_view p) ds)) ((derivation_view p d).0, q)) parent
-    ∙ any_within (λ (x : Derived). x.0.slot) (map (derivation_view p) ds) start end n place (ap (λ (l : List ℕ). slice_get l place) (sym seen) ∙ here) (subst AreOnce seen once))
+    sym (ap (λ (q : Option ℕ). is_below_one_of (part start end (map (derivation_view p) ds)) ((derivation_view p d).0, q)) parent
+    ∙ any_within (λ (x : EntryBelow). x.0.slot) (map (derivation_view p) ds) start end n place (ap (λ (l : List ℕ). slice_get l place) (sym seen) ∙ here) (subst AreOnce seen once))
 
 unplaced : (p : ProfileName) (ds : List Derivation) (places : List Keyed) (d : Derivation) (start end n : ℕ) (o : Option ℕ) → AreKeyed (map (λ (d : Derivation). address_of p d.slot) ds) places →
-    option_map (address_of p) d.parent ≡ Some n → o ≡ option_map (λ (k : Keyed). k.place) (slice_get (filter (has_key n) places) 0) → o ≡ None →
-    false ≡ stands_in (part start end (map (derivation_view p) ds)) (derivation_view p d)
+    option_map (address_of p) d.parent ≡ Some n → o ≡ option_map (λ (k : Keyed). k.place) (slice_get (filter (is_keyed_by n) places) 0) → o ≡ None →
+    false ≡ is_below_one_of (part start end (map (derivation_view p) ds)) (derivation_view p d)
 unplaced p ds places d start end n o keyed parent is at =
-    sym (ap (λ (q : Option ℕ). stands_in (part start end (map (derivation_view p) ds)) ((derivation_view p d).0, q)) parent
-    ∙ none_within (λ (x : Derived). x.0.slot) (map (derivation_view p) ds) start end n
+    sym (ap (λ (q : Option ℕ). is_below_one_of (part start end (map (derivation_view p) ds)) ((derivation_view p d).0, q)) parent
+    ∙ none_within (λ (x : EntryBelow). x.0.slot) (map (derivation_view p) ds) start end n
     (λ i e. no_place (map (λ (d : Derivation). address_of p d.slot) ds) places n keyed (sym is ∙ at) i (ap (λ (l : List ℕ). slice_get l i) (addresses_seen p ds) ∙ e)))
 
 pub returns-then-start-place : goal.returns-then-start-place

@@ -1,6 +1,6 @@
 use Rattle.std.proofs.Common.{◌≡◌, drop}
-use Rattle.setup_objects.specs.Words.{digits_after}
+use Rattle.setup_objects.specs.Words.{number_after}
 use Rattle.setup_objects.proofs.words.digits.Given as goal
 
 abbrev pub invariant-loop-byte : goal.invariant-loop-byte
-invariant-loop-byte l = digits_after l.number (drop l.byte-index l.text) ≡ digits_after 0 l.text
+invariant-loop-byte l = number_after l.number (drop l.byte-index l.text) ≡ number_after 0 l.text
