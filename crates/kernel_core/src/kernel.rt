@@ -1,6 +1,6 @@
 //! The kernel.
 ghost use Rattle.std.specs.Prelude.{◌≡◌, ◌==◌, ℕ, false, Some, None, IfOk, option_map, slice_get, All, vec_len, vec_capacity, length, drop, map, ◌≤◌, ◌<◌, ◌+◌, ◌++◌};
-ghost use Rattle.kernel_forest.specs.Entries.{slots, caps, cap_at as cap_held, derivations_of};
+ghost use Rattle.kernel_forest.specs.Entries.{slots, caps, cap_at as cap_held, derivations_of, first_child};
 ghost use Rattle.std.specs.List.{IsDistinct};
 ghost use Rattle.cap_core.specs.Objects.{is_null};
 ghost use Rattle.cap_core.specs.declared.capability.Cap.{Cap};
@@ -329,14 +329,21 @@ impl<P: Profile, S: CapStore<P>, W: Waiters<P>> Kernel<P, S, W> {
         }
     }
 
+    /// The slot whose capability was derived last from the one in the slot at an address, of those that still stand. It takes
+    /// no memory.
+    pub fn first_child(&self, slot: u64) -> Option<u64>
+        ensures { result ≡ first_child slot self.now.derivations }
+    {
+        let slot = slot_within::<P>(self.threads.memory_bits, slot)?;
+        let child = self.store.first_child(slot)?;
+        Some(child.address::<P>())
+    }
+
     /// Whether a capability was derived from the one in the slot at an address, and still stands. It takes no memory.
     pub fn has_children(&self, slot: u64) -> bool
         ensures { result ≡ has_child slot self.now.derivations }
     {
-        match slot_within::<P>(self.threads.memory_bits, slot) {
-            Some(slot) => self.store.first_child(slot).is_some(),
-            None => false,
-        }
+        self.first_child(slot).is_some()
     }
 
     /// The thread that waits at a place of an endpoint's waiting list, 0 the first; `None` past its end, and where no

@@ -78,8 +78,8 @@ impl<P: Profile, S: CapStore<P>, W: Waiters<P>> Kernel<P, S, W> {
         }
     }
 
-    /// The first check that fails, with its reason, or what the call does.
-    fn explain_call(&self, call: &Call) -> Result<Invocation, Reason>
+    /// What the kernel, as it stands, does by a call, or the first check that fails, with its reason. It takes no memory.
+    pub fn explain_call(&self, call: &Call) -> Result<Invocation, Reason>
         ensures { result ≡ checked_call P.profile self.now call.now }
     {
         let Some(state) = self.thread_state(call.thread) else {
