@@ -7,6 +7,7 @@ ghost use Rattle.kernel_abstract.specs.Step.{replies_of};
 ghost use Rattle.setup_format.specs.Views.{CallView};
 ghost use Rattle.setup_report.specs.Naming.{naming_view};
 ghost use Rattle.command_trace_lines.specs.Told.{told_lines};
+ghost use Rattle.command_trace_lines.specs.Foreseen.{IsKept};
 ghost use Rattle.command_trace_lines.specs.Views.{IsStateTold};
 ghost use Rattle.command_why.specs.Tables.{call_table as call_table_of};
 ghost use Rattle.command_why.specs.Why.{reason_lines_of};
@@ -14,7 +15,7 @@ ghost use Rattle.command_trace.specs.Trace.{words_line, why_text, traced_call_li
 
 use crate::words::OpWords;
 use cap_core::Profile;
-use command_trace_lines::{Told, tell_call};
+use command_trace_lines::{Told, foresee, tell_made};
 use command_why::{call_table, explain};
 use command_why_words::Asked;
 use ipc_core::Waiters;
@@ -44,8 +45,8 @@ fn add_why(out: &mut String, why: &Option<String>) -> Result<(), AllocError>
     }
 }
 
-/// Makes the call at place `i` of a set-up, and adds its line, its words, why it is refused, and what it changed of a state of
-/// which `told` is what was told.
+/// Makes the call at place `i` of a set-up, and adds its line, its words, why it is refused, and what it changed. `told` is what
+/// was told of the state before it, where that is kept.
 fn make_call<P: Profile, S: DerivationStore<P> + Drop, W: Waiters<P> + Drop>(
     alloc: Global,
     out: &mut String,
@@ -54,11 +55,11 @@ fn make_call<P: Profile, S: DerivationStore<P> + Drop, W: Waiters<P> + Drop>(
     table: &Table,
     i: usize,
     kernel: &mut Kernel<P, S, W>,
-    told: Told,
-) -> Result<(Told, Reply), AllocError>
+    told: Option<Told>,
+) -> Result<(Option<Told>, Reply), AllocError>
     requires within { i < length setup.now.calls }
     requires reached { (A : State) × IsReached P.profile A × (kernel.old ≡ shown A) }
-    requires told { IsStateTold (naming_view naming.now) P.profile kernel.old told }
+    requires told { IsKept (naming_view naming.now) P.profile kernel.old told }
     ensures steps { IfOk result (λ r. (A : State) (call : CallView) → IsReached P.profile A → kernel.old ≡ shown A
         → slice_get setup.now.calls i ≡ Some call → StepsTo P.profile A call.call r.1 kernel.new) }
     ensures text { IfOk result (λ r. (call : CallView) → slice_get setup.now.calls i ≡ Some call
@@ -66,7 +67,7 @@ fn make_call<P: Profile, S: DerivationStore<P> + Drop, W: Waiters<P> + Drop>(
         ++ traced_call_lines (naming_view naming.now) (i + 1) call r.1
         (reason_lines_of (naming_view naming.now) P.profile kernel.old (record { call = call.call; table = call_table_of (table_view table.now) i }))
         (told_lines (naming_view naming.now) P.profile kernel.old) (told_lines (naming_view naming.now) P.profile kernel.new)) }
-    ensures told { IfOk result (λ r. IsStateTold (naming_view naming.now) P.profile kernel.new r.0) }
+    ensures told { IfOk result (λ r. IsKept (naming_view naming.now) P.profile kernel.new r.0) }
 {
     let call = setup.calls()[i];
     let asked = Asked {
@@ -75,11 +76,13 @@ fn make_call<P: Profile, S: DerivationStore<P> + Drop, W: Waiters<P> + Drop>(
         table: call_table(table, i),
     };
     let why = explain::<P, S, W>(alloc, kernel, asked)?;
+    let found = kernel.explain_call(&call);
+    let foreseen = foresee::<P, S, W>(alloc, naming, told, kernel, found)?;
     let reply = kernel.step(call);
     add_call(alloc, out, naming, i + 1, &call, setup.expect(i), reply)?;
     add_words(out, call.op)?;
     add_why(out, &why)?;
-    let told = tell_call::<P, S, W>(alloc, out, naming, told, kernel, reply)?;
+    let told = tell_made::<P, S, W>(alloc, out, naming, foreseen, kernel, reply)?;
     Ok((told, reply))
 }
 
@@ -102,7 +105,7 @@ pub fn add_calls<P: Profile, S: DerivationStore<P> + Drop, W: Waiters<P> + Drop>
         → string_bytes out.new ≡ string_bytes out.old
         ++ traced_calls_lines (naming_view naming.now) P.profile (table_view table.now) 0 A setup.now.calls) }
 {
-    let mut told = first;
+    let mut told = Some(first);
     let mut replies = Vec::with_capacity(alloc, setup.calls().len())?;
     for i in 0..setup.calls().len() {
         let (next, reply) = make_call::<P, S, W>(

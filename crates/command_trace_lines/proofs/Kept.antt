@@ -35,7 +35,7 @@ use Rattle.command_trace_lines.proofs.Views.{rises_at, no_line_changes}
 use Rattle.command_trace_lines.proofs.Walks.Walked.{walked_is, slots_are}
 use Rattle.command_trace_lines.proofs.Alike.{or_else, not_there, line_first, text_of_rising, told_of_same, other_way}
 
-as_map : {X : Type 0} (f : X → ℕ × List ℕ) (xs : List X) → flat_map (λ x. f x ∷ []) xs ≡ map f xs
+pub as_map : {X : Type 0} (f : X → ℕ × List ℕ) (xs : List X) → flat_map (λ x. f x ∷ []) xs ≡ map f xs
 as_map f [] = refl
 as_map f (x ∷ xs) = ap (λ l. f x ∷ l) (as_map f xs)
 
@@ -48,7 +48,7 @@ same_lines a b is q = ap (text_at q) is
 
 -- ---- full slots
 
-abbrev row_lines : Texts → List Derived → Lines
+abbrev pub row_lines : Texts → List Derived → Lines
 row_lines texts list = map (row_line texts) list
 
 slot_told : (texts : Texts) (q : ℕ) (list : List Derived) → text_at q (row_lines texts list) ≡ slot_at texts list q
@@ -63,7 +63,7 @@ row_addresses : (texts : Texts) (list : List Derived) → line_addresses (row_li
 row_addresses texts [] = refl
 row_addresses texts (d ∷ list) = ap (λ l. slot_of d ∷ l) (row_addresses texts list)
 
-slots_told : (texts : Texts) (list : List Derived) → Same (row_lines texts list) (traced_slot_lines texts list)
+pub slots_told : (texts : Texts) (list : List Derived) → Same (row_lines texts list) (traced_slot_lines texts list)
 slots_told texts list q =
     slot_told texts q list
     ∙ sym (text_of_rising (slot_at texts list) q (map slot_of list) (λ e. sym (slot_told texts q list) ∙ not_there q (row_lines texts list) (ap (is_in q) (row_addresses texts list) ∙ e)))
@@ -180,23 +180,33 @@ siblings_apart texts (x ∷ xs) h =
       | Some before ↦ (each_line texts (λ y. (x.0 == y) ≡ false) xs h.0, siblings_apart texts xs h.1)
     ]
 
-module _ (texts : Texts) (f : Forest Entry) (rows : List SiblingRow) (is : map row_view rows ≡ siblings None f) (apart : IsDistinct (λ (a b : ℕ). a == b) (slots f)) where
+module _ (texts : Texts) (f : Forest Entry) (apart : IsDistinct (λ (a b : ℕ). a == b) (slots f)) where
   abbrev order : List Sibling
   order = siblings None f
 
   order_apart : IsDistinct (λ (a b : ℕ). a == b) (map first_of order)
   order_apart = subst (IsDistinct (λ (a b : ℕ). a == b)) (sym (slots_are f)) apart
 
-  order_viewed : flat_map (λ (r : SiblingRow). sibling_line texts (row_view r)) rows ≡ flat_map (sibling_line texts) order
+  pub lines_apart : AreLinesApart (flat_map (sibling_line texts) order)
+  lines_apart = siblings_apart texts order order_apart
+
+  pub order_told : Same (flat_map (sibling_line texts) order) (sibling_lines texts f)
+  order_told q =
+      sibling_told texts q order order_apart
+      ∙ sym (text_of_rising (sibling_at texts order) q (slots f) (λ e. ap (option_map (sibling_text texts q)) (none_in_front q order (ap (is_in q) (slots_are f) ∙ e))))
+
+  pub rows_apart : AreLinesApart (row_lines texts (derivations_of f))
+  rows_apart = subst (IsDistinct (λ (a b : ℕ). a == b)) (sym (row_addresses texts (derivations_of f) ∙ derived_slots f)) apart
+
+module _ (texts : Texts) (f : Forest Entry) (rows : List SiblingRow) (is : map row_view rows ≡ siblings None f) (apart : IsDistinct (λ (a b : ℕ). a == b) (slots f)) where
+  order_viewed : flat_map (λ (r : SiblingRow). sibling_line texts (row_view r)) rows ≡ flat_map (sibling_line texts) (siblings None f)
   order_viewed = flat_of_map texts rows ∙ ap (flat_map (sibling_line texts)) is
 
   pub order_is_apart : AreLinesApart (flat_map (λ (r : SiblingRow). sibling_line texts (row_view r)) rows)
-  order_is_apart = subst AreLinesApart (sym order_viewed) (siblings_apart texts order order_apart)
+  order_is_apart = subst AreLinesApart (sym order_viewed) (lines_apart texts f apart)
 
-  order_same : Same (flat_map (λ (r : SiblingRow). sibling_line texts (row_view r)) rows) (sibling_lines texts f)
-  order_same q =
-      ap (text_at q) order_viewed ∙ sibling_told texts q order order_apart
-      ∙ sym (text_of_rising (sibling_at texts order) q (slots f) (λ e. ap (option_map (sibling_text texts q)) (none_in_front q order (ap (is_in q) (slots_are f) ∙ e))))
+  pub order_same : Same (flat_map (λ (r : SiblingRow). sibling_line texts (row_view r)) rows) (sibling_lines texts f)
+  order_same q = ap (text_at q) order_viewed ∙ order_told texts f apart q
 
 -- the rows that a walk finds are those of the forest
 pub walk_is : (p : ProfileName) (slots_there : List Derivation) (rows : List SiblingRow) (f : Forest Entry) → map row_view rows ≡ siblings_walked [] (map (derivation_view p) slots_there) →

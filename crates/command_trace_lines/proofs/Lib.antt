@@ -5,4 +5,7 @@ pub mod Alike
 pub mod Ends
 pub mod Kept
 pub mod Steps
+pub mod Put
+pub mod Added
+pub mod Derives
 pub mod Walks

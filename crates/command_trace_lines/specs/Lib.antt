@@ -7,4 +7,5 @@ pub mod Told
 pub mod Names
 pub mod Views
 pub mod Calls
+pub mod Foreseen
 pub mod Private

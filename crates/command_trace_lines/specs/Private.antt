@@ -3,3 +3,4 @@ pub mod Listed
 pub mod Path
 pub mod Rows
 pub mod Kept
+pub mod Derived

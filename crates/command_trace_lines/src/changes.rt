@@ -25,7 +25,8 @@ fn add_removed(out: &mut String, line: &StateLine) -> Result<(), AllocError>
     writeln!(out, "  - {text}")
 }
 
-fn add_added(out: &mut String, line: &StateLine) -> Result<(), AllocError>
+/// Adds a new line.
+pub fn add_added(out: &mut String, line: &StateLine) -> Result<(), AllocError>
     ensures { OnOk result (string_bytes out.new ≡ string_bytes out.old ++ spec.added (Some (line_view line.now).1)) }
 {
     let text = line.text.as_str();

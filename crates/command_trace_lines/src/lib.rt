@@ -3,6 +3,8 @@
 
 mod between;
 mod changes;
+mod derived;
+mod foreseen;
 mod messages;
 mod names;
 mod rows;
@@ -13,6 +15,7 @@ mod text;
 mod told;
 
 pub use between::add_changes_between;
+pub use foreseen::{DerivedCap, Foreseen, foresee, tell_made};
 pub use names::add_names;
 pub use text::OfferText;
-pub use told::{Told, tell, tell_call};
+pub use told::{Told, tell};

@@ -54,6 +54,22 @@ fn nothing(alloc: Global) -> Told
     }
 }
 
+/// What is told of a kernel's state, by its full slots.
+pub fn told_of<P: Profile, S: DerivationStore<P> + Drop, W: Waiters<P> + Drop>(
+    alloc: Global,
+    naming: &Naming<'_>,
+    slots: Vec<Derivation>,
+    kernel: &Kernel<P, S, W>,
+) -> Result<Told, AllocError>
+    requires list { map (derivation_view P.profile) slots.items ≡ derivations_of kernel.now.derivations }
+    requires apart { IsDistinct (λ (a b : ℕ). a == b) (slots_in kernel.now.derivations) }
+    ensures { IfOk result (IsStateTold (naming_view naming.now) P.profile kernel.now) }
+{
+    let siblings = siblings::<P>(alloc, slots.as_slice())?;
+    let view = view_of::<P, S, W>(alloc, naming, slots, kernel)?;
+    Ok(Told { view, siblings })
+}
+
 /// Tells a kernel's state anew, by its full slots: adds how it differs from what was told before.
 fn tell_anew<P: Profile, S: DerivationStore<P> + Drop, W: Waiters<P> + Drop>(
     alloc: Global,
@@ -70,12 +86,11 @@ fn tell_anew<P: Profile, S: DerivationStore<P> + Drop, W: Waiters<P> + Drop>(
         ++ told_changes (told_rows (naming_view naming.now) P.profile old.now) (told_rows (naming_view naming.now) P.profile told)) }
     ensures told { IfOk result (IsStateTold (naming_view naming.now) P.profile kernel.now) }
 {
-    let siblings = siblings::<P>(alloc, slots.as_slice())?;
-    let view = view_of::<P, S, W>(alloc, naming, slots, kernel)?;
-    add_view_changes::<P>(alloc, out, naming, &old.view, &view)?;
-    let (before, after) = (old.siblings.as_slice(), siblings.as_slice());
+    let told = told_of::<P, S, W>(alloc, naming, slots, kernel)?;
+    add_view_changes::<P>(alloc, out, naming, &old.view, &told.view)?;
+    let (before, after) = (old.siblings.as_slice(), told.siblings.as_slice());
     add_row_changes::<P, SiblingRow>(alloc, out, naming, before, after)?;
-    Ok(Told { view, siblings })
+    Ok(told)
 }
 
 /// Tells a kernel's state where nothing was told before: adds all of its lines.

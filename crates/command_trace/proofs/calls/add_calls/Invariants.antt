@@ -6,7 +6,7 @@ use Rattle.kernel_abstract.specs.Reached.{IsReached}
 use Rattle.setup_format.specs.Views.{CallView}
 use Rattle.setup_report.specs.Naming.{naming_view}
 use Rattle.command_trace.specs.Trace.{traced_calls_lines}
-use Rattle.command_trace_lines.specs.Views.{IsStateTold}
+use Rattle.command_trace_lines.specs.Foreseen.{IsKept}
 use Rattle.command_trace.proofs.calls.add_calls.Given as goal
 
 abbrev pub invariant-loop-i : goal.invariant-loop-i
@@ -14,7 +14,7 @@ invariant-loop-i g l =
     let texts = naming_view l.naming in
     let p = g.P.Profile.profile in
     record {
-      told : IsStateTold texts p l.kernel l.told;
+      told : IsKept texts p l.kernel l.told;
       stands : (A : State) → IsReached p A → l.initial.kernel ≡ shown A → l.kernel ≡ shown (state_after p A (map (λ (c : CallView). c.call) (take l.i l.setup.calls)));
       replies : (A : State) → IsReached p A → l.initial.kernel ≡ shown A → l.replies.items ≡ replies_of p A (map (λ (c : CallView). c.call) (take l.i l.setup.calls));
       text : (A : State) → IsReached p A → l.initial.kernel ≡ shown A →
