@@ -2,7 +2,7 @@
 """audits.py PROGRAM FOLDER..: each audit and each derivation forest that is wanted in the FOLDERs, by the program.
 
 NAME.toml is a set-up and NAME.audit its audit, byte for byte; NAME.tree is what `tree` writes in the same way, and NAME.dot what `tree --dot` writes. Options stand in the file's name: NAME.after-14.slot-320.audit is
-what `audit --after 14 --slot 320` writes. NAME.ever is what `audit --ever` writes, with the options in NAME.args, one word a line; NAME.PAIR.never what `audit` writes with
+what `audit --after 14 --slot 320` writes, and NAME.names.audit what `audit --names` does. NAME.ever is what `audit --ever` writes, with the options in NAME.args, one word a line; NAME.PAIR.never what `audit` writes with
 the options in NAME.PAIR.args, of which `--never` is one.
 An empty file wants status 4, the line of a refusal 2, any other text 0.
 
@@ -19,7 +19,7 @@ def command(file):
         return ["audit", *([] if file.suffix == ".never" else ["--ever"]), *file.with_suffix(".args").read_text().split()]
     parts = [part.split("-") for part in file.stem.split(".")[1:]]
     asked = ["tree", "--dot"] if file.suffix == ".dot" else [file.suffix[1:]]
-    return [*asked, *(word for option, number in parts for word in (f"--{option}", number))]
+    return [*asked, *(word for option, *value in parts for word in (f"--{option}", *value))]
 
 
 def status_with(text):

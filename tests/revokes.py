@@ -19,7 +19,7 @@ import sys
 import tomllib
 
 SLOT_BYTES = {"wide": 32, "narrow": 16}
-REACHED = re.compile(r"  (?:reach (\d+) (\d+)|hold .*) slot (\d+) (.*)")
+NAMED = re.compile(r"thread (?P<thread>\d+).*|  as (?P<first>\d+).*|  reach \d+ (?P<word>\d+) slot \d+ (?P<capability>.*)")
 CNODE = re.compile(r"cnode (\d+) radix (\d+) guard (\d+) size (\d+)")
 SLOT = re.compile(r"slot (\d+) (.*?)(?: children)?")
 OBJECT = re.compile(r"(tcb|endpoint|cnode) (\d+)|(untyped) (\d+) bits (\d+)")
@@ -58,13 +58,28 @@ def objects_in(slots):
     return {f"untyped {it[4]} bits {it[5]}" if it[3] else f"{KINDS.get(it[1], it[1])} {it[2]}" for it in matches}
 
 
+def reached_by(audit):
+    """The words and capabilities that each thread reaches, by its address: what is told of it, or of the first thread that it is told as."""
+    reached = {}
+    for told in filter(None, map(NAMED.fullmatch, audit.splitlines())):
+        if told["thread"]:
+            thread = told["thread"]
+            reached[thread] = []
+        elif told["first"]:
+            reached[thread] = reached[told["first"]]
+        else:
+            reached[thread].append((told["word"], told["capability"]))
+    return reached
+
+
 def calls_of(audit, profile):
     """Of each slot that a thread which is ready can revoke, one such call."""
-    ready = set(re.findall(r"(?m)^thread (\d+)(?: @\S+)? ready$", audit))
+    reached = reached_by(audit)
     calls = {}
-    for thread, word, _, capability in (match.groups() for match in map(REACHED.fullmatch, audit.splitlines()) if match):
-        cnode = CNODE.match(capability)
-        if thread in ready and cnode:
+    for thread in re.findall(r"(?m)^thread (\d+)(?: @\S+)? ready$", audit):
+        for word, cnode in ((word, CNODE.match(capability)) for word, capability in reached[thread]):
+            if not cnode:
+                continue
             base, radix, guard, size = map(int, cnode.groups())
             for number in range(1 << radix):
                 call = {"thread": int(thread), "op": "revoke", "cap": int(word), "index": guard << radix | number, "depth": size + radix}

@@ -27,7 +27,7 @@ fi
 calls=$(sed -n '1s/.* calls //p' "$trace")
 after=0
 while [ "$after" -le "${calls:-0}" ] && [ "${calls:-0}" -le "$most_audits" ]; do
-    "$1" audit --after "$after" "$2" 2> /dev/null | grep -e '^audit ' -e '^  reach ' -e '^  hold ' -e '^channel ' >> "$audits" || break
+    "$1" audit --after "$after" "$2" 2> /dev/null | grep -e '^audit ' -e '^thread ' -e '^  as ' -e '^  reach ' -e '^  hold ' -e '^channel ' >> "$audits" || break
     after=$((after + 1))
 done
 name=$(basename "$2")

@@ -17,14 +17,14 @@ use Rattle.command_audit.specs.Channels.{endpoint_words_of, channel_lines}
 use Rattle.command_audit.specs.Revokes.{shown_after_revoke, revoke_lines, revoke_lines_of, rows_told}
 
 -- ---- a whole state: the names, who is trusted, what each other thread can name, who of them can send to whom, what each revoke
--- would do
+-- would do; of threads that can name just the same, the first one stands for all
 
 abbrev pub whole_text : ProfileName → Names → Texts → List ℕ → SetupView → ℕ → State → List ThreadSlots → List ℕ
 whole_text p names texts trusted setup made A list =
     audit_head_line texts setup made None
     ++ (opening names texts trusted
-    ++ (flat_map (slots_lines texts (shown A)) list
-    ++ (channel_lines texts (flat_map (endpoint_words_of A.derivations) list) (endpoints p (shown A))
+    ++ (flat_map (slots_lines texts (shown A) list) list
+    ++ (channel_lines texts (flat_map (endpoint_words_of A.derivations list) list) (endpoints p (shown A))
     ++ flat_map (revoke_lines_of p texts A) (rows_told trusted list (slot_rows (shown A))))))
 
 -- the text is that of the lists of what each live thread can name that is not trusted

@@ -1,5 +1,5 @@
 -- The lines of channels: who can send to whom.
-use Rattle.std.specs.Prelude.{codes, ℕ, List, ◌++◌, Option, Some, None}
+use Rattle.std.specs.Prelude.{codes, ℕ, Bool, List, [], ◌++◌, Option, Some, None}
 use Rattle.std.specs.List.{flat_map}
 use Rattle.std.specs.Fmt.{decimal}
 use Rattle.kernel_forest.specs.Forest.{Forest}
@@ -10,13 +10,18 @@ use Rattle.query_reach.specs.Endpoints.{endpoint_words}
 use Rattle.query_reach.specs.Channels.{channels, receivers_without_sender}
 use Rattle.setup_report.specs.Report.{terminated}
 use Rattle.command_audit.specs.declared.threads.ThreadSlots.{ThreadSlots}
+use Rattle.command_audit.specs.Spaces.{told_as, is_shared}
 use Rattle.setup_report.specs.declared.objects.Object.{Object}
 use Rattle.setup_report.specs.Naming.{Texts}
 use Rattle.command_audit.specs.Text.{sender_text}
 
--- the words of a thread that lead to endpoints' capabilities
-abbrev pub endpoint_words_of : Forest Entry → ThreadSlots → List EndpointWord
-endpoint_words_of f t = endpoint_words f t.thread t.reached.items
+-- the words of a thread that lead to endpoints' capabilities; none, where the thread is told as another one
+abbrev pub words_unless : Forest Entry → ThreadSlots → Bool → Option ℕ → List EndpointWord
+words_unless f t shared None = endpoint_words f t.thread shared t.reached.items
+words_unless f t shared (Some first) = []
+
+abbrev pub endpoint_words_of : Forest Entry → List ThreadSlots → ThreadSlots → List EndpointWord
+endpoint_words_of f list t = words_unless f t (is_shared list t) (told_as list t)
 
 -- the receiving end: a thread and its word
 abbrev pub receiver_text : Texts → EndpointWord → List ℕ

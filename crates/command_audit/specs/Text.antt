@@ -18,7 +18,7 @@ slot_asked_text texts (Some slot) = codes " slot " ++ texts.slot slot
 
 abbrev pub audit_head_line : Texts → SetupView → ℕ → Option ℕ → List ℕ
 audit_head_line texts setup made slot =
-    terminated (codes "audit 1 " ++ (profile_text setup.profile ++ (codes " memory_bits " ++ (decimal setup.plan.memory_bits
+    terminated (codes "audit 2 " ++ (profile_text setup.profile ++ (codes " memory_bits " ++ (decimal setup.plan.memory_bits
     ++ (codes " calls " ++ (decimal (length setup.calls) ++ (codes " after " ++ (decimal made ++ slot_asked_text texts slot))))))))
 
 -- ---- the sending end of a channel

@@ -19,6 +19,7 @@ use Rattle.setup_report.specs.Report.{terminated}
 use Rattle.command_trace_lines.specs.Lines.{offer_text}
 use Rattle.command_trace_lines.specs.Names.{name_lines}
 use Rattle.command_audit.specs.declared.threads.ThreadSlots.{ThreadSlots}
+use Rattle.command_audit.specs.Spaces.{told_as}
 use Rattle.setup_report.specs.declared.objects.Object.{Object}
 use Rattle.setup_report.specs.Naming.{Texts}
 use Rattle.setup_report.specs.Text.{held_slot_text, state_text}
@@ -72,7 +73,12 @@ hold_line texts f thread h =
     terminated (codes "  hold " ++ (texts.object (Object.Thread thread) ++ (codes " " ++ (decimal h.word ++ (codes " index " ++ (decimal h.index
     ++ (codes " depth " ++ (decimal h.depth ++ (codes " slot " ++ held_slot_text texts h.slot (cap_at f h.slot))))))))))
 
-abbrev pub slots_lines : Texts → Shown → ThreadSlots → List ℕ
-slots_lines texts v t =
-    live_thread_line texts v t.thread ++ (flat_map (reach_line texts v.derivations t.thread) t.reached.items
-    ++ flat_map (hold_line texts v.derivations t.thread) t.held.items)
+-- a thread that is told as another one has one line in place of these
+abbrev pub named_lines : Texts → Shown → ThreadSlots → Option ℕ → List ℕ
+named_lines texts v t None =
+    flat_map (reach_line texts v.derivations t.thread) t.reached.items
+    ++ flat_map (hold_line texts v.derivations t.thread) t.held.items
+named_lines texts v t (Some first) = terminated (codes "  as " ++ texts.about first)
+
+abbrev pub slots_lines : Texts → Shown → List ThreadSlots → ThreadSlots → List ℕ
+slots_lines texts v list t = live_thread_line texts v t.thread ++ named_lines texts v t (told_as list t)

@@ -7,6 +7,7 @@ ghost use Rattle.query_reach.specs.ByEndpoint.{AreByEndpoint};
 ghost use Rattle.setup_report.specs.Naming.{naming_view};
 ghost use Rattle.command_audit.specs.Channels as spec;
 
+use crate::spaces::{is_shared, told_as};
 use crate::text::SenderText;
 use crate::threads::ThreadSlots;
 use query_reach::{
@@ -18,8 +19,31 @@ use std::alloc::{AllocError, Global};
 use std::collections::BTreeSet;
 use std::fmt::Write;
 
-/// The words of threads that lead to endpoints' capabilities, each thread's together. `filled` has all full slots, as
-/// `full_slots` of `query_reach` gives them.
+/// The words of a thread that lead to endpoints' capabilities; none, where it is told as another thread.
+fn words_of(
+    alloc: Global,
+    filled: &[FullSlot],
+    list: &[ThreadSlots],
+    slots: &ThreadSlots,
+) -> Result<Vec<EndpointWord>, AllocError>
+    requires { AreRising filled.now }
+    ensures { IfOk result (λ words. (f : Forest Entry) → AreFullSlots f filled.now → words.items ≡ spec.endpoint_words_of f list.now slots.now) }
+{
+    if told_as(list, slots).is_some() {
+        return Ok(Vec::new(alloc));
+    }
+    let shared = is_shared(list, slots);
+    endpoint_words(
+        alloc,
+        filled,
+        slots.thread,
+        shared,
+        slots.reached.as_slice(),
+    )
+}
+
+/// The words of threads that lead to endpoints' capabilities, each thread's together; of threads that can name just the same,
+/// those of the first one. `filled` has all full slots, as `full_slots` of `query_reach` gives them.
 ///
 /// # Errors
 ///
@@ -30,11 +54,11 @@ pub fn channel_words(
     list: &[ThreadSlots],
 ) -> Result<Vec<EndpointWord>, AllocError>
     requires { AreRising filled.now }
-    ensures { IfOk result (λ words. (f : Forest Entry) → AreFullSlots f filled.now → words.items ≡ flat_map (spec.endpoint_words_of f) list.now) }
+    ensures { IfOk result (λ words. (f : Forest Entry) → AreFullSlots f filled.now → words.items ≡ flat_map (spec.endpoint_words_of f list.now) list.now) }
 {
     let mut words = Vec::new(alloc);
     for slots in list {
-        let own = endpoint_words(alloc, filled, slots.thread, slots.reached.as_slice())?;
+        let own = words_of(alloc, filled, list, slots)?;
         words.extend_from_slice(own.as_slice())?;
     }
     Ok(words)

@@ -31,6 +31,6 @@ pub fn add_head(
     let asked = SlotAsked { naming, slot };
     writeln!(
         out,
-        "audit 1 {profile} memory_bits {memory_bits} calls {calls} after {made}{asked}"
+        "audit 2 {profile} memory_bits {memory_bits} calls {calls} after {made}{asked}"
     )
 }

@@ -8,6 +8,7 @@ mod laws;
 mod others;
 mod revokes;
 mod slot;
+mod spaces;
 mod state;
 mod text;
 mod threads;

@@ -9,6 +9,7 @@ ghost use Rattle.setup_values.specs.Names.{names_view};
 ghost use Rattle.setup_report.specs.Naming.{naming_view};
 ghost use Rattle.command_audit.specs.Threads as spec;
 
+use crate::spaces::told_as;
 use cap_core::Profile;
 use command_trace_lines::{OfferText, add_names};
 use ipc_core::Waiters;
@@ -163,22 +164,44 @@ fn add_held<P: Profile, S: CapStore<P> + Drop, W: Waiters<P> + Drop>(
     Ok(())
 }
 
-fn add_one<P: Profile, S: CapStore<P> + Drop, W: Waiters<P> + Drop>(
+/// Adds what a thread can name; where the thread is told as another one, a line that says so.
+fn add_named<P: Profile, S: CapStore<P> + Drop, W: Waiters<P> + Drop>(
     out: &mut String,
     naming: &Naming<'_>,
     slots: &ThreadSlots,
+    first: Option<u64>,
     kernel: &Kernel<P, S, W>,
 ) -> Result<(), AllocError>
     ensures { OnOk result (string_bytes out.new ≡ string_bytes out.old
-        ++ spec.slots_lines (naming_view naming.now) kernel.now slots.now) }
+        ++ spec.named_lines (naming_view naming.now) kernel.now slots.now first) }
 {
+    if let Some(first) = first {
+        let first = naming.about(first);
+        return writeln!(out, "  as {first}");
+    }
     let thread = slots.thread;
-    add_thread::<P, S, W>(out, naming, thread, kernel)?;
     add_reached::<P, S, W>(out, naming, thread, slots.reached.as_slice(), kernel)?;
     add_held::<P, S, W>(out, naming, thread, slots.held.as_slice(), kernel)
 }
 
-/// Adds what threads do, and below each thread a line for each full slot that it can name.
+/// Adds what a thread does, and what it can name.
+fn add_one<P: Profile, S: CapStore<P> + Drop, W: Waiters<P> + Drop>(
+    out: &mut String,
+    naming: &Naming<'_>,
+    list: &[ThreadSlots],
+    slots: &ThreadSlots,
+    kernel: &Kernel<P, S, W>,
+) -> Result<(), AllocError>
+    ensures { OnOk result (string_bytes out.new ≡ string_bytes out.old
+        ++ spec.slots_lines (naming_view naming.now) kernel.now list.now slots.now) }
+{
+    add_thread::<P, S, W>(out, naming, slots.thread, kernel)?;
+    let first = told_as(list, slots);
+    add_named::<P, S, W>(out, naming, slots, first, kernel)
+}
+
+/// Adds what threads do, and below each thread a line for each full slot that it can name, or one that says which of them can
+/// name just that.
 ///
 /// # Errors
 ///
@@ -190,10 +213,10 @@ pub fn add_threads<P: Profile, S: CapStore<P> + Drop, W: Waiters<P> + Drop>(
     kernel: &Kernel<P, S, W>,
 ) -> Result<(), AllocError>
     ensures { OnOk result (string_bytes out.new ≡ string_bytes out.old
-        ++ flat_map (spec.slots_lines (naming_view naming.now) kernel.now) list.now) }
+        ++ flat_map (spec.slots_lines (naming_view naming.now) kernel.now list.now) list.now) }
 {
     for slots in list {
-        add_one::<P, S, W>(out, naming, slots, kernel)?;
+        add_one::<P, S, W>(out, naming, list, slots, kernel)?;
     }
     Ok(())
 }

@@ -11,7 +11,7 @@ use Rattle.std.proofs.lemmas.List.Elements.{filter-append, filter_passes}
 use Rattle.std.proofs.lemmas.List.Filters.{All-dedup}
 use Rattle.std.proofs.lemmas.Map.Views.{any-filter_same}
 use Rattle.query_reach.specs.declared.endpoints.EndpointWord.{EndpointWord}
-use Rattle.query_reach.specs.Channels.{is_receiver, sends_by_word, receivers, receivers_without_sender, is_sender_to}
+use Rattle.query_reach.specs.Channels.{is_receiver, sends_by_word, receivers, receivers_without_sender, is_sender_to, is_between_two}
 use Rattle.query_reach.specs.ByEndpoint.{AreByEndpoint, leads_to, may_receive, same_receiver}
 
 -- ---- a test that all elements pass, or none
@@ -190,7 +190,7 @@ tie a b = elim (nat_lt a b) as (λ c. nat_lt a b ≡ c → (not (is_lt (nat_cmp 
 ] refl
 
 abbrev word_of : ℕ → EndpointWord
-word_of e = record { thread = 0; word = 0; endpoint = e; badge = record { 0 = 0 }; rights = record { 0 = 0 } }
+word_of e = record { thread = 0; shared = false; word = 0; endpoint = e; badge = record { 0 = 0 }; rights = record { 0 = 0 } }
 
 pub same_at : (e : ℕ) (xs ys : List EndpointWord) → IsStableByKey (λ (v : EndpointWord). v.endpoint) nat_cmp xs ys →
     filter (leads_to e) ys ≡ filter (leads_to e) xs
@@ -269,7 +269,7 @@ first_true false b h = h
 sender_leads : (e : ℕ) (v u : EndpointWord) → v.endpoint ≡ e → is_sender_to v u ≡ true → leads_to e u ≡ true
 sender_leads e v u at h =
     eq-eqb u.endpoint e
-    (eqb-true u.endpoint v.endpoint (first_true (u.endpoint == v.endpoint) (not (u.thread == v.thread)) (second_true (sends_by_word u) _ h)) ∙ at)
+    (eqb-true u.endpoint v.endpoint (first_true (u.endpoint == v.endpoint) (is_between_two u v) (second_true (sends_by_word u) _ h)) ∙ at)
 
 filter_like : {X : Type 0} (p q : X → Bool) (xs : List X) → All (λ (x : X). p x ≡ q x) xs → filter p xs ≡ filter q xs
 filter_like p q [] h = refl

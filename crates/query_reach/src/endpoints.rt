@@ -15,6 +15,8 @@ use std::alloc::{AllocError, Global};
 #[derive(Clone, Copy)]
 pub struct EndpointWord {
     pub thread: u64,
+    /// Another thread has the same words: the thread stands for both.
+    pub shared: bool,
     pub word: u64,
     pub endpoint: u64,
     pub badge: Badge,
@@ -22,9 +24,14 @@ pub struct EndpointWord {
 }
 
 /// What a reached slot says of an endpoint.
-fn endpoint_word(filled: &[FullSlot], thread: u64, reached: &Reached) -> Option<EndpointWord>
+fn endpoint_word(
+    filled: &[FullSlot],
+    thread: u64,
+    shared: bool,
+    reached: &Reached,
+) -> Option<EndpointWord>
     requires { AreRising filled.now }
-    ensures { (f : Forest Entry) → AreFullSlots f filled.now → result ≡ word_for thread reached.now.word (cap_at f reached.now.slot) }
+    ensures { (f : Forest Entry) → AreFullSlots f filled.now → result ≡ word_for thread shared reached.now.word (cap_at f reached.now.slot) }
 {
     let place = place_of(filled, reached.slot)?;
     match filled[place].cap {
@@ -34,6 +41,7 @@ fn endpoint_word(filled: &[FullSlot], thread: u64, reached: &Reached) -> Option<
             rights,
         } => Some(EndpointWord {
             thread,
+            shared,
             word: reached.word,
             endpoint: base,
             badge,
@@ -44,7 +52,7 @@ fn endpoint_word(filled: &[FullSlot], thread: u64, reached: &Reached) -> Option<
 }
 
 /// The words of the thread at an address that lead to endpoints' capabilities, of those in its list of reached slots, in the
-/// same order. `filled` has all full slots, as `full_slots` gives them.
+/// same order. `shared` says whether another thread has the same words. `filled` has all full slots, as `full_slots` gives them.
 ///
 /// # Errors
 ///
@@ -53,14 +61,15 @@ pub fn endpoint_words(
     alloc: Global,
     filled: &[FullSlot],
     thread: u64,
+    shared: bool,
     reached: &[Reached],
 ) -> Result<Vec<EndpointWord>, AllocError>
     requires { AreRising filled.now }
-    ensures { IfOk result (λ list. (f : Forest Entry) → AreFullSlots f filled.now → list.items ≡ words_for f thread reached.now) }
+    ensures { IfOk result (λ list. (f : Forest Entry) → AreFullSlots f filled.now → list.items ≡ words_for f thread shared reached.now) }
 {
     let mut list = Vec::new(alloc);
     for r in reached {
-        if let Some(found) = endpoint_word(filled, thread, r) {
+        if let Some(found) = endpoint_word(filled, thread, shared, r) {
             list.push(found)?;
         }
     }

@@ -1,7 +1,7 @@
 //! Who can send to whom.
 ghost use Rattle.std.specs.Prelude.{◌≡◌, ◌++◌, IfOk, OnOk};
 ghost use Rattle.std.specs.List.{list_any};
-ghost use Rattle.query_reach.specs.Channels.{other_words, channels_to, channels as all_channels, is_sender_to, receivers_without_sender as unserved};
+ghost use Rattle.query_reach.specs.Channels.{other_words, is_between_two as are_of_two, channels_to, channels as all_channels, is_sender_to, receivers_without_sender as unserved};
 
 use crate::endpoints::EndpointWord;
 use crate::receivers::{first_receivers, words_at};
@@ -17,17 +17,25 @@ pub struct Channel {
     pub receiver: Option<EndpointWord>,
 }
 
+/// Whether one thread may send by a word and another one receive by a word: the words are of two threads, or of one that stands
+/// for several.
+fn is_between_two(sender: &EndpointWord, receiver: &EndpointWord) -> bool
+    ensures { result ≡ are_of_two sender.now receiver.now }
+{
+    sender.shared || receiver.thread != sender.thread
+}
+
 /// Adds the channels of a sender to the receivers of its endpoint.
 fn add_channels(
     channels: &mut Vec<Channel>,
     receivers: &[EndpointWord],
     sender: EndpointWord,
 ) -> Result<(), AllocError>
-    ensures { OnOk result (channels.new.items ≡ channels.old.items ++ channels_to sender (other_words sender.thread receivers.now)) }
+    ensures { OnOk result (channels.new.items ≡ channels.old.items ++ channels_to sender (other_words sender receivers.now)) }
 {
     let mut alone = true;
     for receiver in receivers {
-        if receiver.thread != sender.thread {
+        if is_between_two(&sender, receiver) {
             alone = false;
             channels.push(Channel {
                 sender,
@@ -72,7 +80,7 @@ fn has_sender(words: &[EndpointWord], receiver: &EndpointWord) -> bool
     words.iter().any(|word| {
         word.rights.contains(Rights::WRITE)
             && word.endpoint == receiver.endpoint
-            && word.thread != receiver.thread
+            && is_between_two(word, receiver)
     })
 }
 

@@ -200,7 +200,7 @@ fn add_words(
     requires rising { AreRising filled.now }
 {
     let found = reached_slots::<Wide>(alloc, filled, thread)?;
-    let named = endpoint_words(alloc, filled, thread, found.as_slice())?;
+    let named = endpoint_words(alloc, filled, thread, false, found.as_slice())?;
     words.extend_from_slice(named.as_slice())
 }
 

@@ -7,6 +7,7 @@ import { savable } from "./savable.mjs";
 const FORMS = {
   name: /^name (\S+) (\d+)$/u,
   thread: /^thread (\d+(?: @\S+)?) (.*)$/u,
+  same: /^ {2}as (\d+(?: @\S+)?)$/u,
   reach: /^ {2}reach \d+ (\d+) slot (\d+) (.*)$/u,
   hold: /^ {2}hold \d+ (\d+) index (\d+) depth (\d+) slot (\d+) (.*)$/u,
   channel: /^channel /u,
@@ -36,6 +37,25 @@ function grouped(lines, outer, inner) {
     else if (inner.includes(it.form) && groups.length > 0) groups.at(-1).below.push(it);
   }
   return groups;
+}
+
+/** The thread that another one is told as, since it can name just the same. */
+const firstOf = ({ below }) => below.find(({ form }) => form === "same")?.found[0];
+
+/** The threads that are told as another one, by that one. */
+function spacesOf(threads) {
+  const spaces = new Map();
+  for (const thread of threads) {
+    const first = firstOf(thread);
+    if (first !== undefined) spaces.set(first, [...(spaces.get(first) ?? []), thread.found[0]]);
+  }
+  return spaces;
+}
+
+/** Threads, each with the lines of all that it can name. */
+function inFull(threads) {
+  const byThread = new Map(threads.map((thread) => [thread.found[0], thread]));
+  return threads.map((thread) => ({ ...thread, below: (byThread.get(firstOf(thread)) ?? thread).below }));
 }
 
 /** Draws the first of some things by `draw`, which takes a list of them, and the rest when it is asked for. */
@@ -77,15 +97,15 @@ export function drawAudit(into, text, { choose, save }) {
     drawOne(into, revokes[0], choose);
     return;
   }
-  const threads = grouped(lines, "thread", ["reach", "hold"]);
+  const threads = grouped(lines, "thread", ["reach", "hold", "same"]);
   const channels = lines.filter(({ form }) => form === "channel").map(({ line }) => line);
-  const drawing = drawChannels(channels.map(wayOf).filter(Boolean), "Who can send to whom; the text below says the same");
+  const drawing = drawChannels(channels.map(wayOf).filter(Boolean), spacesOf(threads), "Who can send to whom; the text below says the same");
   into.replaceChildren(
     heading("Who can send to whom", "by a word; an endpoint, a badge that the receiver is told, and rights"),
     ...[drawing && savable(drawing, () => save(drawing.querySelector("svg"), "channels"))].filter(Boolean),
     element("pre", { class: "told", tabindex: "0", "aria-label": "Channels as text" }, channels.join("\n") || "nobody"),
     heading("What each thread can name", "by a word of a call; in dim letters, by a CNode's word with an index and a depth"),
-    ...drawNamed(threads),
+    ...drawNamed(inFull(threads)),
     heading("What a revoke would do", "of each slot with children, whether or not a thread can name it"),
     ...drawRevokes(revokes, choose),
     element("p", {}, dim(lines[0]?.line ?? "")));

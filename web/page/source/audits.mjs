@@ -4,6 +4,8 @@ import { wayOf } from "./channels.mjs";
 import { writeWord } from "./lookup.mjs";
 
 const HEAD = /^audit \d+ \S+ memory_bits \d+ calls \d+ after (\d+)$/u;
+const THREAD = /^thread (\d+(?: @\S+)?) /u;
+const SAME = /^ {2}as (\d+(?: @\S+)?)$/u;
 const REACHED = /^ {2}reach (\d+) (\d+) slot (\d+) /u;
 const HELD = /^ {2}hold (\d+) (\d+) index \d+ depth \d+ slot (\d+) /u;
 
@@ -23,10 +25,16 @@ class Row {
   }
 }
 
-/** What each thread names in one state, and the ways between threads. */
+/** What each thread names in one state, and the ways between threads. A thread that names just what an earlier one does is told
+    as that one: `spaces` has such threads, by the earlier one. */
 class Audit {
   constructor() {
-    Object.assign(this, { rows: new Map(), ways: [] });
+    Object.assign(this, { rows: new Map(), ways: [], spaces: new Map() });
+  }
+
+  addSame(thread, first) {
+    this.rows.set(parseInt(thread, 10), this.of(parseInt(first, 10)));
+    this.spaces.set(first, [...(this.spaces.get(first) ?? []), thread]);
   }
 
   /** What a thread names; nothing, where the audit does not speak of it. */
@@ -40,9 +48,12 @@ class Audit {
 export function readAudits(text) {
   const audits = new Map();
   let audit = new Audit();
+  let latest = "";
   for (const line of text.split("\n")) {
-    const [head, reached, held] = [HEAD, REACHED, HELD].map((form) => form.exec(line));
+    const [head, thread, same, reached, held] = [HEAD, THREAD, SAME, REACHED, HELD].map((form) => form.exec(line));
     if (head) audits.set(Number(head[1]), (audit = new Audit()));
+    else if (thread) latest = thread[1];
+    else if (same) audit.addSame(latest, same[1]);
     else if (reached) audit.of(Number(reached[1])).addWord(reached[2], reached[3]);
     else if (held) audit.of(Number(held[1])).addHeld(held[2], held[3]);
     else audit.ways.push(...[wayOf(line)].filter(Boolean));

@@ -1,7 +1,7 @@
 // The table of what each thread can invoke: a row for each object, a column for threads with the same capabilities by
 // the same words, and in a cell one line for each capability.
 import { code, counted, dim, element, fold, heading } from "./element.mjs";
-import { drawChannels } from "./channels.mjs";
+import { countWays, drawChannels } from "./channels.mjs";
 import { objectName, threadName, wholeDetailsOf } from "./names.mjs";
 import { reachOf, sourceOf } from "./reach.mjs";
 
@@ -73,10 +73,10 @@ function drawTable(view, columns, rows) {
 /** Who can send to whom in the state behind a step, where the page has an audit of it. */
 export function drawWays({ after }) {
   if (!after.audit) return [];
-  const { ways } = after.audit;
-  const drawing = drawChannels(ways, "Who can send to whom, by which word, under which badge");
+  const { ways, spaces } = after.audit;
+  const drawing = drawChannels(ways, spaces, "Who can send to whom, by which word, under which badge");
   const remark = `by a word; an endpoint, the badge that the receiver is told, and rights. ${sourceOf(after)}`;
-  const none = ways.length > 0 ? `${counted(ways.length, "way")}, too many to be drawn` : "nobody";
+  const none = ways.length > 0 ? `${counted(countWays(ways, spaces), "way")}, too many to be drawn` : "nobody";
   return [heading("Who can send to whom", remark), drawing ?? element("p", {}, none)];
 }
 

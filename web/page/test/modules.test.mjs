@@ -1,6 +1,8 @@
 // The modules that read and replay a trace, without a browser: node --test page/test
 import assert from "node:assert/strict";
 import { test } from "node:test";
+import { readAudits } from "../source/audits.mjs";
+import { countWays, waysBetween } from "../source/channels.mjs";
 import { TraceFault, readTrace } from "../source/trace.mjs";
 import { Run, firstMisfit } from "../source/state.mjs";
 import { inOrder } from "../source/order.mjs";
@@ -115,4 +117,21 @@ test("a line that is dropped, doubled or altered is refused, or the trace is not
     assert.ok(!sound(replaced(`${line}x`)), `${line}x`);
     assert.ok(!sound(replaced(line.replace(/\d+/, "99999999999999999999999"))) || !/\d/.test(line), line);
   }
+});
+
+test("a thread that is told as another one names the same, and has its ways", () => {
+  const audit = readAudits(`audit 2 wide memory_bits 14 calls 0 after 0
+thread 2048 @a ready
+  reach 2048 4 slot 128 endpoint 8192 badge 0 rights wr--
+thread 4096 ready
+  as 2048 @a
+thread 6144 ready
+  reach 6144 1 slot 256 endpoint 8192 badge 7 rights w---
+channel 2048 @a 4 -> 8192 badge 0 rights wr-- -> 2048 @a 4
+channel 6144 1 -> 8192 badge 7 rights w--- -> 2048 @a 4
+`).get(0);
+  assert.deepEqual([...audit.of(4096).words], [[128, "4"]]);
+  const ways = waysBetween(audit.ways, audit.spaces).map(({ from, to }) => [from, to]);
+  assert.deepEqual(ways, [["2048 @a", "4096"], ["4096", "2048 @a"], ["6144", "2048 @a"], ["6144", "4096"]]);
+  assert.equal(countWays(audit.ways, audit.spaces), ways.length);
 });

@@ -33,8 +33,8 @@ returns g c = λ A reached shows.
     let own : v.derivations ≡ A.derivations = forest ∙ derivations_shown A in
     let filled : AreFullSlots v.derivations c.as_slice.result.now = subst (AreFullSlots v.derivations) (sym c.as_slice.ensures.value) c.in_ok-filled.ensures.slots in
     let again : AreFullSlots v.derivations c.as_slice-3.result.now = subst (AreFullSlots v.derivations) (sym c.as_slice-3.ensures.value) c.in_ok-filled.ensures.slots in
-    let words : c.as_slice-8.result.now ≡ flat_map (endpoint_words_of A.derivations) list =
-    c.as_slice-8.ensures.value ∙ (c.in_ok-words.ensures v.derivations again ∙ (λ i. flat_map (endpoint_words_of (own i)) (c.as_slice-4.ensures.value i))) in
+    let words : c.as_slice-8.result.now ≡ flat_map (endpoint_words_of A.derivations list) list =
+    c.as_slice-8.ensures.value ∙ (c.in_ok-words.ensures v.derivations again ∙ (λ i. flat_map (endpoint_words_of (own i) (c.as_slice-4.ensures.value i)) (c.as_slice-4.ensures.value i))) in
     let ends : c.in_ok-rows.rows.endpoints.keys ≡ endpoints p (shown A) = c.in_ok-rows.ensures.endpoints ∙ ap (endpoints p) shows in
     let all : map (derivation_view p) c.as_slice-6.result.now ≡ slot_rows (shown A) =
     ap (map (derivation_view p)) c.as_slice-6.ensures.value ∙ (c.in_ok-rows.ensures.slots ∙ ap slot_rows shows) in
@@ -60,7 +60,7 @@ returns g c = λ A reached shows.
           (c.in_ok-add_revokes.ensures A reached shows ∙ ap (λ l. string_bytes c.add_channels.new.out ++ l) (flat_seen (revoke_lines_of p texts A) (derivation_view p) c.as_slice-10.result.now))
           ∙ (λ i. audit_head_line texts setup made None
           ++ (opening names texts trusted
-          ++ (flat_map (slots_lines texts (shows i)) (c.as_slice-7.ensures.value i)
+          ++ (flat_map (slots_lines texts (shows i) (c.as_slice-7.ensures.value i)) (c.as_slice-7.ensures.value i)
           ++ (channel_lines texts (words i) (ends i)
           ++ flat_map (revoke_lines_of p texts A) (rows i))))));
     }

@@ -23,4 +23,4 @@ returns-in_default c f are =
     let none : FullSlot = record { address = 0; cap = Null } in
     let at = c.in_ok-place.ensures.some in
     let held = held_there f c.args.filled.now c.in_ok-place.place c.args.reached.now.slot at.0 none are at.1.0 at.1.1 (get_or_from_slice_get c.args.filled.now c.in_ok-place.place at.0 none at.1.0) in
-    rw held (sym (no_endpoint c.args.thread c.args.reached.now.word _ c.in_default.not-Endpoint))
+    rw held (sym (no_endpoint c.args.thread c.args.shared c.args.reached.now.word _ c.in_default.not-Endpoint))

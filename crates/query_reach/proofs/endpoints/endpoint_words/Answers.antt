@@ -10,12 +10,12 @@ loop-r-preserved c =
     let none : Reached = record { word = 0; slot = 0 } in
     elim c.match-endpoint_word.branch [
       | in-Some+in_ok-push w ↦ rw (w.list-is, w.in_ok-push.ensures.items)
-          (λ f are. words_some f c.args.thread c.args.reached.now c.loop-r.r-index none w.in-Some.found c.loop-r.list.items c.loop-r-test.true
+          (λ f are. words_some f c.args.thread c.args.shared c.args.reached.now c.loop-r.r-index none w.in-Some.found c.loop-r.list.items c.loop-r-test.true
           (c.loop-r.invariant f are) (w.in-Some.ensures f are))
       | in_default w ↦ rw w.list-is
-          (λ f are. words_none f c.args.thread c.args.reached.now c.loop-r.r-index none c.loop-r.list.items c.loop-r-test.true
+          (λ f are. words_none f c.args.thread c.args.shared c.args.reached.now c.loop-r.r-index none c.loop-r.list.items c.loop-r-test.true
           (c.loop-r.invariant f are) (w.in_default.ensures f are))
     ]
 
 pub returns : goal.returns
-returns c f are = c.loop-r.invariant f are ∙ ap (endpoint_words f c.args.thread) (all_of c.args.reached.now c.loop-r.r-index (omega (arith, c.loop-r-test.false)))
+returns c f are = c.loop-r.invariant f are ∙ ap (endpoint_words f c.args.thread c.args.shared) (all_of c.args.reached.now c.loop-r.r-index (omega (arith, c.loop-r-test.false)))
