@@ -4,3 +4,4 @@ pub mod Ended
 pub mod Joined
 pub mod Lines
 pub mod Seen
+pub mod ToldAs

@@ -1,6 +1,6 @@
 -- Threads that can name just the same, by the same words: the first of them is told in full, and stands for the others.
-use Rattle.std.specs.Prelude.{ℕ, not, ◌==◌, ◌&&◌, cond, Bool, List, length, Option, Some, None}
-use Rattle.std.specs.List.{find, list_any}
+use Rattle.std.specs.Prelude.{◌≡◌, ℕ, not, ◌==◌, ◌&&◌, cond, Bool, false, List, length, Option, Some, None}
+use Rattle.std.specs.List.{Contains, find, list_any}
 use Rattle.std.specs.Cmp.Lexicographic.{pointwise}
 use Rattle.query_reach.specs.declared.held.Held.{Held}
 use Rattle.query_reach.specs.declared.reached.Reached.{Reached}
@@ -30,3 +30,19 @@ told_as list t = other_than t.thread (find (name_alike t) list)
 -- another thread can name what a thread can
 abbrev pub is_shared : List ThreadSlots → ThreadSlots → Bool
 is_shared list t = list_any (λ (u : ThreadSlots). not (u.thread == t.thread) && name_alike t u) list
+
+-- ---- what that comes to
+
+-- two threads can name the same, by the same words
+pub record NameTheSame (t u : ThreadSlots) : Type 0 where
+  pub reached : t.reached.items ≡ u.reached.items
+  pub held : t.held.items ≡ u.held.items
+
+-- where a thread is told as another one, that one is listed, and both can name the same
+abbrev pub IsToldRight : List ThreadSlots → ThreadSlots → ℕ → Type 0
+IsToldRight list t first = told_as list t ≡ Some first → (u : ThreadSlots) × (Contains list u × ((u.thread ≡ first) × NameTheSame t u))
+
+-- of threads that can name the same, and something, one alone is not told as another one
+abbrev pub IsToldOnce : List ThreadSlots → ThreadSlots → ThreadSlots → Type 0
+IsToldOnce list t u =
+    Contains list t → told_as list t ≡ None → told_as list u ≡ None → NameTheSame t u → (length t.reached.items == 0) ≡ false → t.thread ≡ u.thread

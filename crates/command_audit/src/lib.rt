@@ -14,7 +14,7 @@ mod text;
 mod threads;
 
 pub use ends::Asked;
-pub use laws::a_revoke_does_this;
+pub use laws::{a_revoke_does_this, told_as_is_the_same};
 pub use others::StateAudit;
 pub use slot::SlotAudit;
 pub use threads::ThreadSlots;
