@@ -18,4 +18,4 @@ pub use command_core::{
 pub use migrating::{Migrator, table_text};
 pub use notes::{add_unmet, notes_on, unmet_calls};
 pub use run::{CountedText, counted_text_of, refused, run_calls, run_setup, text_of, verdict_on};
-pub use state::{OnState, StateCommand};
+pub use state::{Behind, OnState, StateCommand};

@@ -1,8 +1,9 @@
 //! Commands on the state after the first calls of a set-up: how that state is made is the same for all of them.
-ghost use Rattle.std.specs.Prelude.{◌≡◌, ℕ, IfOk};
+ghost use Rattle.std.specs.Prelude.{◌≡◌, ◌≤◌, ℕ, IfOk, length};
 ghost use Rattle.kernel_abstract.specs.Memory.{IsInMemory};
-ghost use Rattle.kernel_abstract.specs.Reached.{IsReached};
-ghost use Rattle.kernel_abstract.specs.State.{State, shown};
+ghost use Rattle.kernel_abstract.specs.Plan.{IsPlan};
+ghost use Rattle.kernel_abstract.specs.State.{shown};
+ghost use Rattle.setup_report.specs.Behind.{state_behind};
 ghost use Rattle.setup_values.specs.Names.{names_view};
 
 use crate::command::Command;
@@ -15,11 +16,22 @@ use setup_report::{calls_made, kernel_after};
 use setup_values::Name;
 use slot_core::{DerivationStore, MakeStore};
 use std::alloc::{AllocError, Global};
+use toml::Table;
+
+/// A set-up that was read, with its names and its table, and how many of its calls are made.
+#[derive(Clone, Copy, Drop)]
+pub struct Behind<'a> {
+    pub names: &'a [Name],
+    pub setup: &'a Setup,
+    pub table: &'a Table,
+    pub made: usize,
+}
 
 /// What is written of the state after the first calls of a set-up.
 pub trait StateCommand {
     ghost use Rattle.std.specs.Prelude.{List};
     ghost use Rattle.cap_core.specs.declared.profile.ProfileName.{ProfileName};
+    ghost use Rattle.kernel_abstract.specs.State.{State};
     ghost use Rattle.setup_values.specs.Names.{Names};
     ghost use Rattle.setup_format.specs.Views.{SetupView};
     ghost use Rattle.command_core.specs.declared.fault.Verdict.{Verdict};
@@ -28,7 +40,7 @@ pub trait StateCommand {
     /// to this state.
     ghost answers: { Self → ProfileName → Names → SetupView → ℕ → State → List ℕ → Verdict → Type 0 };
 
-    /// The text that is to be written of a kernel, the verdict, and what standard error tells.
+    /// The text that is to be written, by the kernel that the first calls led to, the verdict, and what standard error tells.
     ///
     /// # Errors
     ///
@@ -36,14 +48,15 @@ pub trait StateCommand {
     fn answer<P: Profile, S: MakeStore<P> + DerivationStore<P>, W: MakeWaiters<P>>(
         &self,
         alloc: Global,
-        names: &[Name],
-        setup: &Setup,
-        made: usize,
+        behind: &Behind<'_>,
         kernel: &Kernel<P, S, W>,
     ) -> Result<Answer, AllocError>
-        requires { (memory : ℕ) × IsInMemory P.profile memory kernel.now }
-        ensures { IfOk result (λ answer. (A : State) → IsReached P.profile A → kernel.now ≡ shown A
-            → answers self.now P.profile (names_view names.now) setup.now made A answer.text.items answer.verdict) };
+        requires plan { IsPlan P.profile behind.now.setup.now.plan }
+        requires made { behind.now.made ≤ length behind.now.setup.now.calls }
+        requires shows { kernel.now ≡ shown (state_behind P.profile behind.now.setup.now behind.now.made) }
+        requires within { (memory : ℕ) × IsInMemory P.profile memory kernel.now }
+        ensures { IfOk result (λ answer. answers self.now P.profile (names_view behind.now.names.now) behind.now.setup.now behind.now.made
+            (state_behind P.profile behind.now.setup.now behind.now.made) answer.text.items answer.verdict) };
 }
 
 /// A command, on the state after the first `after` calls, or after all. Where the set-up has fewer calls, nothing is written, and
@@ -64,14 +77,19 @@ impl<C: StateCommand> Command for OnState<C> {
         alloc: Global,
         read: ReadSetup,
     ) -> Result<Answer, AllocError> {
-        let (names, setup) = (read.names.as_slice(), &read.setup);
+        let setup = &read.setup;
         let Some(made) = calls_made(setup, self.after) else {
             let (asked, calls) = (self.after.unwrap_or(0), setup.calls().len());
             let absent = format!(in alloc; "--after {asked}: the set-up has {calls} calls")?;
             return Ok(Answer::absent(alloc, absent));
         };
         let kernel = kernel_after::<P, S, W>(alloc, setup, made)?;
-        self.command
-            .answer::<P, S, W>(alloc, names, setup, made, &kernel)
+        let behind = Behind {
+            names: read.names.as_slice(),
+            setup,
+            table: &read.table,
+            made,
+        };
+        self.command.answer::<P, S, W>(alloc, &behind, &kernel)
     }
 }

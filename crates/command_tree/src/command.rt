@@ -2,11 +2,12 @@
 use crate::form::Form;
 use crate::text::text_in;
 use cap_core::Profile;
-use command_check::Command;
+use command_check::{Behind, Command, OnState, StateCommand};
 use command_core::{Answer, Verdict};
 use ipc_core::MakeWaiters;
+use kernel_core::Kernel;
 use setup_format::ReadSetup;
-use setup_report::{Naming, calls_made, kernel_after};
+use setup_report::Naming;
 use slot_core::{DerivationStore, MakeStore};
 use std::alloc::{AllocError, Global};
 
@@ -23,6 +24,29 @@ pub struct Tree {
     pub after: Option<u64>,
 }
 
+impl StateCommand for Tree {
+    ghost use Rattle.command_tree.specs.Trees.{IsTree};
+
+    ghost answers = { λ tree. IsTree tree.form tree.names };
+
+    fn answer<P: Profile, S: MakeStore<P> + DerivationStore<P>, W: MakeWaiters<P>>(
+        &self,
+        alloc: Global,
+        behind: &Behind<'_>,
+        kernel: &Kernel<P, S, W>,
+    ) -> Result<Answer, AllocError> {
+        let Behind {
+            names,
+            setup,
+            made,
+            ..
+        } = *behind;
+        let naming = Naming::of::<P, S, W>(alloc, self.names, names, setup.plan(), kernel)?;
+        let text = text_in::<P, S, W>(alloc, self.form, &naming, setup, made, kernel)?;
+        Ok(Answer::new(alloc, text, Verdict::AllMet))
+    }
+}
+
 impl Command for Tree {
     ghost use Rattle.command_check.specs.Commands.{IsStateAnswer};
     ghost use Rattle.command_tree.specs.Trees.{IsTree};
@@ -34,15 +58,7 @@ impl Command for Tree {
         alloc: Global,
         read: ReadSetup,
     ) -> Result<Answer, AllocError> {
-        let (names, setup) = (read.names.as_slice(), &read.setup);
-        let Some(made) = calls_made(setup, self.after) else {
-            let (asked, calls) = (self.after.unwrap_or(0), setup.calls().len());
-            let absent = format!(in alloc; "--after {asked}: the set-up has {calls} calls")?;
-            return Ok(Answer::absent(alloc, absent));
-        };
-        let kernel = kernel_after::<P, S, W>(alloc, setup, made)?;
-        let naming = Naming::of::<P, S, W>(alloc, self.names, names, setup.plan(), &kernel)?;
-        let text = text_in::<P, S, W>(alloc, self.form, &naming, setup, made, &kernel)?;
-        Ok(Answer::new(alloc, text, Verdict::AllMet))
+        let (command, after) = (*self, self.after);
+        OnState { command, after }.answer::<P, S, W>(alloc, read)
     }
 }
