@@ -1,4 +1,5 @@
 pub mod Alone
+pub mod Behind
 pub mod Children
 pub mod Ended
 pub mod Joined

@@ -1,5 +1,5 @@
 //! The audit of a state without the threads that are trusted, by addresses or by names, as the answer of a command.
-ghost use Rattle.std.specs.Prelude.{◌≡◌, ℕ, IfOk, map};
+ghost use Rattle.std.specs.Prelude.{◌≡◌, ℕ, IfOk};
 ghost use Rattle.kernel_abstract.specs.Memory.{IsInMemory};
 ghost use Rattle.kernel_abstract.specs.Plan.{IsPlan};
 ghost use Rattle.kernel_abstract.specs.Reached.{IsReached};
@@ -7,17 +7,16 @@ ghost use Rattle.kernel_abstract.specs.State.{State, shown};
 ghost use Rattle.setup_values.specs.Names.{names_view};
 ghost use Rattle.setup_report.specs.Naming.{texts_of};
 ghost use Rattle.command_audit.specs.Audit.{IsWholeAudit};
-ghost use Rattle.command_audit.specs.Audits.{IsStateAudited};
 
 use crate::state::{Heading, whole_audit};
 use cap_core::Profile;
-use command_check::Command;
+use command_check::{Behind, Command, OnState, StateCommand};
 use command_core::{Answer, Verdict};
 use ipc_core::MakeWaiters;
 use kernel_core::Kernel;
 use setup_format::{ReadSetup, Setup};
 use setup_objects::{ObjectKind, absent_object, are_meant, objects_meant};
-use setup_report::{Naming, calls_made, kernel_after};
+use setup_report::Naming;
 use setup_values::Name;
 use slot_core::{DerivationStore, MakeStore};
 use std::alloc::{AllocError, Global};
@@ -60,21 +59,24 @@ fn told_by<P: Profile, S: MakeStore<P> + DerivationStore<P>, W: MakeWaiters<P>>(
     Ok(text)
 }
 
-impl StateAudit<'_> {
-    /// The answer by a kernel.
-    fn answer_of<P: Profile, S: MakeStore<P> + DerivationStore<P>, W: MakeWaiters<P>>(
+impl StateCommand for StateAudit<'_> {
+    ghost use Rattle.std.specs.Prelude.{map};
+    ghost use Rattle.command_audit.specs.Audits.{IsStateAudited};
+
+    ghost answers = { λ audit. IsStateAudited (map (λ w. w.now) audit.without.now) audit.names };
+
+    fn answer<P: Profile, S: MakeStore<P> + DerivationStore<P>, W: MakeWaiters<P>>(
         &self,
         alloc: Global,
-        names: &[Name],
-        setup: &Setup,
-        made: usize,
+        behind: &Behind<'_>,
         kernel: &Kernel<P, S, W>,
-    ) -> Result<Answer, AllocError>
-        requires plan { IsPlan P.profile setup.now.plan }
-        requires memory { (memory : ℕ) × IsInMemory P.profile memory kernel.now }
-        ensures { IfOk result (λ answer. (A : State) → IsReached P.profile A → kernel.now ≡ shown A
-            → IsStateAudited (map (λ w. w.now) self.now.without.now) self.now.names P.profile (names_view names.now) setup.now made A answer.text.items answer.verdict) }
-    {
+    ) -> Result<Answer, AllocError> {
+        let Behind {
+            names,
+            setup,
+            made,
+            ..
+        } = *behind;
         let (kind, words) = (ObjectKind::Thread, self.without);
         if !are_meant::<P, S, W>(names, setup, kernel, kind, words) {
             let option = "--without";
@@ -104,13 +106,7 @@ impl Command for StateAudit<'_> {
         alloc: Global,
         read: ReadSetup,
     ) -> Result<Answer, AllocError> {
-        let (names, setup) = (read.names.as_slice(), &read.setup);
-        let Some(made) = calls_made(setup, self.after) else {
-            let (asked, calls) = (self.after.unwrap_or(0), setup.calls().len());
-            let absent = format!(in alloc; "--after {asked}: the set-up has {calls} calls")?;
-            return Ok(Answer::absent(alloc, absent));
-        };
-        let kernel = kernel_after::<P, S, W>(alloc, setup, made)?;
-        self.answer_of::<P, S, W>(alloc, names, setup, made, &kernel)
+        let (command, after) = (*self, self.after);
+        OnState { command, after }.answer::<P, S, W>(alloc, read)
     }
 }

@@ -4,22 +4,20 @@ ghost use Rattle.kernel_abstract.specs.Plan.{IsPlan};
 ghost use Rattle.kernel_abstract.specs.Reached.{IsReached};
 ghost use Rattle.kernel_abstract.specs.State.{State, shown};
 ghost use Rattle.setup_values.specs.Names.{names_view};
-ghost use Rattle.setup_format.specs.Read.{read_view};
 ghost use Rattle.setup_report.specs.Naming.{texts_of};
-ghost use Rattle.command_check.specs.Commands.{IsStateAnswer, text_or_absent as answered_of};
+ghost use Rattle.command_check.specs.Commands.{text_or_absent as answered_of};
 ghost use Rattle.command_audit.specs.Audit as spec;
-ghost use Rattle.command_audit.specs.Audits.{IsAudited};
 
 use crate::revokes::is_cleared;
 use crate::state::audit_of_slot;
 use cap_core::Profile;
-use command_check::Command;
+use command_check::{Behind, Command, OnState, StateCommand};
 use command_core::{Answer, Verdict};
 use ipc_core::MakeWaiters;
 use kernel_core::Kernel;
 use setup_format::{ReadSetup, Setup};
 use setup_objects::{absent_slot, slot_meant};
-use setup_report::{Naming, calls_made, kernel_after};
+use setup_report::Naming;
 use setup_values::Name;
 use slot_core::{DerivationStore, MakeStore};
 use std::alloc::{AllocError, Global};
@@ -78,44 +76,34 @@ pub struct SlotAudit<'a> {
     pub after: Option<u64>,
 }
 
-impl SlotAudit<'_> {
-    /// The answer of a slot, by a kernel.
-    fn answer_of<P: Profile, S: MakeStore<P> + DerivationStore<P>, W: MakeWaiters<P>>(
+/// The audit of a revoke of the slot at an address.
+#[derive(Clone, Copy, Drop)]
+struct RevokeAudit {
+    slot: u64,
+    names: bool,
+}
+
+impl StateCommand for RevokeAudit {
+    ghost use Rattle.command_audit.specs.Audits.{IsAudited};
+
+    ghost answers = { λ audit. IsAudited audit.names audit.slot };
+
+    fn answer<P: Profile, S: MakeStore<P> + DerivationStore<P>, W: MakeWaiters<P>>(
         &self,
         alloc: Global,
-        names: &[Name],
-        setup: &Setup,
-        made: usize,
-        slot: u64,
+        behind: &Behind<'_>,
         kernel: &Kernel<P, S, W>,
-    ) -> Result<Answer, AllocError>
-        requires { IsPlan P.profile setup.now.plan }
-        ensures { IfOk result (λ answer. (A : State) → IsReached P.profile A → kernel.now ≡ shown A
-            → IsAudited self.now.names slot P.profile (names_view names.now) setup.now made A answer.text.items answer.verdict) }
-    {
+    ) -> Result<Answer, AllocError> {
+        let slot = self.slot;
+        let Behind {
+            names,
+            setup,
+            made,
+            ..
+        } = *behind;
         let text = slot_answer::<P, S, W>(alloc, self.names, names, setup, made, slot, kernel)?;
         let answer = answered(alloc, text, slot, made)?;
         Ok(answer)
-    }
-
-    /// The answer of a slot, by the set-up.
-    fn answer_at<P: Profile, S: MakeStore<P> + DerivationStore<P>, W: MakeWaiters<P>>(
-        &self,
-        alloc: Global,
-        slot: u64,
-        read: ReadSetup,
-    ) -> Result<Answer, AllocError>
-        requires { IsPlan P.profile read.setup.plan }
-        ensures { IfOk result (λ answer. IsStateAnswer (IsAudited self.now.names slot) self.now.after P.profile (read_view read) answer.text.items answer.verdict) }
-    {
-        let (names, setup) = (read.names.as_slice(), &read.setup);
-        let Some(made) = calls_made(setup, self.after) else {
-            let (asked, calls) = (self.after.unwrap_or(0), setup.calls().len());
-            let absent = format!(in alloc; "--after {asked}: the set-up has {calls} calls")?;
-            return Ok(Answer::absent(alloc, absent));
-        };
-        let kernel = kernel_after::<P, S, W>(alloc, setup, made)?;
-        self.answer_of::<P, S, W>(alloc, names, setup, made, slot, &kernel)
     }
 }
 
@@ -132,7 +120,11 @@ impl Command for SlotAudit<'_> {
         let (names, word) = (read.names.as_slice(), self.slot.as_bytes());
         match slot_meant::<P>(names, &read.setup, word) {
             None => Ok(Answer::absent(alloc, absent_slot(alloc, names, "--slot", self.slot)?)),
-            Some(slot) => self.answer_at::<P, S, W>(alloc, slot, read),
+            Some(slot) => {
+                let SlotAudit { names, after, .. } = *self;
+                let command = RevokeAudit { slot, names };
+                OnState { command, after }.answer::<P, S, W>(alloc, read)
+            }
         }
     }
 }
