@@ -11,7 +11,7 @@ ghost use Rattle.command_how.specs.How as spec;
 
 use crate::telling::{Behind, told};
 use cap_core::Profile;
-use command_check::Command;
+use command_check::{Behind as FirstCalls, Command, OnState, StateCommand};
 use command_core::{Answer, Verdict};
 use command_how_witness::{Asked, Happening};
 use command_parts::{named, parts_of_callers};
@@ -20,7 +20,7 @@ use kernel_core::Kernel;
 use query_parts::{Parts, PartsFault};
 use setup_format::{ReadSetup, Setup};
 use setup_objects::{ObjectKind, absent_object, are_meant, object_meant};
-use setup_report::{StateRows, calls_made, kernel_after, state_rows};
+use setup_report::{StateRows, state_rows};
 use setup_values::Name;
 use slot_core::{CapStore, DerivationStore, MakeStore};
 use std::alloc::{AllocError, Global};
@@ -265,6 +265,27 @@ impl How<'_> {
     }
 }
 
+impl StateCommand for How<'_> {
+    ghost use Rattle.command_how.specs.How.{IsHow, how_words};
+
+    ghost answers = { λ how. IsHow (how_words how) };
+
+    fn answer<P: Profile, S: MakeStore<P> + DerivationStore<P>, W: MakeWaiters<P>>(
+        &self,
+        alloc: Global,
+        first: &FirstCalls<'_>,
+        kernel: &Kernel<P, S, W>,
+    ) -> Result<Answer, AllocError> {
+        let behind = Behind {
+            names: first.names,
+            setup: first.setup,
+            table: first.table,
+            made: first.made,
+        };
+        self.answer_by::<P, S, W>(alloc, &behind, kernel)
+    }
+}
+
 impl Command for How<'_> {
     ghost use Rattle.command_check.specs.Commands.{IsStateAnswer};
     ghost use Rattle.command_how.specs.How.{IsHow, how_words};
@@ -276,19 +297,7 @@ impl Command for How<'_> {
         alloc: Global,
         read: ReadSetup,
     ) -> Result<Answer, AllocError> {
-        let (names, setup, table) = (read.names.as_slice(), &read.setup, &read.table);
-        let Some(made) = calls_made(setup, self.after) else {
-            let (asked, calls) = (self.after.unwrap_or(0), setup.calls().len());
-            let absent = format!(in alloc; "--after {asked}: the set-up has {calls} calls")?;
-            return Ok(Answer::absent(alloc, absent));
-        };
-        let kernel = kernel_after::<P, S, W>(alloc, setup, made)?;
-        let behind = Behind {
-            names,
-            setup,
-            table,
-            made,
-        };
-        self.answer_by::<P, S, W>(alloc, &behind, &kernel)
+        let (command, after) = (*self, self.after);
+        OnState { command, after }.answer::<P, S, W>(alloc, read)
     }
 }
