@@ -108,6 +108,12 @@ impl<P: Profile> Waiters<P> for LinkedWaiters<P> {
 }
 
 impl<P: Profile> MakeWaiters<P> for LinkedWaiters<P> {
+    type Saved = LinkedWaiters<P>;
+
+    ghost saved_waits = { λ w. waits_in P.profile w.tables };
+
+    ghost saved_memory = { λ w. w.memory_bits };
+
     fn new(alloc: Global, memory_bits: u32) -> Result<Self, AllocError> {
         let threads = 1usize << (memory_bits - P::TCB_BITS);
         let endpoints = 1usize << (memory_bits - P::ENDPOINT_BITS);
@@ -152,5 +158,13 @@ impl<P: Profile> MakeWaiters<P> for LinkedWaiters<P> {
             memory_bits: self.memory_bits,
             profile: PhantomData,
         })
+    }
+
+    fn save(&self, alloc: Global) -> Result<LinkedWaiters<P>, AllocError> {
+        self.copy(alloc)
+    }
+
+    fn restore(saved: &LinkedWaiters<P>, spare: Self) -> Result<Self, AllocError> {
+        saved.copy_into(spare)
     }
 }

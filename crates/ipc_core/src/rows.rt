@@ -29,6 +29,19 @@ pub struct RowWaiters<P: Profile> {
     ghost room: { 2 ^ memory_bits ≤ vec_capacity rows * tcb_size P.profile },
 }
 
+/// The threads that wait, a row each, in the order of waiting, and how many there is room for.
+#[derive(Drop)]
+pub struct SavedRows<P: Profile> {
+    rows: Vec<WaitRow>,
+    room: usize,
+    memory_bits: u32,
+    profile: PhantomData<P>,
+    ghost distinct: { AreDistinct rows.items },
+    ghost placed: { ArePlaced P.profile memory_bits rows.items },
+    ghost alike: { AreAlike (waits_of rows.items) } by { alike-prop (waits_of rows.items) },
+    ghost fits: { 2 ^ memory_bits ≤ room * tcb_size P.profile },
+}
+
 impl<P: Profile> Waiters<P> for RowWaiters<P> {
     ghost waits = { λ w. waits_of w.rows.items };
 
@@ -111,6 +124,12 @@ impl<P: Profile> Waiters<P> for RowWaiters<P> {
 }
 
 impl<P: Profile> MakeWaiters<P> for RowWaiters<P> {
+    type Saved = SavedRows<P>;
+
+    ghost saved_waits = { λ w. waits_of w.rows.items };
+
+    ghost saved_memory = { λ w. w.memory_bits };
+
     fn new(alloc: Global, memory_bits: u32) -> Result<Self, AllocError> {
         let threads = 1usize << (memory_bits - P::TCB_BITS);
         Ok(RowWaiters {
@@ -138,6 +157,27 @@ impl<P: Profile> MakeWaiters<P> for RowWaiters<P> {
         Ok(RowWaiters {
             rows,
             memory_bits: self.memory_bits,
+            profile: PhantomData,
+        })
+    }
+
+    fn save(&self, alloc: Global) -> Result<SavedRows<P>, AllocError> {
+        Ok(SavedRows {
+            rows: Vec::from_slice(alloc, &self.rows)?,
+            room: self.rows.capacity(),
+            memory_bits: self.memory_bits,
+            profile: PhantomData,
+        })
+    }
+
+    fn restore(saved: &SavedRows<P>, spare: Self) -> Result<Self, AllocError> {
+        let mut rows = spare.rows;
+        rows.clear();
+        rows.reserve_exact(saved.room)?;
+        rows.extend_from_slice(saved.rows.as_slice())?;
+        Ok(RowWaiters {
+            rows,
+            memory_bits: saved.memory_bits,
             profile: PhantomData,
         })
     }

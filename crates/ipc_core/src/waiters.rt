@@ -101,6 +101,13 @@ pub trait Waiters<P: Profile> {
 
 /// Waiting threads that can be made.
 pub trait MakeWaiters<P: Profile>: Waiters<P> + Drop {
+    /// Who waits, without the room for more.
+    type Saved: Drop;
+
+    ghost saved_waits: { Self.Saved → Waits };
+
+    ghost saved_memory: { Self.Saved → ℕ };
+
     /// Nobody waits, with room for every thread that a memory of 2^`memory_bits` bytes can hold.
     fn new(alloc: Global, memory_bits: u32) -> Result<Self, AllocError>
         requires least { MIN_MEMORY_BITS ≤ memory_bits }
@@ -117,4 +124,15 @@ pub trait MakeWaiters<P: Profile>: Waiters<P> + Drop {
     fn copy_into(&self, spare: Self) -> Result<Self, AllocError>
         ensures waits { IfOk result (λ w. Self.waits w ≡ Self.waits self.now) }
         ensures memory { IfOk result (λ w. Self.memory_bits w ≡ Self.memory_bits self.now) };
+
+    /// Who waits, in no more room than that takes.
+    fn save(&self, alloc: Global) -> Result<Self::Saved, AllocError>
+        ensures waits { IfOk result (λ w. Self.saved_waits w ≡ Self.waits self.now) }
+        ensures memory { IfOk result (λ w. Self.saved_memory w ≡ Self.memory_bits self.now) };
+
+    /// The threads wait that were saved, in the room of others that are given up. It takes memory only where they have too
+    /// little room.
+    fn restore(saved: &Self::Saved, spare: Self) -> Result<Self, AllocError>
+        ensures waits { IfOk result (λ w. Self.waits w ≡ Self.saved_waits saved.now) }
+        ensures memory { IfOk result (λ w. Self.memory_bits w ≡ Self.saved_memory saved.now) };
 }

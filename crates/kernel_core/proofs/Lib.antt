@@ -4,3 +4,4 @@ pub mod Booted
 pub mod Messages
 pub mod Capabilities
 pub mod Endings
+pub mod Saved

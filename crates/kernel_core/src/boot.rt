@@ -10,7 +10,7 @@ ghost use Rattle.kernel_abstract.specs.Boot.{boot as booted};
 
 use crate::ending::Threads;
 use crate::kernel::Kernel;
-use crate::rows::ThreadRow;
+use crate::rows::{ThreadRow, write_rows};
 use cap_core::Profile;
 use ipc_core::MakeWaiters;
 use kernel_boot::{BootPlan, booted_store};
@@ -100,8 +100,7 @@ impl<P: Profile, S: MakeStore<P>, W: MakeWaiters<P>> Kernel<P, S, W> {
         let store = self.store.copy_into(store)?;
         let waiters = self.threads.waiters.copy_into(threads.waiters)?;
         let mut rows = threads.rows;
-        rows.clear();
-        rows.extend_from_slice(self.threads.rows.as_slice())?;
+        write_rows(&mut rows, self.threads.rows.as_slice());
         Ok(Kernel {
             store,
             threads: Threads {

@@ -12,9 +12,11 @@ mod placements;
 mod refusals;
 mod revoking;
 mod rows;
+mod saving;
 
 pub use kernel::Kernel;
 pub use kernel_abstract::reason::{Held, Miss, Reason, Right, Word};
 pub use kernel_abstract::{Call, Inbox, Op, Reply, ThreadState, call, invocation};
 pub use kernel_boot::{BootPlan, PlanDefect, plan};
 pub use kernel_checks::Hint;
+pub use saving::SavedKernel;

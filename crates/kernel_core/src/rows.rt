@@ -1,12 +1,14 @@
 //! The rows in which a kernel keeps its threads.
-ghost use Rattle.std.specs.Prelude.{◌≡◌, length, IsSome};
+ghost use Rattle.std.specs.Prelude.{◌≡◌, length, replicate, IfOk, IsSome, None};
 ghost use Rattle.std.specs.FinMap as map;
 ghost use Rattle.cap_core.specs.Numbers.{tcb_size};
 ghost use Rattle.kernel_core.specs.Rows.{rows_map, state_with};
+ghost use Rattle.kernel_core.specs.SavedRows.{rows_with};
 
 use cap_core::Profile;
 use ipc_core::Role;
 use kernel_abstract::call::{Inbox, ThreadState};
+use std::alloc::{AllocError, Global};
 
 /// What a kernel keeps of a thread beside how it waits: whether it is inactive where it does not wait, and the last
 /// message that was delivered to it.
@@ -54,4 +56,47 @@ pub fn set_row<P: Profile>(rows: &mut Vec<Option<ThreadRow>>, thread: u64, row: 
 {
     let place = (thread >> P::TCB_BITS) as usize;
     rows[place] = Some(row);
+}
+
+/// The row of a thread that there is, with its place among all rows.
+#[derive(Clone, Copy)]
+pub struct LiveRow {
+    pub place: usize,
+    pub row: ThreadRow,
+}
+
+/// The rows that there are, each with its place.
+pub fn live_rows(alloc: Global, rows: &[Option<ThreadRow>]) -> Result<Vec<LiveRow>, AllocError>
+    ensures { IfOk result (λ live. rows_with (replicate (length rows.now) None) live.items ≡ rows.now) }
+{
+    let mut live = Vec::new(alloc);
+    for place in 0..rows.len() {
+        if let Some(row) = rows[place] {
+            live.push(LiveRow { place, row })?;
+        }
+    }
+    Ok(live)
+}
+
+/// Puts rows into their places.
+pub fn put_rows(rows: &mut Vec<Option<ThreadRow>>, live: &[LiveRow])
+    ensures { rows.new.items ≡ rows_with rows.old.items live.now }
+{
+    for one in live {
+        if let Some(row) = rows.get_mut(one.place) {
+            *row = Some(one.row);
+        }
+    }
+}
+
+/// Makes rows the same as others, of which there are as many. Where neither has a row, nothing is written.
+pub fn write_rows(rows: &mut Vec<Option<ThreadRow>>, new: &[Option<ThreadRow>])
+    requires { length rows.old.items ≡ length new.now }
+    ensures { rows.new.items ≡ new.now }
+{
+    for place in 0..new.len() {
+        if new[place].is_some() || rows[place].is_some() {
+            rows[place] = new[place];
+        }
+    }
 }

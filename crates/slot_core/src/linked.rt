@@ -189,6 +189,12 @@ impl<P: Profile> MakeStore<P> for LinkedStore<P> {
     ghost use Rattle.std.specs.Prelude.{IfOk};
     ghost use Rattle.kernel_forest.specs.Marked.{forest_of};
 
+    type Saved = LinkedStore<P>;
+
+    ghost saved_forest = { λ s. forest_of P.profile s.0 };
+
+    ghost saved_memory = { λ s. s.1 };
+
     fn new(alloc: Global, memory_bits: u32) -> Result<LinkedStore<P>, AllocError> {
         Ok(LinkedStore {
             links: Vec::from_elem(alloc, EMPTY, 1 << (memory_bits - P::SLOT_BITS))?,
@@ -239,6 +245,22 @@ impl<P: Profile> MakeStore<P> for LinkedStore<P> {
             last: self.last,
             profile: PhantomData,
         })
+    }
+
+    fn save(&self, alloc: Global) -> Result<LinkedStore<P>, AllocError>
+        ensures list { IfOk result (λ s. s ≡ self.now) }
+        ensures forest { IfOk result (λ s. forest_of P.profile s.0 ≡ forest_of P.profile self.now.0) }
+        ensures memory { IfOk result (λ s. s.1 ≡ self.now.1) }
+    {
+        self.copy(alloc)
+    }
+
+    fn restore(saved: &LinkedStore<P>, spare: LinkedStore<P>) -> Result<LinkedStore<P>, AllocError>
+        ensures list { IfOk result (λ s. s ≡ saved.now) }
+        ensures forest { IfOk result (λ s. forest_of P.profile s.0 ≡ forest_of P.profile saved.now.0) }
+        ensures memory { IfOk result (λ s. s.1 ≡ saved.now.1) }
+    {
+        saved.copy_into(spare)
     }
 }
 

@@ -62,6 +62,27 @@ impl<P: Profile> Model for RowStore<P> {
     ghost invariant = { λ s. IsRowStore P.profile s.memory_bits (vec_capacity s.rows) s.rows.items };
 }
 
+/// The full slots of a store in the preorder of their forest, and how many the store has room for.
+#[derive(Drop)]
+pub struct SavedRows<P: Profile> {
+    rows: Vec<Row>,
+    room: usize,
+    memory_bits: u32,
+    profile: PhantomData<P>,
+}
+
+impl<P: Profile> Model for SavedRows<P> {
+    ghost use Rattle.std.specs.Prelude.{ℕ, List};
+    ghost use Rattle.slot_core.specs.declared.rows.Row.{Row};
+    ghost use Rattle.slot_core.specs.Rows.{IsRowStore};
+
+    ghost Value = { List Row × ℕ };
+
+    ghost view = { λ s. (s.rows.items, s.memory_bits) };
+
+    ghost invariant = { λ s. IsRowStore P.profile s.memory_bits s.room s.rows.items };
+}
+
 // The place of a slot's row, or the number of rows where the slot is empty.
 fn place_of(rows: &[Row], slot: Slot) -> usize
     ensures { result ≡ place_in slot.place rows.now }
@@ -184,6 +205,14 @@ impl<P: Profile> CapStore<P> for RowStore<P> {
 }
 
 impl<P: Profile> MakeStore<P> for RowStore<P> {
+    ghost use Rattle.slot_core.specs.Rows.{forest_of};
+
+    type Saved = SavedRows<P>;
+
+    ghost saved_forest = { λ s. forest_of P.profile s.0 };
+
+    ghost saved_memory = { λ s. s.1 };
+
     fn new(alloc: Global, memory_bits: u32) -> Result<RowStore<P>, AllocError> {
         Ok(RowStore {
             rows: Vec::with_capacity(alloc, 1 << (memory_bits - P::SLOT_BITS))?,
@@ -210,6 +239,27 @@ impl<P: Profile> MakeStore<P> for RowStore<P> {
         Ok(RowStore {
             rows,
             memory_bits: self.memory_bits,
+            profile: PhantomData,
+        })
+    }
+
+    fn save(&self, alloc: Global) -> Result<SavedRows<P>, AllocError> {
+        Ok(SavedRows {
+            rows: Vec::from_slice(alloc, &self.rows)?,
+            room: self.rows.capacity(),
+            memory_bits: self.memory_bits,
+            profile: PhantomData,
+        })
+    }
+
+    fn restore(saved: &SavedRows<P>, spare: RowStore<P>) -> Result<RowStore<P>, AllocError> {
+        let mut rows = spare.rows;
+        rows.clear();
+        rows.reserve_exact(saved.room)?;
+        rows.extend_from_slice(saved.rows.as_slice())?;
+        Ok(RowStore {
+            rows,
+            memory_bits: saved.memory_bits,
             profile: PhantomData,
         })
     }

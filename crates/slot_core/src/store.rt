@@ -108,6 +108,13 @@ pub trait CapStore<P: Profile> {
 
 /// A store that can be made.
 pub trait MakeStore<P: Profile>: CapStore<P> + Drop {
+    /// What a store holds, without the room for more.
+    type Saved: Drop;
+
+    ghost saved_forest: { Self.Saved → Forest Entry };
+
+    ghost saved_memory: { Self.Saved → ℕ };
+
     /// An empty store for a memory of 2^`memory_bits` bytes, with all the room that it will ever need.
     fn new(alloc: Global, memory_bits: u32) -> Result<Self, AllocError>
         requires least { MIN_MEMORY_BITS ≤ memory_bits }
@@ -124,4 +131,15 @@ pub trait MakeStore<P: Profile>: CapStore<P> + Drop {
     fn copy_into(&self, spare: Self) -> Result<Self, AllocError>
         ensures forest { IfOk result (λ s. Self.forest s ≡ Self.forest self.now) }
         ensures memory { IfOk result (λ s. Self.memory_bits s ≡ Self.memory_bits self.now) };
+
+    /// What a store holds, in no more room than that takes.
+    fn save(&self, alloc: Global) -> Result<Self::Saved, AllocError>
+        ensures forest { IfOk result (λ s. Self.saved_forest s ≡ Self.forest self.now) }
+        ensures memory { IfOk result (λ s. Self.saved_memory s ≡ Self.memory_bits self.now) };
+
+    /// A store that holds what was saved, in the room of one that is given up. It takes memory only where that has too little
+    /// room.
+    fn restore(saved: &Self::Saved, spare: Self) -> Result<Self, AllocError>
+        ensures forest { IfOk result (λ s. Self.forest s ≡ Self.saved_forest saved.now) }
+        ensures memory { IfOk result (λ s. Self.memory_bits s ≡ Self.saved_memory saved.now) };
 }

@@ -23,7 +23,7 @@ use Rattle.kernel_abstract.specs.Private.Stores.{IsKernelStore}
 
 -- the rows of the threads
 
-rows_fill : (p : ProfileName) (m : ℕ) → 12 ≤ m → 2 ^ (m - tcb_bits p) * tcb_size p ≡ 2 ^ m
+pub rows_fill : (p : ProfileName) (m : ℕ) → 12 ≤ m → 2 ^ (m - tcb_bits p) * tcb_size p ≡ 2 ^ m
 rows_fill Wide m h = let e = pow-add 2 (m - 11) 11 in let f : 2 ^ (m - 11 + 11) ≡ 2 ^ m = ap (λ n. 2 ^ n) (omega arith) in omega arith
 rows_fill Narrow m h = let e = pow-add 2 (m - 10) 10 in let f : 2 ^ (m - 10 + 10) ≡ 2 ^ m = ap (λ n. 2 ^ n) (omega arith) in omega arith
 

@@ -1,0 +1,3 @@
+-- Kernels that are saved.
+pub mod SavedRows
+pub mod SavedKernels
