@@ -12,7 +12,7 @@ use Rattle.query_orders.specs.Ends.{stuck_before, orders_before}
 use Rattle.query_orders.specs.declared.exploring.node.Node.{Node}
 use Rattle.query_orders.specs.declared.exploring.found.FoundAnswer.{FoundAnswer}
 use Rattle.query_orders.specs.declared.exploring.exploration.Explored.{Explored}
-use Rattle.query_orders.specs.Nodes.{IsNode, layer}
+use Rattle.query_orders.specs.Nodes.{IsWay, layer}
 use Rattle.query_orders.specs.Counts.{saturated, states_before, ends_before}
 use Rattle.query_orders.specs.Found.{answers_of, stuck_of, same_left}
 
@@ -37,7 +37,7 @@ depth p own w first limit count = layers_from p own w first limit count 0
 
 -- the first calls were made, and what they tell was noted
 pub record IsBegun (p : ProfileName) (own : List (List Call)) (A : State) (first : List ℕ) (n : Node) (same : Answer → Answer → Bool) (found found' : List FoundAnswer) : Type 0 where
-  pub is : IsNode p own (start own A) n
+  pub is : IsWay p own (start own A) n
   pub order_is : n.order ≡ first
   pub weight_is : n.weight ≡ 1
   pub told_are : answers_of found' ≡ with_firsts (same_answer same) (answers_of found) (first_answers p own (start own A) [] first)

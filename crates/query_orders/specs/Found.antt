@@ -18,7 +18,7 @@ use Rattle.query_orders.specs.declared.exploring.node.Node.{Node}
 use Rattle.query_orders.specs.declared.exploring.found.FoundAnswer.{FoundAnswer}
 use Rattle.query_orders.specs.declared.exploring.stuck.FoundStuck.{FoundStuck}
 use Rattle.query_orders.specs.declared.exploring.stuck.Findings.{Findings}
-use Rattle.query_orders.specs.Nodes.{IsNode, AreNodes, lead_alike, node_orders}
+use Rattle.query_orders.specs.Nodes.{IsWay, AreNodes, lead_alike, node_orders}
 use Rattle.query_orders.specs.Counts.{saturated_sum}
 
 -- an answer that is found
@@ -66,7 +66,7 @@ stuck_told ends order left = cond (ends && nat_lt 0 (length left)) (stuck_end or
 
 -- by the next call of a client, a node has become another, and what it tells was noted
 pub record IsMade (p : ProfileName) (own : List (List Call)) (w : World) (n m : Node) (client : ℕ) (same : Answer → Answer → Bool) (found found' : List FoundAnswer) : Type 0 where
-  pub is : IsNode p own w m
+  pub is : IsWay p own w m
   pub order_is : m.order ≡ n.order ++ client ∷ []
   pub told_are : answers_of found' ≡ with_firsts (same_answer same) (answers_of found)
       (call_answers p (world_after p own w n.order) n.order client (next_client_call own (world_after p own w n.order).made client))

@@ -41,6 +41,11 @@ layer p own w first n = firsts (lead_alike p own w) (orders p own w first n)
 abbrev pub one_longer : ProfileName → List (List Call) → World → List ℕ → ℕ → List (List ℕ)
 one_longer p own w order client = map (λ c. order ++ c ∷ []) (filter (may_call own (world_after p own w order)) (client ∷ []))
 
+-- the calls of a node, made and waiting, are those of the world after its order
+pub record IsWay (p : ProfileName) (own : List (List Call)) (w : World) (n : Node) : Type 0 where
+  pub made_is : n.made.items ≡ (world_after p own w n.order).made
+  pub waits_are : n.waits.items ≡ (world_after p own w n.order).waits
+
 -- a node's parts are those of the world after its order
 pub record IsNode (p : ProfileName) (own : List (List Call)) (w : World) (n : Node) : Type 0 where
   pub made_is : n.made.items ≡ (world_after p own w n.order).made

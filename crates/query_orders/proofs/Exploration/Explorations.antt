@@ -28,7 +28,7 @@ use Rattle.query_orders.specs.Ends.{StuckEnd, same_stuck, stuck_behind, stuck_be
 use Rattle.query_orders.specs.declared.exploring.node.Node.{Node}
 use Rattle.query_orders.specs.declared.exploring.found.FoundAnswer.{FoundAnswer}
 use Rattle.query_orders.specs.declared.exploring.exploration.Explored.{Explored}
-use Rattle.query_orders.specs.Nodes.{state_words, lead_alike, layer, IsNode, AreNodes, node_orders}
+use Rattle.query_orders.specs.Nodes.{lead_alike, layer, IsWay, IsNode, AreNodes, node_orders}
 use Rattle.query_orders.specs.Counts.{saturated, saturated_sum, counted, states_before, ends_before}
 use Rattle.query_orders.specs.Found.{answers_of, stuck_of, same_left, counts_of, IsMade, IsExpanded}
 use Rattle.query_orders.specs.Explorations.{ends_exploration, is_last_layer, layers_from, depth, IsBegun, IsExploredTo, IsExplored}
@@ -110,25 +110,21 @@ module _ (p : ProfileName) (own : List (List Call)) (w : World) (reached : IsRea
 -- ---- how orders begin
 
 module _ (p : ProfileName) (own : List (List Call)) where
-  pub begins : (n : Node) (A : State) (v : Shown) (count : ℕ) → v ≡ shown A → length own ≡ count → n.order ≡ [] → n.made.items ≡ replicate count 0 → n.waits.items ≡ [] →
-      n.words.items ≡ state_words n.made.items n.waits.items v → IsNode p own (start own A) n
-  begins n A v count shows is_count order made waits words =
+  pub begins : (n : Node) (A : State) (count : ℕ) → length own ≡ count → n.order ≡ [] → n.made.items ≡ replicate count 0 → n.waits.items ≡ [] → IsWay p own (start own A) n
+  begins n A count is_count order made waits =
       let w = start own A in
       let after : world_after p own w n.order ≡ w = ap (world_after p own w) order in
       let made_is : n.made.items ≡ w.made = made ∙ ap (λ k. replicate k 0) (sym is_count) in
       record {
         made_is = made_is ∙ sym (ap (λ (x : World). x.made) after);
         waits_are = waits ∙ sym (ap (λ (x : World). x.waits) after);
-        words_are =
-            words ∙ ap (λ (l : List ℕ). state_words l n.waits.items v) made_is ∙ ap (λ (l : List WaitingCall). state_words w.made l v) waits ∙ ap (λ (x : Shown). state_words w.made w.waits x) shows
-            ∙ sym (ap (λ (x : World). state_words x.made x.waits (shown x.kernel)) after);
       }
 
   -- a client without a call left makes none
-  pub none_made : (w : World) (same : Answer → Answer → Bool) (n m : Node) (client : ℕ) (c : Option Call) (found : List FoundAnswer) (v : Shown) → IsNode p own w n → c ≡ next_client_call own n.made.items client → c ≡ None →
-      m.order ≡ n.order ++ client ∷ [] → m.made.items ≡ n.made.items → m.waits.items ≡ n.waits.items → m.words.items ≡ n.words.items → IsKernelOf p own w n v →
+  pub none_made : (w : World) (same : Answer → Answer → Bool) (n m : Node) (client : ℕ) (c : Option Call) (found : List FoundAnswer) (v : Shown) → IsWay p own w n → c ≡ next_client_call own n.made.items client → c ≡ None →
+      m.order ≡ n.order ++ client ∷ [] → m.made.items ≡ n.made.items → m.waits.items ≡ n.waits.items → IsKernelOf p own w n v →
       IsMade p own w n m client same found found × IsKernelOf p own w m v
-  none_made w same n m client c found v node is none order made waits words at =
+  none_made w same n m client c found v node is none order made waits at =
       let x = world_after p own w n.order in
       let no_call : next_client_call own x.made client ≡ None = ap (λ (l : List ℕ). next_client_call own l client) (sym node.made_is) ∙ sym is ∙ none in
       let after : world_after p own w m.order ≡ x = ap (world_after p own w) order ∙ world_after-append p own w n.order (client ∷ []) ∙ ap (with_call p x client) no_call in (
@@ -136,7 +132,6 @@ module _ (p : ProfileName) (own : List (List Call)) where
           is = record {
             made_is = made ∙ node.made_is ∙ sym (ap (λ (y : World). y.made) after);
             waits_are = waits ∙ node.waits_are ∙ sym (ap (λ (y : World). y.waits) after);
-            words_are = words ∙ node.words_are ∙ sym (ap (λ (y : World). state_words y.made y.waits (shown y.kernel)) after);
           };
           order_is = order;
           told_are = sym (ap (λ (o : Option Call). with_firsts (same_answer same) (answers_of found) (call_answers p x n.order client o)) no_call);
@@ -157,7 +152,7 @@ module _ (p : ProfileName) (own : List (List Call)) where
       ∙ sym (append_assoc now (first_answers p own v (made ++ c ∷ []) order) (call_answers p u (made ++ c ∷ order) client (next_client_call own u.made client)))
 
   module _ (A : State) (first : List ℕ) (same : Answer → Answer → Bool) where
-    pub begun_none : (n : Node) (found : List FoundAnswer) → IsNode p own (start own A) n → n.order ≡ [] → n.weight ≡ 1 → IsBegun p own A [] n same found found
+    pub begun_none : (n : Node) (found : List FoundAnswer) → IsWay p own (start own A) n → n.order ≡ [] → n.weight ≡ 1 → IsBegun p own A [] n same found found
     begun_none n found is order weighs = record { is = is; order_is = order; weight_is = weighs; told_are = refl }
 
     pub begun_more : (i client : ℕ) (n m : Node) (found found' found'' : List FoundAnswer) → i < length first → client ≡ get_or first i 0 →
@@ -198,17 +193,17 @@ module _ (p : ProfileName) (own : List (List Call)) (A : State) (first : List �
   abbrev w : World
   w = start own A
 
-  pub progress_none : (e : Explored) (n : Node) (none : List FoundAnswer) → IsBegun p own A first n answer_eq.ghosts.eq none e.found.answers → none ≡ [] → e.layer ≡ with_node [] n →
+  pub progress_none : (e : Explored) (way n : Node) (none : List FoundAnswer) → IsBegun p own A first way answer_eq.ghosts.eq none e.found.answers → IsNode p own w n → n.order ≡ way.order → n.weight ≡ way.weight → none ≡ [] → e.layer ≡ with_node [] n →
       e.found.stuck.items ≡ [] → e.found.ends ≡ 0 → e.found.orders ≡ 0 → e.found.stuck_orders ≡ 0 → e.states ≡ saturated (length first) → e.calls ≡ 0 →
       IsProgress p own A first answer_eq.ghosts.eq e
-  progress_none e n none b empty nodes stuck ends orders_none stuck_none states calls =
+  progress_none e way n none b is order weighs empty nodes stuck ends orders_none stuck_none states calls =
       record {
-        are = subst (AreNodes p own w) (sym nodes) (b.is, tt);
+        are = subst (AreNodes p own w) (sym nodes) (is, tt);
         entries_are =
-            ap node_orders nodes ∙ ap (λ (o : List ℕ). (o, n.weight) ∷ []) b.order_is ∙ ap (λ k. (first, k) ∷ []) b.weight_is
+            ap node_orders nodes ∙ ap (λ (o : List ℕ). (o, n.weight) ∷ []) (order ∙ b.order_is) ∙ ap (λ k. (first, k) ∷ []) (weighs ∙ b.weight_is)
             ∙ ap (λ k. map (up_to most) (counted p own w first k)) (sym calls);
         to = record {
-          layer_is = ap (map (λ (m : Node). m.order)) nodes ∙ ap (λ (o : List ℕ). o ∷ []) b.order_is ∙ ap (layer p own w first) (sym calls);
+          layer_is = ap (map (λ (m : Node). m.order)) nodes ∙ ap (λ (o : List ℕ). o ∷ []) (order ∙ b.order_is) ∙ ap (layer p own w first) (sym calls);
           answers_are =
               b.told_are ∙ ap (λ (l : List FoundAnswer). with_firsts (same_answer answer_eq.ghosts.eq) (answers_of l) (first_answers p own w [] first)) empty
               ∙ ap (answers_before answer_eq.ghosts.eq (firsts (same_answer answer_eq.ghosts.eq) (first_answers p own w [] first)) p own w first) (sym calls);

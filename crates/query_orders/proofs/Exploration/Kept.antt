@@ -1,5 +1,5 @@
 -- The kernels of a layer's first nodes, as the layer grows.
-use Rattle.std.proofs.Common.{◌≡◌, suc, ◌<◌, true, false, cond, List, [], ◌∷◌, ◌++◌, length, drop, get_or, Option, Some, None, ap, sym, subst, ◌∙◌, arith}
+use Rattle.std.proofs.Common.{◌≡◌, suc, ◌<◌, true, false, cond, List, [], ◌∷◌, ◌++◌, ◌⊎◌, inl, inr, length, drop, get_or, Option, Some, None, ap, sym, subst, ◌∙◌, arith}
 use Rattle.std.specs.Prelude.{IfSome}
 use Rattle.std.specs.Option.{option_to_list}
 use Rattle.cap_core.specs.declared.profile.ProfileName.{ProfileName}
@@ -35,6 +35,12 @@ module _ (p : ProfileName) (own : List (List Call)) (w : World) where
             let l : length nodes < length (with_node nodes n) = (let k : suc (length nodes) < suc (length (with_node nodes n)) = lt in omega arith) in
             (are.0, kernel_kept kernels nodes n v are.1 is s l))
       ] more
+
+  -- and where there is no memory for it, none is kept more
+  pub kernel_saved : (kernels kernels' : List Shown) (nodes : List Node) (n : Node) (v : Shown) → AreKernels p own w kernels nodes → IsKernelOf p own w n v → length kernels ≡ length nodes → length nodes < length (with_node nodes n) →
+      (kernels' ≡ kernels) ⊎ (kernels' ≡ kernels ++ v ∷ []) → AreKernels p own w kernels' (with_node nodes n)
+  kernel_saved kernels kernels' nodes n v are is same more (inl stays) = subst (λ (l : List Shown). AreKernels p own w l (with_node nodes n)) (sym stays) (kernels_stay kernels nodes n are)
+  kernel_saved kernels kernels' nodes n v are is same more (inr kept) = subst (λ (l : List Shown). AreKernels p own w l (with_node nodes n)) (sym kept) (kernel_kept kernels nodes n v are is same more)
 
   -- the kernel of the first node is taken, where it is kept
   pub kernel_taken : (taken : Option Shown) (kernels rest : List Shown) (n : Node) (nodes : List Node) → AreKernels p own w kernels (n ∷ nodes) → kernels ≡ option_to_list taken ++ rest → rest ≡ drop 1 kernels →

@@ -30,7 +30,7 @@ use Rattle.query_orders.specs.declared.exploring.node.Node.{Node}
 use Rattle.query_orders.specs.declared.exploring.found.FoundAnswer.{FoundAnswer}
 use Rattle.query_orders.specs.declared.exploring.stuck.Findings.{Findings}
 use Rattle.query_orders.specs.declared.exploring.stuck.FoundStuck.{FoundStuck}
-use Rattle.query_orders.specs.Nodes.{state_words, world_words, lead_alike, one_longer, IsNode, AreNodes, node_order, node_orders}
+use Rattle.query_orders.specs.Nodes.{state_words, world_words, lead_alike, one_longer, IsWay, IsNode, AreNodes, node_order, node_orders}
 use Rattle.query_orders.specs.Counts.{saturated, saturated_sum}
 use Rattle.query_orders.specs.Found.{answer_of, answers_of, one_told, calls_told, not_made_told, end_told, stuck_of, stuck_told, same_left, IsMade, IsVisited, IsFound, IsExpanded}
 use Rattle.query_orders.specs.Private.Kernels.{IsKernelOf}
@@ -169,6 +169,22 @@ module _ (p : ProfileName) (own : List (List Call)) (w : World) where
             ))
       ] refl
 
+  pub node_way : (n : Node) → IsNode p own w n → IsWay p own w n
+  node_way n is = record { made_is = is.made_is; waits_are = is.waits_are }
+
+  -- a node by its calls and by its words, which are those of a kernel that shows the state
+  pub way_node : (n m : Node) (v : Shown) → IsWay p own w n → IsKernelOf p own w n v → m.order ≡ n.order → m.made.items ≡ n.made.items → m.waits.items ≡ n.waits.items →
+      m.words.items ≡ state_words n.made.items n.waits.items v → IsNode p own w m
+  way_node n m v way at order made waits words =
+      let back = λ (o : List ℕ). world_after p own w o in
+      record {
+        made_is = made ∙ way.made_is ∙ ap (λ (o : List ℕ). (back o).made) (sym order);
+        waits_are = waits ∙ way.waits_are ∙ ap (λ (o : List ℕ). (back o).waits) (sym order);
+        words_are =
+            words ∙ ap (λ (l : List ℕ). state_words l n.waits.items v) way.made_is ∙ ap (λ (l : List WaitingCall). state_words (back n.order).made l v) way.waits_are
+            ∙ ap (λ (x : Shown). state_words (back n.order).made (back n.order).waits x) at ∙ ap (λ (o : List ℕ). world_words (back o)) (sym order);
+      }
+
   -- ---- one call more
 
   pub may_is : (n : Node) (v : Shown) (client : ℕ) → IsNode p own w n → v ≡ shown (world_after p own w n.order).kernel → can_be_made v (next_client_call own n.made.items client) ≡ may_call own (world_after p own w n.order) client
@@ -192,7 +208,7 @@ module _ (p : ProfileName) (own : List (List Call)) (w : World) where
   pub one_is : (n : Node) (client : ℕ) → may_call own (world_after p own w n.order) client ≡ true → one_longer p own w n.order client ≡ (n.order ++ client ∷ []) ∷ []
   one_is n client h = ap (λ b. map (λ c. n.order ++ c ∷ []) (cond b (client ∷ []) [])) h
 
-  module _ (n : Node) (node : IsNode p own w n) (client : ℕ) (call : Call) (next : next_client_call own n.made.items client ≡ Some call) (reply : Reply) (v : Shown)
+  module _ (n : Node) (node : IsWay p own w n) (client : ℕ) (call : Call) (next : next_client_call own n.made.items client ≡ Some call) (reply : Reply) (v : Shown)
       (steps : StepsTo p (world_after p own w n.order).kernel call reply v) where
     abbrev before : World
     before = world_after p own w n.order
@@ -219,8 +235,8 @@ module _ (p : ProfileName) (own : List (List Call)) (w : World) where
     kernel_is m order = steps.shows ∙ sym (ap (λ (y : World). shown y.kernel) (after_is m order))
 
     pub followed_is : (m : Node) → m.order ≡ n.order ++ client ∷ [] → m.made.items ≡ one_more client (slice_get n.made.items client) n.made.items →
-        m.waits.items ≡ waits_after v n.waits.items (waiting_call call.thread client (next_place n.made.items client)) reply → m.words.items ≡ state_words m.made.items m.waits.items v → IsNode p own w m
-    followed_is m order made waits words =
+        m.waits.items ≡ waits_after v n.waits.items (waiting_call call.thread client (next_place n.made.items client)) reply → IsWay p own w m
+    followed_is m order made waits =
         let after = after_is m order in
         let made_is : m.made.items ≡ (world_after p own w m.order).made =
         made ∙ ap (λ (l : List ℕ). one_more client (slice_get l client) l) node.made_is ∙ sym (ap (λ (y : World). y.made) after) in
@@ -232,11 +248,9 @@ module _ (p : ProfileName) (own : List (List Call)) (w : World) where
         ∙ ap (λ (l : List ℕ). by (shown (step p before.kernel call).state) before.waits l reply) node.made_is
         ∙ ap (λ (r : Reply). by (shown (step p before.kernel call).state) before.waits before.made r) steps.reply_is
         ∙ sym (ap (λ (y : World). y.waits) after) in
-        let shows = kernel_is m order in
         record {
           made_is = made_is;
           waits_are = waits_are;
-          words_are = words ∙ ap (λ (l : List ℕ). state_words l m.waits.items v) made_is ∙ ap (λ (l : List WaitingCall). state_words (world_after p own w m.order).made l v) waits_are ∙ ap (λ (x : Shown). state_words (world_after p own w m.order).made (world_after p own w m.order).waits x) shows;
         }
 
   -- ---- what the loops have done so far
@@ -398,15 +412,15 @@ module _ (p : ProfileName) (own : List (List Call)) (w : World) where
   -- ---- a client's next call, where it can make one and where it cannot
 
   pub made_is : (same : Answer → Answer → Bool) (n : Node) (client : ℕ) (call : Call) (found found' : List FoundAnswer) (reply : Reply) (next : Shown) (order : List ℕ) (place : ℕ) (m : Node) →
-      IsNode p own w n → StepsTo p (world_after p own w n.order).kernel call reply next → next_client_call own n.made.items client ≡ Some call →
+      IsWay p own w n → StepsTo p (world_after p own w n.order).kernel call reply next → next_client_call own n.made.items client ≡ Some call →
       order ≡ n.order ++ client ∷ [] → place ≡ next_place n.made.items client →
       answers_of found' ≡ with_firsts (same_answer same) (answers_of found) (replied order client place reply ++ waits_ended order next n.waits.items reply) →
       m.order ≡ order → m.made.items ≡ one_more client (slice_get n.made.items client) n.made.items →
-      m.waits.items ≡ waits_after next n.waits.items (waiting_call call.thread client (next_place n.made.items client)) reply → m.words.items ≡ state_words m.made.items m.waits.items next →
+      m.waits.items ≡ waits_after next n.waits.items (waiting_call call.thread client (next_place n.made.items client)) reply →
       IsMade p own w n m client same found found' × IsKernelOf p own w m next
-  made_is same n client call found found' reply next order place m node step_is is order_is place_is told o k t d = (
+  made_is same n client call found found' reply next order place m node step_is is order_is place_is told o k t = (
     record {
-      is = followed_is n node client call is reply next step_is m (o ∙ order_is) k t d;
+      is = followed_is n node client call is reply next step_is m (o ∙ order_is) k t;
       order_is = o ∙ order_is;
       told_are =
           told
@@ -428,19 +442,19 @@ module _ (p : ProfileName) (own : List (List Call)) (w : World) where
         told_are = ap (with_firsts (same_answer same) (answers_of found)) (sym (none_told n client cannot));
       }
 
-  pub visited_call : (same : Answer → Answer → Bool) (n : Node) (v : Shown) (client : ℕ) (got : Option Call) (call : Call) (nodes nodes' : List Node) (found found' : List FoundAnswer) (m : Node) →
+  pub visited_call : (same : Answer → Answer → Bool) (n : Node) (v : Shown) (client : ℕ) (got : Option Call) (call : Call) (nodes nodes' : List Node) (found found' : List FoundAnswer) (way m : Node) →
       IsNode p own w n → v ≡ shown (world_after p own w n.order).kernel → AreNodes p own w nodes →
       got ≡ Some call → is_some got ≡ can_be_made v (next_client_call own n.made.items client) →
-      IsMade p own w n m client same found found' → m.weight ≡ n.weight → nodes' ≡ with_node nodes m →
+      IsMade p own w n way client same found found' → IsNode p own w m → m.order ≡ way.order → m.weight ≡ n.weight → nodes' ≡ with_node nodes m →
       IsVisited p own w nodes nodes' (each_times n.weight (one_longer p own w n.order client)) same found found' (one_told p own w n.order client)
-  visited_call same n v client got call nodes nodes' found found' m node at all some may made weighs noted =
+  visited_call same n v client got call nodes nodes' found found' way m node at all some may made is order weighs noted =
       let can : may_call own (world_after p own w n.order) client ≡ true = sym (ap (λ (o : Option Call). is_some o) (sym some) ∙ may ∙ may_is n v client node at) in
-      let r = noted_is nodes m all made.is in
+      let r = noted_is nodes m all is in
       let one = λ (o : List ℕ) (k : ℕ). with_count_up_to (2 ^ 64 - 1) (lead_alike p own w) (node_orders nodes) (o, k) in
       record {
         are = subst (AreNodes p own w) (sym noted) r.0;
         entries_are =
-            ap node_orders noted ∙ r.1 ∙ ap (λ (o : List ℕ). one o m.weight) made.order_is ∙ ap (one (n.order ++ client ∷ [])) weighs
+            ap node_orders noted ∙ r.1 ∙ ap (λ (o : List ℕ). one o m.weight) (order ∙ made.order_is) ∙ ap (one (n.order ++ client ∷ [])) weighs
             ∙ ap (λ l. with_counts_up_to (2 ^ 64 - 1) (lead_alike p own w) (node_orders nodes) (each_times n.weight l)) (sym (one_is n client can));
         told_are = made.told_are ∙ ap (with_firsts (same_answer same) (answers_of found)) (sym (one_told_is n client can));
       }

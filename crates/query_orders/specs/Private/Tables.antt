@@ -1,7 +1,8 @@
 -- Nodes in a table.
-use Rattle.std.specs.Prelude.{◌≡◌, ℕ, ◌+◌, Bool, cond, List, [], ◌∷◌, nat_eq, Option, None, Some, Vec, slice_get, slice_set, position}
+use Rattle.std.specs.Prelude.{◌≡◌, ℕ, ◌+◌, Bool, cond, List, [], ◌∷◌, nat_eq, Option, None, Some, fold, slice_get, slice_set, position}
 use Rattle.std.specs.Map.{lookup}
-use Rattle.std.specs.declared.alloc.Global.{Global}
+use Rattle.std.specs.Hash.{slice, u64}
+use Rattle.std.specs.Hash.FoldHasher.{initial, write, finish}
 use Rattle.std.specs.Cmp.Lexicographic.{pointwise}
 use Rattle.query_orders.specs.declared.exploring.node.Node.{Node}
 use Rattle.query_orders.specs.Counts.{saturated}
@@ -27,10 +28,16 @@ heavier_in place more (Some n) nodes = slice_set nodes place (heavier more n)
 abbrev pub heavier_at : ℕ → ℕ → List Node → List Node
 heavier_at place more nodes = heavier_in place more (slice_get nodes place) nodes
 
--- whether two lists of words are the same
-abbrev pub same_words : Vec ℕ Global → Vec ℕ Global → Bool
-same_words v w = pointwise nat_eq v.items w.items
+-- whether a node has these words
+abbrev pub has_words : List ℕ → Node → Bool
+has_words words n = pointwise nat_eq n.words.items words
 
--- a table tells of each list of words the place of the first node that has them
-abbrev pub ArePlaces : List (Vec ℕ Global × ℕ) → List Node → Type 0
-ArePlaces places nodes = (words : Vec ℕ Global) → lookup (same_words words) places ≡ position (λ (n : Node). same_words words n.words) nodes
+abbrev pub words_hash : List ℕ → ℕ
+words_hash words = finish (fold write initial (slice u64 words))
+
+abbrev pub has_hash : ℕ → Node → Bool
+has_hash hash n = nat_eq hash (words_hash n.words.items)
+
+-- a table tells of each hash the place of the first node whose words have it
+abbrev pub AreFirsts : List (ℕ × ℕ) → List Node → Type 0
+AreFirsts firsts nodes = (hash : ℕ) → lookup (nat_eq hash) firsts ≡ position (has_hash hash) nodes

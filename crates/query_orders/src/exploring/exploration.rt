@@ -6,7 +6,7 @@ ghost use Rattle.kernel_abstract.specs.State.{State, shown};
 ghost use Rattle.kernel_abstract.specs.Reached.{IsReached};
 ghost use Rattle.query_orders.specs.World.{World, start};
 ghost use Rattle.query_orders.specs.Orders.{orders};
-ghost use Rattle.query_orders.specs.Nodes.{own_calls, layer, IsNode};
+ghost use Rattle.query_orders.specs.Nodes.{own_calls, layer, IsWay};
 ghost use Rattle.query_orders.specs.States.{AreTakenTogether};
 ghost use Rattle.query_orders.specs.Found.{IsMade};
 ghost use Rattle.query_orders.specs.Counts.{saturated};
@@ -18,17 +18,17 @@ use crate::Answer;
 use crate::exploring::found::FoundAnswers;
 use crate::exploring::kernels::KeptLayer;
 use crate::exploring::layer::Layer;
-use crate::exploring::layers::{next_layer, note_call};
+use crate::exploring::layers::{next_layer, note_call, with_words};
 use crate::exploring::node::{Node, next_call};
 use crate::exploring::order::Order;
 use crate::exploring::stuck::Findings;
-use crate::exploring::words::state_words;
 use cap_core::Profile;
 use ipc_core::MakeWaiters;
-use kernel_core::{Call, Kernel};
+use kernel_core::{Call, Kernel, SavedKernel};
 use slot_core::{DerivationStore, MakeStore};
 use std::alloc::{AllocError, Global};
 use std::collections::VecDeque;
+use std::mem::replace;
 
 /// What the orders give that begin in one way and have fewer calls more than `calls`: what stands behind them, how many states
 /// they lead to, with those that the first calls lead through, up to 2^64 - 1; and the states that orders of just `calls` more
@@ -41,33 +41,24 @@ pub struct Explored {
     pub calls: usize,
 }
 
-/// The node of a start: of so many clients, none has made a call.
-fn first_node<P: Profile, S: MakeStore<P> + DerivationStore<P>, W: MakeWaiters<P>>(
-    alloc: Global,
-    clients: usize,
-    kernel: &Kernel<P, S, W>,
-) -> Result<Node, AllocError>
-    ensures node { IfOk result (λ node. (own : List (List CallOf)) (A : State) → kernel.now ≡ shown A → length own ≡ clients
-        → IsNode P.profile own (start own A) node) }
+/// The node of a start: of so many clients, none has made a call. It has no words yet.
+fn first_node(alloc: Global, clients: usize) -> Result<Node, AllocError>
+    ensures node { IfOk result (λ node. (p : ProfileName) (own : List (List CallOf)) (A : State) → length own ≡ clients → IsWay p own (start own A) node) }
     ensures order { IfOk result (λ node. node.order ≡ []) }
     ensures weight { IfOk result (λ node. node.weight ≡ 1) }
 {
-    let made = vec![in alloc; 0; clients]?;
-    let waits = Vec::new(alloc);
-    let words = state_words(alloc, made.as_slice(), waits.as_slice(), kernel)?;
     Ok(Node {
         order: Order::new(),
-        made,
-        waits,
-        words,
+        made: vec![in alloc; 0; clients]?,
+        waits: Vec::new(alloc),
+        words: Vec::new(alloc),
         weight: 1,
     })
 }
 
 /// The node behind a client that has no call left.
 fn uncalled(alloc: Global, node: Node, client: usize) -> Result<Node, AllocError>
-    ensures rest { IfOk result (λ new. (new.order ≡ node.order ++ client ∷ []) × ((new.made.items ≡ node.made.items)
-        × ((new.waits.items ≡ node.waits.items) × (new.words.items ≡ node.words.items)))) }
+    ensures rest { IfOk result (λ new. (new.order ≡ node.order ++ client ∷ []) × ((new.made.items ≡ node.made.items) × (new.waits.items ≡ node.waits.items))) }
     ensures weight { IfOk result (λ new. new.weight ≡ node.weight) }
 {
     let mut node = node;
@@ -85,7 +76,7 @@ fn first_call<P: Profile, S: MakeStore<P> + DerivationStore<P>, W: MakeWaiters<P
     client: usize,
     found: &mut FoundAnswers,
 ) -> Result<Node, AllocError>
-    ensures made { IfOk result (λ new. (w : World) → IsReached P.profile w.kernel → IsNode P.profile (own_calls calls.now) w node
+    ensures made { IfOk result (λ new. (w : World) → IsReached P.profile w.kernel → IsWay P.profile (own_calls calls.now) w node
         → IsKernelOf P.profile (own_calls calls.now) w node at.old
         → IsMade P.profile (own_calls calls.now) w node new client ⟦<Answer as PartialEq>⟧.eq found.old found.new
         × IsKernelOf P.profile (own_calls calls.now) w new at.new) }
@@ -101,7 +92,7 @@ fn first_call<P: Profile, S: MakeStore<P> + DerivationStore<P>, W: MakeWaiters<P
 }
 
 /// Makes the calls by which all orders begin, each the next one of a client, and notes what they tell. `at` is the kernel that
-/// makes them.
+/// makes them. The node has no words yet.
 pub fn begin<P: Profile, S: MakeStore<P> + DerivationStore<P>, W: MakeWaiters<P>>(
     alloc: Global,
     calls: &[Vec<Call>],
@@ -113,7 +104,7 @@ pub fn begin<P: Profile, S: MakeStore<P> + DerivationStore<P>, W: MakeWaiters<P>
         → IsBegun P.profile (own_calls calls.now) A first.now node ⟦<Answer as PartialEq>⟧.eq found.old found.new
         × IsKernelOf P.profile (own_calls calls.now) (start (own_calls calls.now) A) node at.new) }
 {
-    let mut node = first_node(alloc, calls.len(), at)?;
+    let mut node = first_node(alloc, calls.len())?;
     for i in 0..first.len() {
         node = first_call(alloc, calls, at, node, first[i], found)?;
     }
@@ -133,7 +124,7 @@ fn begun<P: Profile, S: MakeStore<P> + DerivationStore<P>, W: MakeWaiters<P>>(
     calls: &[Vec<Call>],
     kernel: &Kernel<P, S, W>,
     first: &[usize],
-    kept: &mut VecDeque<Kernel<P, S, W>>,
+    kept: &mut VecDeque<SavedKernel<P, S, W>>,
 ) -> Result<Explored, AllocError>
     requires { kept.old.items ≡ [] }
     ensures { IfOk result (λ e. (A : State) → IsReached P.profile A → kernel.now ≡ shown A
@@ -142,10 +133,12 @@ fn begun<P: Profile, S: MakeStore<P> + DerivationStore<P>, W: MakeWaiters<P>>(
 {
     let mut found = Findings::new(alloc);
     let mut at = kernel.copy(alloc)?;
-    let node = begin(alloc, calls, &mut at, first, &mut found.answers)?;
+    let way = begin(alloc, calls, &mut at, first, &mut found.answers)?;
+    let node = with_words(alloc, way, &at)?;
     let mut layer = Layer::new(alloc);
     layer.note(node)?;
-    kept.push_back(at)?;
+    let saved = at.save(alloc)?;
+    kept.push_back(saved)?;
     let states = states_through(first);
     Ok(Explored {
         layer,
@@ -171,13 +164,15 @@ fn goes_on(explored: &Explored, limit: u64, count: usize) -> bool
     explored.calls < count && !is_last
 }
 
-/// Explores the orders that have one call more. `kept` has the kernels of the layer's first nodes.
+/// Explores the orders that have one call more. `kept` has the kernels of the layer's first nodes, and `spares` kernels that
+/// were given up.
 fn advance<P: Profile, S: MakeStore<P> + DerivationStore<P>, W: MakeWaiters<P>>(
     alloc: Global,
     calls: &[Vec<Call>],
     kernel: &Kernel<P, S, W>,
     explored: &mut Explored,
-    kept: &mut VecDeque<Kernel<P, S, W>>,
+    kept: &mut VecDeque<SavedKernel<P, S, W>>,
+    spares: &mut Vec<Kernel<P, S, W>>,
 ) -> Result<(), AllocError>
     requires { explored.old.calls < usize.MAX }
     ensures progress { OnOk result ((A : State) (first : List ℕ) → IsReached P.profile A → kernel.now ≡ shown A
@@ -189,10 +184,25 @@ fn advance<P: Profile, S: MakeStore<P> + DerivationStore<P>, W: MakeWaiters<P>>(
 {
     let states = states_after(explored);
     let nodes = explored.layer.nodes();
-    let next = next_layer(alloc, calls, kernel, nodes, kept, &mut explored.found)?;
-    let KeptLayer { layer, kernels, .. } = next;
+    let given = replace(spares, Vec::new(alloc));
+    let next = next_layer(
+        alloc,
+        calls,
+        kernel,
+        nodes,
+        kept,
+        given,
+        &mut explored.found,
+    )?;
+    let KeptLayer {
+        layer,
+        kernels,
+        spares: given_up,
+        ..
+    } = next;
     explored.layer = layer;
     *kept = kernels;
+    *spares = given_up;
     explored.states = states;
     explored.calls += 1;
     Ok(())
@@ -218,9 +228,10 @@ pub fn explore<P: Profile, S: MakeStore<P> + DerivationStore<P>, W: MakeWaiters<
         → IsExplored P.profile (own_calls calls.now) A first.now ⟦<Answer as PartialEq>⟧.eq limit count e) }
 {
     let mut kept = VecDeque::new(alloc);
+    let mut spares = Vec::new(alloc);
     let mut explored = begun(alloc, calls, kernel, first, &mut kept)?;
     while goes_on(&explored, limit, count) {
-        advance(alloc, calls, kernel, &mut explored, &mut kept)?;
+        advance(alloc, calls, kernel, &mut explored, &mut kept, &mut spares)?;
     }
     Ok(explored)
 }

@@ -1,5 +1,5 @@
 //! The kernels of nodes. Those of a layer's first nodes are kept while the layer grows.
-ghost use Rattle.std.specs.Prelude.{◌≡◌, List, IfOk, IfSome, OnOk, length, replicate, true};
+ghost use Rattle.std.specs.Prelude.{◌≡◌, ◌++◌, ◌∷◌, ◌⊎◌, [], List, IfOk, IfSome, OnOk, length, replicate, true};
 ghost use Rattle.cap_core.specs.declared.profile.ProfileName.{ProfileName};
 ghost use Rattle.kernel_abstract.specs.declared.call.Call.{Call as CallOf};
 ghost use Rattle.kernel_abstract.specs.State.{shown};
@@ -13,23 +13,33 @@ use crate::exploring::layer::Layer;
 use crate::exploring::node::{Node, copied, count, next_call};
 use cap_core::Profile;
 use ipc_core::{MakeWaiters, Waiters};
-use kernel_core::{Call, Kernel};
+use kernel_core::{Call, Kernel, SavedKernel};
 use slot_core::{CapStore, MakeStore};
 use std::alloc::{AllocError, Global};
 use std::collections::VecDeque;
 
-/// Of how many nodes of a layer, its first ones, the kernels are kept. The kernel of another node makes the node's calls anew.
-/// Over rows a kernel takes half a byte and more for each byte of the simulated memory: all of two layers take some 5 MB at
-/// 2^16 bytes, and 70 MB at 2^20.
-const KEPT_KERNELS: usize = 64;
+/// Up to how many words of its nodes' states a layer keeps the kernels of its nodes, the first ones. A kernel that is kept takes
+/// about as much memory as its state's words: 64 MB in all. The kernel of another node makes the node's calls anew.
+const KEPT_WORDS: usize = 1 << 23;
 
-/// A layer that grows, and the kernels of its first nodes. Of those that were given up one is in hand, so that the next copy
-/// takes no memory.
+/// A layer that grows, and the kernels of its first nodes. Those that were given up are in hand, so that a copy takes no
+/// memory while there is one.
 #[derive(Drop)]
-pub struct KeptLayer<P: Profile, S: CapStore<P> + Drop, W: Waiters<P> + Drop> {
+pub struct KeptLayer<P: Profile, S: MakeStore<P>, W: MakeWaiters<P>> {
     pub layer: Layer,
-    pub kernels: VecDeque<Kernel<P, S, W>>,
-    pub spare: Option<Kernel<P, S, W>>,
+    pub kernels: VecDeque<SavedKernel<P, S, W>>,
+    pub words: usize,
+    pub spares: Vec<Kernel<P, S, W>>,
+}
+
+/// Has a kernel in hand for a later copy. Where memory is refused, it is dropped.
+pub fn give_up<P: Profile, S: CapStore<P> + Drop, W: Waiters<P> + Drop>(
+    spares: &mut Vec<Kernel<P, S, W>>,
+    kernel: Kernel<P, S, W>,
+) {
+    match spares.push(kernel) {
+        Ok(()) | Err(_) => {}
+    }
 }
 
 /// Makes the next call of a client, where it has one, be its thread ready or not. `made` counts the calls of each client.
@@ -67,40 +77,69 @@ fn kernel_after<P: Profile, S: MakeStore<P>, W: MakeWaiters<P>>(
     Ok(at)
 }
 
+/// A kernel that shows what was saved, in the room of one that was given up, or else of a copy of `kernel`.
+fn restored<P: Profile, S: MakeStore<P>, W: MakeWaiters<P>>(
+    alloc: Global,
+    saved: &SavedKernel<P, S, W>,
+    kernel: &Kernel<P, S, W>,
+    spare: Option<Kernel<P, S, W>>,
+) -> Result<Kernel<P, S, W>, AllocError>
+    ensures { IfOk result (λ at. at ≡ saved.now) }
+{
+    let spare = match spare {
+        Some(spare) => spare,
+        None => kernel.copy(alloc)?,
+    };
+    saved.restore(alloc, spare)
+}
+
 /// The kernel of a node: the one that is kept of it, or one that makes the calls of its order, from where the orders begin.
 pub fn kernel_of<P: Profile, S: MakeStore<P>, W: MakeWaiters<P>>(
     alloc: Global,
     calls: &[Vec<Call>],
     kernel: &Kernel<P, S, W>,
-    kept: Option<Kernel<P, S, W>>,
-    spare: &mut Option<Kernel<P, S, W>>,
+    kept: Option<SavedKernel<P, S, W>>,
+    spares: &mut Vec<Kernel<P, S, W>>,
     node: &Node,
 ) -> Result<Kernel<P, S, W>, AllocError>
     ensures { IfOk result (λ at. (w : World) → IsReached P.profile w.kernel → kernel.now ≡ shown w.kernel → w.made ≡ replicate (length calls.now) 0
         → IfSome kept (IsKernelOf P.profile (own_calls calls.now) w node.now) → IsKernelOf P.profile (own_calls calls.now) w node.now at) }
 {
     match kept {
-        Some(at) => Ok(at),
+        Some(saved) => restored(alloc, &saved, kernel, spares.pop()),
         None => {
             let order = node.order.clients(alloc)?;
-            kernel_after(alloc, calls, kernel, spare.take(), order.as_slice())
+            kernel_after(alloc, calls, kernel, spares.pop(), order.as_slice())
         }
     }
 }
 
 /// Whether the kernels of all nodes are kept, and one more can be.
-fn has_room<P: Profile, S: CapStore<P> + Drop, W: Waiters<P> + Drop>(
-    nodes: &KeptLayer<P, S, W>,
-) -> bool
+fn has_room<P: Profile, S: MakeStore<P>, W: MakeWaiters<P>>(nodes: &KeptLayer<P, S, W>) -> bool
     ensures { result ≡ true → length nodes.now.kernels.items ≡ length nodes.now.layer }
 {
-    let count = nodes.layer.nodes().len();
-    count < KEPT_KERNELS && nodes.kernels.len() == count
+    nodes.words < KEPT_WORDS && nodes.kernels.len() == nodes.layer.nodes().len()
+}
+
+/// Keeps what a kernel holds, where there is memory for it.
+fn keep<P: Profile, S: MakeStore<P>, W: MakeWaiters<P>>(
+    alloc: Global,
+    kernels: &mut VecDeque<SavedKernel<P, S, W>>,
+    at: &Kernel<P, S, W>,
+)
+    ensures { (kernels.new.items ≡ kernels.old.items) ⊎ (kernels.new.items ≡ kernels.old.items ++ at.now ∷ []) }
+{
+    if let Ok(saved) = at.save(alloc) {
+        match kernels.push_back(saved) {
+            Ok(()) | Err(_) => {}
+        }
+    }
 }
 
 /// Puts a node into a layer, whose kernel is `at`. Where the layer has no node of its state, and the kernels of all nodes
-/// before it are kept, the kernel is kept too; else it is in hand for the next copy.
-pub fn note_node<P: Profile, S: CapStore<P> + Drop, W: Waiters<P> + Drop>(
+/// before it are kept, what the kernel holds is kept too, as far as there is memory. The kernel is in hand for a later copy.
+pub fn note_node<P: Profile, S: MakeStore<P>, W: MakeWaiters<P>>(
+    alloc: Global,
     nodes: &mut KeptLayer<P, S, W>,
     node: Node,
     at: Kernel<P, S, W>,
@@ -111,11 +150,14 @@ pub fn note_node<P: Profile, S: CapStore<P> + Drop, W: Waiters<P> + Drop>(
 {
     let keeps = has_room(nodes);
     let count = nodes.layer.nodes().len();
+    let words = node.words.len();
     nodes.layer.note(node)?;
     if keeps && count < nodes.layer.nodes().len() {
-        nodes.kernels.push_back(at)?;
-    } else {
-        nodes.spare = Some(at);
+        keep(alloc, &mut nodes.kernels, &at);
+        nodes.words = nodes.words.saturating_add(words);
+        give_up(&mut nodes.spares, at);
+        return Ok(());
     }
+    give_up(&mut nodes.spares, at);
     Ok(())
 }

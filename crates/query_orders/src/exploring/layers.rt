@@ -6,14 +6,14 @@ ghost use Rattle.kernel_abstract.specs.Reached.{IsReached, StepsTo};
 ghost use Rattle.kernel_lists.specs.Firsts.{each_times};
 ghost use Rattle.query_orders.specs.World.{World, next_client_call as next_call_of, one_more, waiting_call, next_place, waits_after, world_after};
 ghost use Rattle.query_orders.specs.Orders.{longer};
-ghost use Rattle.query_orders.specs.Nodes.{own_calls, state_words, one_longer, IsNode, AreNodes, node_order, node_orders};
+ghost use Rattle.query_orders.specs.Nodes.{own_calls, one_longer, IsWay, IsNode, AreNodes, node_order, node_orders};
 ghost use Rattle.query_orders.specs.Found.{IsMade, IsVisited, IsExpanded, one_told, calls_told};
 ghost use Rattle.query_orders.specs.Private.Kernels.{IsKernelOf, AreKernels};
 
 use crate::exploring::answers::note_outcome;
 use crate::exploring::ends::{is_end, note_end};
 use crate::exploring::found::FoundAnswers;
-use crate::exploring::kernels::{KeptLayer, kernel_of, note_node};
+use crate::exploring::kernels::{KeptLayer, give_up, kernel_of, note_node};
 use crate::exploring::layer::Layer;
 use crate::exploring::node::{Node, Stepped, callable, counted, place_of, step_copy};
 use crate::exploring::order::Order;
@@ -23,12 +23,12 @@ use crate::exploring::words::state_words;
 use crate::{Answer, WaitingCall};
 use cap_core::Profile;
 use ipc_core::MakeWaiters;
-use kernel_core::{Call, Kernel, Reply};
+use kernel_core::{Call, Kernel, Reply, SavedKernel};
 use slot_core::{DerivationStore, MakeStore};
 use std::alloc::{AllocError, Global};
 use std::collections::VecDeque;
 
-/// The node after a client's call, by its order, and by the kernel after the call and its reply.
+/// The node after a client's call, by its order, and by the kernel after the call and its reply; it has no words yet.
 fn followed<P: Profile, S: MakeStore<P> + DerivationStore<P>, W: MakeWaiters<P>>(
     alloc: Global,
     node: &Node,
@@ -43,7 +43,6 @@ fn followed<P: Profile, S: MakeStore<P> + DerivationStore<P>, W: MakeWaiters<P>>
     ensures made { IfOk result (λ n. n.made.items ≡ one_more client (slice_get node.now.made.items client) node.now.made.items) }
     ensures waits { IfOk result (λ n. n.waits.items
         ≡ waits_after after.now node.now.waits.items (waiting_call call.thread client (next_place node.now.made.items client)) reply) }
-    ensures words { IfOk result (λ n. n.words.items ≡ state_words n.made.items n.waits.items after.now) }
     ensures weight { IfOk result (λ n. n.weight ≡ node.now.weight) }
 {
     let place = place_of(node.made.as_slice(), client);
@@ -54,17 +53,17 @@ fn followed<P: Profile, S: MakeStore<P> + DerivationStore<P>, W: MakeWaiters<P>>
     };
     let made = counted(alloc, node.made.as_slice(), client)?;
     let waits = waits_after(alloc, after, node.waits.as_slice(), new, reply)?;
-    let words = state_words(alloc, made.as_slice(), waits.as_slice(), after)?;
     Ok(Node {
         order,
         made,
         waits,
-        words,
+        words: Vec::new(alloc),
         weight: node.weight,
     })
 }
 
-/// The node after the next call of a client, by the kernel after the call and its reply. What the call tells is noted.
+/// The node after the next call of a client, by the kernel after the call and its reply; it has no words yet. What the call
+/// tells is noted.
 pub fn note_call<P: Profile, S: MakeStore<P> + DerivationStore<P>, W: MakeWaiters<P>>(
     alloc: Global,
     node: &Node,
@@ -75,7 +74,7 @@ pub fn note_call<P: Profile, S: MakeStore<P> + DerivationStore<P>, W: MakeWaiter
     found: &mut FoundAnswers,
 ) -> Result<Node, AllocError>
     requires { IfSome (slice_get node.now.made.items client) (λ (n : ℕ). n + 1 ≤ usize.MAX) }
-    ensures made { IfOk result (λ new. (own : List (List CallOf)) (w : World) → IsReached P.profile w.kernel → IsNode P.profile own w node.now
+    ensures made { IfOk result (λ new. (own : List (List CallOf)) (w : World) → IsReached P.profile w.kernel → IsWay P.profile own w node.now
         → StepsTo P.profile (world_after P.profile own w node.now.order).kernel call reply after.now → next_call_of own node.now.made.items client ≡ Some call
         → IsMade P.profile own w node.now new client ⟦<Answer as PartialEq>⟧.eq found.old found.new × IsKernelOf P.profile own w new after.now) }
     ensures weight { IfOk result (λ new. new.weight ≡ node.now.weight) }
@@ -86,6 +85,22 @@ pub fn note_call<P: Profile, S: MakeStore<P> + DerivationStore<P>, W: MakeWaiter
     note_outcome(found, after, waits, &order, client, place, reply)?;
     let new = followed(alloc, node, order, client, call, after, reply)?;
     Ok(new)
+}
+
+/// The node with the words of its state, by its kernel.
+pub fn with_words<P: Profile, S: MakeStore<P> + DerivationStore<P>, W: MakeWaiters<P>>(
+    alloc: Global,
+    node: Node,
+    at: &Kernel<P, S, W>,
+) -> Result<Node, AllocError>
+    ensures node { IfOk result (λ new. (own : List (List CallOf)) (w : World) → IsWay P.profile own w node → IsKernelOf P.profile own w node at.now
+        → IsNode P.profile own w new) }
+    ensures order { IfOk result (λ new. new.order ≡ node.order) }
+    ensures weight { IfOk result (λ new. new.weight ≡ node.weight) }
+{
+    let mut node = node;
+    node.words = state_words(alloc, node.made.as_slice(), node.waits.as_slice(), at)?;
+    Ok(node)
 }
 
 /// Notes the state after the next call of a client and what it tells, where it can make one. `at` is the kernel of the node.
@@ -108,9 +123,10 @@ fn visit<P: Profile, S: MakeStore<P> + DerivationStore<P>, W: MakeWaiters<P>>(
         → AreKernels P.profile (own_calls calls.now) w nodes.new.kernels.items nodes.new.layer) }
 {
     if let Some(call) = callable(calls, at, node, client) {
-        let Stepped { kernel, reply } = step_copy(alloc, at, nodes.spare.take(), call)?;
-        let new = note_call(alloc, node, client, call, &kernel, reply, found)?;
-        note_node(nodes, new, kernel)?;
+        let Stepped { kernel, reply } = step_copy(alloc, at, nodes.spares.pop(), call)?;
+        let way = note_call(alloc, node, client, call, &kernel, reply, found)?;
+        let new = with_words(alloc, way, &kernel)?;
+        note_node(alloc, nodes, new, kernel)?;
     }
     Ok(())
 }
@@ -162,14 +178,15 @@ fn expand<P: Profile, S: MakeStore<P> + DerivationStore<P>, W: MakeWaiters<P>>(
     Ok(())
 }
 
-/// The states that one call more leads to, with the kernels of the first of them; `kept` has those of the layer's first nodes.
-/// What stands behind the orders of the layer is noted.
+/// The states that one call more leads to, with the kernels of the first of them; `kept` has those of the layer's first nodes,
+/// and `spares` kernels that were given up. What stands behind the orders of the layer is noted.
 pub fn next_layer<P: Profile, S: MakeStore<P> + DerivationStore<P>, W: MakeWaiters<P>>(
     alloc: Global,
     calls: &[Vec<Call>],
     kernel: &Kernel<P, S, W>,
     layer: &[Node],
-    kept: &mut VecDeque<Kernel<P, S, W>>,
+    kept: &mut VecDeque<SavedKernel<P, S, W>>,
+    spares: Vec<Kernel<P, S, W>>,
     found: &mut Findings,
 ) -> Result<KeptLayer<P, S, W>, AllocError>
     ensures { IfOk result (λ next. (w : World) → IsReached P.profile w.kernel → kernel.now ≡ shown w.kernel → w.made ≡ replicate (length calls.now) 0 → AreNodes P.profile (own_calls calls.now) w layer.now
@@ -180,13 +197,14 @@ pub fn next_layer<P: Profile, S: MakeStore<P> + DerivationStore<P>, W: MakeWaite
     let mut next = KeptLayer {
         layer: Layer::new(alloc),
         kernels: VecDeque::new(alloc),
-        spare: None,
+        words: 0,
+        spares,
     };
     for node in layer {
         let first = kept.pop_front();
-        let at = kernel_of(alloc, calls, kernel, first, &mut next.spare, node)?;
+        let at = kernel_of(alloc, calls, kernel, first, &mut next.spares, node)?;
         expand(alloc, calls, &at, node, &mut next, found)?;
-        next.spare = Some(at);
+        give_up(&mut next.spares, at);
     }
     Ok(next)
 }

@@ -12,7 +12,7 @@ pub loop-i-init : goal.loop-i-init
 loop-i-init g c A r k =
     let p = g.P.Profile.profile in
     let own = own_calls c.args.calls.now in (
-      begun_none p own A c.args.first.now answer_eq.ghosts.eq c.in_ok-node.node c.args.found.now (c.in_ok-node.ensures.node own A k (length-map c.args.calls.now _)) c.in_ok-node.ensures.order c.in_ok-node.ensures.weight,
+      begun_none p own A c.args.first.now answer_eq.ghosts.eq c.in_ok-node.node c.args.found.now (c.in_ok-node.ensures.node p own A (length-map c.args.calls.now _)) c.in_ok-node.ensures.order c.in_ok-node.ensures.weight,
       k ∙ sym (ap (λ (o : List ℕ). shown (world_after p own (start own A) o).kernel) c.in_ok-node.ensures.order),
     )
 

@@ -1,6 +1,7 @@
-use Rattle.std.proofs.Common.{◌≡◌, List, [], ◌∷◌, ◌++◌, refl, ap, sym, subst, ◌∙◌}
+use Rattle.std.proofs.Common.{◌≡◌, ℕ, List, [], ◌∷◌, ◌++◌, refl, ap, sym, subst, ◌∙◌}
 use Rattle.kernel_abstract.specs.Shown.{Shown}
-use Rattle.query_orders.specs.World.{start}
+use Rattle.kernel_abstract.specs.State.{shown}
+use Rattle.query_orders.specs.World.{start, world_after}
 use Rattle.query_orders.specs.declared.exploring.node.Node.{Node}
 use Rattle.query_orders.specs.Nodes.{own_calls}
 use Rattle.query_orders.specs.declared.exploring.exploration.Explored.{Explored}
@@ -14,14 +15,15 @@ returns g c A r k =
     let p = g.P.Profile.profile in
     let own = own_calls c.args.calls.now in
     let e : Explored = record { layer = c.note.new.self; found = record { answers = c.begin.new.found; stuck = c.new-found.result.stuck; ends = c.new-found.result.ends; orders = c.new-found.result.orders; stuck_orders = c.new-found.result.stuck_orders }; states = c.states_through-states.result; calls = 0 } in
-    let begun = c.in_ok-node.ensures A r (c.in_ok-at.ensures ∙ k) in
+    let begun = c.in_ok-way.ensures A r (c.in_ok-at.ensures ∙ k) in
     let one : c.note.new.self ≡ with_node [] c.in_ok-node.node = c.in_ok-note.ensures ∙ ap (λ l. with_node l c.in_ok-node.node) c.new-layer.ensures in
-    let kernels = c.in_ok-push_back.ensures.items ∙ ap (λ (l : List Shown). l ++ c.begin.new.at ∷ []) c.requires in (
-      progress_none p own A c.args.first.now e c.in_ok-node.node c.new-found.result.answers begun.0 c.new-found.ensures.answers
+    let way = (begun.0).is in
+    let kernels = c.in_ok-push_back.ensures.items ∙ ap (λ (l : List Shown). l ++ c.in_ok-saved.saved ∷ []) c.requires ∙ ap (λ (v : Shown). v ∷ []) c.in_ok-saved.ensures in (
+      progress_none p own A c.args.first.now e c.in_ok-way.way c.in_ok-node.node c.new-found.result.answers begun.0 (c.in_ok-node.ensures.node own (start own A) way begun.1) c.in_ok-node.ensures.order c.in_ok-node.ensures.weight c.new-found.ensures.answers
           one c.new-found.ensures.stuck c.new-found.ensures.ends c.new-found.ensures.orders c.new-found.ensures.stuck_orders c.states_through-states.ensures refl,
       (
         refl,
         subst (λ (l : List Node). AreKernels p own (start own A) c.push_back.new.self.items l) (sym one)
-            (subst (λ (l : List Shown). AreKernels p own (start own A) l (c.in_ok-node.node ∷ [])) (sym kernels) (begun.1, tt)),
+            (subst (λ (l : List Shown). AreKernels p own (start own A) l (c.in_ok-node.node ∷ [])) (sym kernels) (begun.1 ∙ ap (λ (o : List ℕ). shown (world_after p own (start own A) o).kernel) (sym c.in_ok-node.ensures.order), tt)),
       ),
     )

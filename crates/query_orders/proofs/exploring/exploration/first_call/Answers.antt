@@ -23,5 +23,4 @@ returns-in-None-clause-made g c =
     if_ok c.uncalled.result c.uncalled.ensures.rest
     (λ new h w r node at.
     (let a = h.1 in
-    let b = a.1 in
-    none_made p own w answer_eq.ghosts.eq c.args.node new c.args.client c.next_call.result c.args.found.now c.args.at.now node (c.next_call.ensures.call ∙ ap (λ (l : List ℕ). next_client_call own l c.args.client) c.as_slice.ensures.value) c.in-None.is h.0 a.0 b.0 b.1 at))
+    none_made p own w answer_eq.ghosts.eq c.args.node new c.args.client c.next_call.result c.args.found.now c.args.at.now node (c.next_call.ensures.call ∙ ap (λ (l : List ℕ). next_client_call own l c.args.client) c.as_slice.ensures.value) c.in-None.is h.0 a.0 a.1 at))

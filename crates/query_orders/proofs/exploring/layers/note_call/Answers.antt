@@ -24,4 +24,4 @@ returns-clause-made g c own w r node steps next_is =
     node steps next_is
     c.in_ok-order.ensures
     (c.place_of-place.ensures ∙ ap (λ (l : List ℕ). next_place l client) c.as_slice.ensures.value)
-    told c.in_ok-new.ensures.order c.in_ok-new.ensures.made c.in_ok-new.ensures.waits c.in_ok-new.ensures.words
+    told c.in_ok-new.ensures.order c.in_ok-new.ensures.made c.in_ok-new.ensures.waits
