@@ -8,7 +8,7 @@ use Rattle.query_orders.specs.contracts.answer.AnswerPartialEq.TheImpl as answer
 use Rattle.query_orders.specs.Answers.{Answered}
 use Rattle.query_orders.specs.Found.{answer_of, answers_of}
 use Rattle.query_orders.specs.declared.exploring.found.FoundAnswer.{FoundAnswer}
-use Rattle.query_orders.specs.Groups.{is_in, alone}
+use Rattle.query_orders.specs.Groups.{is_client_in, alone}
 use Rattle.query_orders.specs.Explorations.{IsExplored}
 use Rattle.query_orders.specs.GroupsExplored.{IsExploredByGroups}
 use Rattle.query_orders.specs.declared.groups.exploring.GroupExplored.{GroupExplored}
@@ -29,13 +29,13 @@ answers_among has (f ∷ found) =
 module _ (p : ProfileName) (setup : SetupView) (first limit : ℕ) (groups : List ℕ) where
   -- what a group's exploration gives
   abbrev Gives : GroupExplored → Type 0
-  Gives g = IsExplored p (alone (calls_of_each setup) (behind_first p setup first).made (is_in groups g.first)) (boot p setup.plan) (first_clients setup first) answer_eq.ghosts.eq limit (length setup.calls + 1) g.explored
+  Gives g = IsExplored p (alone (calls_of_each setup) (behind_first p setup first).made (is_client_in groups g.first)) (boot p setup.plan) (first_clients setup first) answer_eq.ghosts.eq limit (length setup.calls + 1) g.explored
 
   pub views_are : (explored : List GroupExplored) → Each Gives explored → map group_view explored ≡ map (group_exploration p setup first limit groups) (map (λ (g : GroupExplored). g.first) explored)
   views_are [] all = refl
   views_are (g ∷ explored) all =
       ap₂ (λ (v : GroupView) (vs : List GroupView). v ∷ vs)
-      (ap (λ e. (g.first, e)) (explored_from p (alone (calls_of_each setup) (behind_first p setup first).made (is_in groups g.first)) (boot p setup.plan) (first_clients setup first) limit (length setup.calls + 1) g.explored all.0))
+      (ap (λ e. (g.first, e)) (explored_from p (alone (calls_of_each setup) (behind_first p setup first).made (is_client_in groups g.first)) (boot p setup.plan) (first_clients setup first) limit (length setup.calls + 1) g.explored all.0))
       (views_are explored all.1)
 
 pub explorations_are : (p : ProfileName) (setup : SetupView) (first limit : ℕ) (e : GroupsExplored) →

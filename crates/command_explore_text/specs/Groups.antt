@@ -11,7 +11,7 @@ use Rattle.query_orders.specs.World.{World, start, world_after}
 use Rattle.query_orders.specs.Orders.{numbers_below}
 use Rattle.query_orders.specs.Answers.{Answered}
 use Rattle.query_orders.specs.Ends.{StuckEnd}
-use Rattle.query_orders.specs.Groups.{AreGroups, is_in, first_of_groups, alone}
+use Rattle.query_orders.specs.Groups.{AreGroups, is_client_in, first_of_groups, alone}
 use Rattle.query_orders.specs.declared.groups.exploring.GroupExplored.{GroupExplored}
 use Rattle.command_explore_text.specs.Clients.{calls_of_each, first_clients}
 use Rattle.command_explore_text.specs.Numbers.{client_numbers_of}
@@ -30,7 +30,7 @@ group_view g = (g.first, explored_view g.explored)
 
 -- of the answers those of the group's own clients; the exploration tells also those to the first calls of others
 abbrev pub answers_in : List ℕ → GroupView → List Answered
-answers_in groups g = filter (λ (a : Answered). is_in groups g.0 a.client) g.1.answers
+answers_in groups g = filter (λ (a : Answered). is_client_in groups g.0 a.client) g.1.answers
 
 abbrev pub group_answers : List ℕ → List GroupView → List Answered
 group_answers groups found = flat_map (answers_in groups) found
@@ -45,7 +45,7 @@ are_whole found = not (list_any (λ (g : GroupView). not g.1.whole) found)
 -- ---- the lines of groups
 
 abbrev pub clients_text : List ℕ → ℕ → List ℕ
-clients_text groups group = flat_map (λ client. codes " " ++ decimal client) (filter (is_in groups group) (numbers_below (length groups)))
+clients_text groups group = flat_map (λ client. codes " " ++ decimal client) (filter (is_client_in groups group) (numbers_below (length groups)))
 
 -- how many states and orders a group has, or the limit that was reached
 abbrev pub group_counts : ℕ → ℕ → ExploredView → List ℕ
@@ -80,7 +80,7 @@ behind_first p setup first = world_after p (calls_of_each setup) (start (calls_o
 -- what the orders tell of each group's clients by themselves
 abbrev pub group_exploration : ProfileName → SetupView → ℕ → ℕ → List ℕ → ℕ → GroupView
 group_exploration p setup first limit groups group =
-    (group, exploration_from p (alone (calls_of_each setup) (behind_first p setup first).made (is_in groups group)) (boot p setup.plan) (first_clients setup first) limit (length setup.calls + 1))
+    (group, exploration_from p (alone (calls_of_each setup) (behind_first p setup first).made (is_client_in groups group)) (boot p setup.plan) (first_clients setup first) limit (length setup.calls + 1))
 
 unfoldable pub group_explorations : ProfileName → SetupView → ℕ → ℕ → List ℕ → List GroupView
 group_explorations p setup first limit groups = map (group_exploration p setup first limit groups) (first_of_groups groups)

@@ -20,27 +20,27 @@ happening_of (Joined part) = Hold
 happening_of told = Message
 
 -- with which badge: that of the capability, 0 where it has none, since then no entry lists it; that of the passage, unless it is any
-abbrev pub badge_of : Told → Option ℕ
-badge_of (Badge used) = Some used.badge.0
-badge_of (Way passage) = cond (passage.badge == 0) None (Some passage.badge)
-badge_of (Waits wait) = cond wait.sends (Some wait.badge) None
-badge_of told = None
+abbrev pub badge_of_breach : Told → Option ℕ
+badge_of_breach (Badge used) = Some used.badge.0
+badge_of_breach (Way passage) = cond (passage.badge == 0) None (Some passage.badge)
+badge_of_breach (Waits wait) = cond wait.sends (Some wait.badge) None
+badge_of_breach told = None
 
-abbrev pub is_of_endpoint : Told → ℕ → Bool
-is_of_endpoint (Badge used) endpoint = used.endpoint == endpoint
-is_of_endpoint (Way passage) endpoint = passage.endpoint == endpoint
-is_of_endpoint (Waits wait) endpoint = wait.endpoint == endpoint
-is_of_endpoint told endpoint = false
+abbrev pub is_use_of_endpoint : Told → ℕ → Bool
+is_use_of_endpoint (Badge used) endpoint = used.endpoint == endpoint
+is_use_of_endpoint (Way passage) endpoint = passage.endpoint == endpoint
+is_use_of_endpoint (Waits wait) endpoint = wait.endpoint == endpoint
+is_use_of_endpoint told endpoint = false
 
 -- by no other endpoint than that of the breach
 abbrev pub other_endpoints : Layout → Told → List ℕ
-other_endpoints l told = filter (λ endpoint. not (is_of_endpoint told endpoint)) l.endpoints.items
+other_endpoints l told = filter (λ endpoint. not (is_use_of_endpoint told endpoint)) l.endpoints.items
 
 -- a question is of a breach, whichever threads it is of: the threads that the policy trusts make no calls
 pub record IsAbout (c : Policy) (l : Layout) (told : Told) (q : Asking) : Type 0 where
   pub what : q.what ≡ happening_of told
   pub by : q.by ≡ other_endpoints l told
-  pub badge : q.badge ≡ badge_of told
+  pub badge : q.badge ≡ badge_of_breach told
   pub memory : q.memory ≡ l.memory.items
   pub without : q.without ≡ trusted_threads c
 
@@ -61,8 +61,8 @@ abbrev pub is_the_part : ℕ → Option ℕ → Bool
 is_the_part part None = false
 is_the_part part (Some found) = found == part
 
-abbrev pub lies_in : List PartMemory → ℕ → ℕ → Bool
-lies_in memory part thread = is_the_part part (part_at memory thread)
+abbrev pub is_in_that_part : List PartMemory → ℕ → ℕ → Bool
+is_in_that_part memory part thread = is_the_part part (part_at memory thread)
 
 -- one lies in a part, and the other one not in the same
 abbrev pub are_two : Option ℕ → Option ℕ → Bool
@@ -77,8 +77,8 @@ are_in_two_parts memory from to = are_two (part_at memory from) (part_at memory 
 -- from whom to whom a breach may let a message pass: from the part that has the capability to everyone; from the groups that send to those that
 -- receive; from the thread that waits to send, or to the one that waits to receive. Of groups in one part: from each to each other
 abbrev pub are_ends : Layout → List Home → Told → Member → Member → Bool
-are_ends l hs (Joined part) from to = (lies_in l.memory.items part from.thread && lies_in l.memory.items part to.thread) && not (from.actor == to.actor)
-are_ends l hs (Badge used) from to = lies_in l.memory.items used.part from.thread
+are_ends l hs (Joined part) from to = (is_in_that_part l.memory.items part from.thread && is_in_that_part l.memory.items part to.thread) && not (from.actor == to.actor)
+are_ends l hs (Badge used) from to = is_in_that_part l.memory.items used.part from.thread
 are_ends l hs (Way passage) from to = is_end_at hs passage.from from.actor && is_end_at hs passage.to to.actor
 are_ends l hs (Waits wait) from to = cond wait.sends from.thread to.thread == wait.thread
 are_ends l hs told from to = false

@@ -19,13 +19,13 @@ use Rattle.command_policy_how.specs.Breach.{HasLine, asked_breaches, breach_at}
 use Rattle.command_policy_how.specs.Asked.{IsAskedOf}
 
 -- the line that no calls are told of a breach
-abbrev pub how_line : ℕ → NoWitness → List ℕ
-how_line breach answer = terminated (codes "how " ++ (decimal breach ++ (codes " " ++ answer_text answer)))
+abbrev pub breach_how_line : ℕ → NoWitness → List ℕ
+breach_how_line breach answer = terminated (codes "how " ++ (decimal breach ++ (codes " " ++ answer_text answer)))
 
 -- what is written of an outcome
 abbrev pub IsOutcomeTold : ℕ → Outcome → List ℕ → Verdict → Type 0
 IsOutcomeTold breach (Witness written) text verdict = (text ≡ written.items) × (verdict ≡ AllMet)
-IsOutcomeTold breach (Without answer) text verdict = (text ≡ how_line breach answer) × (verdict ≡ NotMet)
+IsOutcomeTold breach (Without answer) text verdict = (text ≡ breach_how_line breach answer) × (verdict ≡ NotMet)
 
 -- the line with the number is that of a breach of which it is asked
 pub record IsBreachAt (n : ℕ) (lines : List (List ℕ)) (j : Judged) (told : Told) : Type 0 where
@@ -38,7 +38,7 @@ IsFoundIn n lines j None = ⊤
 IsFoundIn n lines j (Some told) = IsBreachAt n lines j told
 
 -- what comes of the questions of a breach is told
-pub record IsToldOf (n : ℕ) (p : ProfileName) (setup : SetupView) (made : ℕ) (j : Judged) (told : Told) (text : List ℕ) (verdict : Verdict) : Type 0 where
+pub record IsToldOfBreach (n : ℕ) (p : ProfileName) (setup : SetupView) (made : ℕ) (j : Judged) (told : Told) (text : List ℕ) (verdict : Verdict) : Type 0 where
   pub outcome : Outcome
   pub asked : IsAskedOf p j.policy j.layout j.homes.items told (shown (state_behind p setup made)) setup made outcome
   pub written : IsOutcomeTold n outcome text verdict
@@ -47,7 +47,7 @@ pub record IsToldOf (n : ℕ) (p : ProfileName) (setup : SetupView) (made : ℕ)
 pub record IsBreachTold (n : ℕ) (p : ProfileName) (setup : SetupView) (made : ℕ) (j : Judged) (text : List ℕ) (verdict : Verdict) : Type 0 where
   pub told : Told
   pub is_breach : IsBreachAt n (breach_lines j setup) j told
-  pub is_told : IsToldOf n p setup made j told text verdict
+  pub is_told : IsToldOfBreach n p setup made j told text verdict
 
 -- nothing is written, or that
 abbrev pub IsAnswerOf : ℕ → ProfileName → SetupView → ℕ → Judged → List ℕ → Verdict → Type 0

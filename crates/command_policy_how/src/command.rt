@@ -44,7 +44,7 @@ fn line_at(lines: &[String], number: u64) -> Option<&str>
 
 /// The line that no calls are told of a breach.
 fn line_of(alloc: Global, breach: u64, answer: NoWitness) -> Result<Answer, AllocError>
-    ensures { IfOk result (λ made. (made.text.items ≡ spec.how_line breach answer) × (made.verdict ≡ Verdict.NotMet)) }
+    ensures { IfOk result (λ made. (made.text.items ≡ spec.breach_how_line breach answer) × (made.verdict ≡ Verdict.NotMet)) }
 {
     let line = format!(in alloc; "how {breach} {answer}\n")?;
     Ok(Answer::new(alloc, line.into_bytes(), Verdict::NotMet))
@@ -93,7 +93,7 @@ impl BreachHow<'_> {
         requires plan { IsPlan P.profile behind.now.setup.now.plan }
         requires made { behind.now.made ≤ length behind.now.setup.now.calls }
         requires judged { IsJudged P.profile behind.now.setup.now behind.now.made judged.now }
-        ensures { IfOk result (λ answer. spec.IsToldOf self.now.breach P.profile behind.now.setup.now behind.now.made judged.now told answer.text.items answer.verdict) }
+        ensures { IfOk result (λ answer. spec.IsToldOfBreach self.now.breach P.profile behind.now.setup.now behind.now.made judged.now told answer.text.items answer.verdict) }
     {
         let kernel = kernel_after::<P, S, W>(alloc, behind.setup, behind.made)?;
         let most = self.states.unwrap_or(STATES);

@@ -21,7 +21,7 @@ pub fn happening_of(told: Told) -> Happening
 
 /// The badge that a message is to have, where that is asked.
 pub fn badge_of(told: Told) -> Option<u64>
-    ensures { result ≡ spec.badge_of told }
+    ensures { result ≡ spec.badge_of_breach told }
 {
     match told {
         Told::Badge(used) => Some(used.badge.0),
@@ -32,7 +32,7 @@ pub fn badge_of(told: Told) -> Option<u64>
 }
 
 fn is_of_endpoint(told: Told, endpoint: u64) -> bool
-    ensures { result ≡ spec.is_of_endpoint told endpoint }
+    ensures { result ≡ spec.is_use_of_endpoint told endpoint }
 {
     match told {
         Told::Badge(used) => used.endpoint == endpoint,
@@ -65,7 +65,7 @@ pub fn everyone(alloc: Global, policy: &Policy) -> Result<Vec<Member>, AllocErro
 }
 
 fn lies_in(memory: &[PartMemory], part: u64, thread: u64) -> bool
-    ensures { result ≡ spec.lies_in memory.now part thread }
+    ensures { result ≡ spec.is_in_that_part memory.now part thread }
 {
     match part_at(memory, thread) {
         None => false,

@@ -9,7 +9,7 @@ use Rattle.query_orders.specs.declared.left.LeftCall.{LeftCall}
 use Rattle.query_orders.specs.World.{World, start, next_client_call, may_call, world_after}
 use Rattle.query_orders.specs.Answers.{Answered, call_answers, end_answers}
 use Rattle.query_orders.specs.Ends.{left_calls}
-use Rattle.query_orders.specs.Groups.{AreGroups, is_in, alone}
+use Rattle.query_orders.specs.Groups.{AreGroups, is_client_in, alone}
 use Rattle.query_orders.specs.Laws.{EachCanBeMade}
 
 -- behind an order and behind its part that a group's clients make, each client of the group can go on alike, and is told the same; and
@@ -32,7 +32,7 @@ BeginsAlike p own A first has =
 abbrev pub HasPart : ProfileName → List (List Call) → State → List ℕ → List ℕ → ℕ → List ℕ → Type 0
 HasPart p own A first groups group order =
     let w = world_after p own (start own A) first in
-    let has = is_in groups group in
+    let has = is_client_in groups group in
     let lone = alone own w.made has in
     IsReached p A → AreGroups p own w groups → EachCanBeMade p own w order →
     EachCanBeMade p lone w (filter has order) × IsSeenAlike p own lone has (world_after p own w order) (world_after p lone w (filter has order))
@@ -41,6 +41,6 @@ HasPart p own A first groups group order =
 abbrev pub GoesOn : ProfileName → List (List Call) → State → List ℕ → List ℕ → ℕ → List ℕ → List ℕ → Type 0
 GoesOn p own A first groups group order more =
     let w = world_after p own (start own A) first in
-    let has = is_in groups group in
+    let has = is_client_in groups group in
     IsReached p A → AreGroups p own w groups → EachCanBeMade p own w order → filter has order ≡ []
     → EachCanBeMade p (alone own w.made has) w more → Each (λ client. has client ≡ true) more → EachCanBeMade p own w (order ++ more)

@@ -24,12 +24,12 @@ use Rattle.query_orders.specs.Orders.{numbers_below, clients}
 -- ---- what calls touch
 
 -- an operation that sends or receives changes no capability
-abbrev pub is_message : Op → Bool
-is_message (op.Send cap message) = true
-is_message (op.NbSend cap message) = true
-is_message (op.Recv cap) = true
-is_message (op.NbRecv cap) = true
-is_message op = false
+abbrev pub is_send_or_receive : Op → Bool
+is_send_or_receive (op.Send cap message) = true
+is_send_or_receive (op.NbSend cap message) = true
+is_send_or_receive (op.Recv cap) = true
+is_send_or_receive (op.NbRecv cap) = true
+is_send_or_receive op = false
 
 -- the endpoint whose capability is in the slot that was found
 abbrev pub endpoint_found : Forest Entry → Result ℕ Reason → Option ℕ
@@ -71,18 +71,18 @@ objects_of_client p own w client =
     ++ map (λ (call : WaitingCall). object_of (shown w.kernel) call.thread) (filter (λ (call : WaitingCall). call.client == client) w.waits)
 
 -- whether two are one thread, or one endpoint
-abbrev pub same_object : CallObject → CallObject → Bool
-same_object (Thread a) (Thread b) = a == b
-same_object (Endpoint a) (Endpoint b) = a == b
-same_object a b = false
+abbrev pub is_same_object : CallObject → CallObject → Bool
+is_same_object (Thread a) (Thread b) = a == b
+is_same_object (Endpoint a) (Endpoint b) = a == b
+is_same_object a b = false
 
 -- whether some object is in both
 abbrev pub share : List CallObject → List CallObject → Bool
-share xs ys = list_any (λ x. list_any (same_object x) ys) xs
+share xs ys = list_any (λ x. list_any (is_same_object x) ys) xs
 
 -- whether some call that is left is no send and no receive
 abbrev pub has_other_calls : List (List Call) → List ℕ → Bool
-has_other_calls own made = list_any (λ client. list_any (λ (call : Call). not (is_message call.op)) (calls_left own made client)) (clients own)
+has_other_calls own made = list_any (λ client. list_any (λ (call : Call). not (is_send_or_receive call.op)) (calls_left own made client)) (clients own)
 
 -- two clients touch one object, or capabilities may change
 abbrev pub is_together : ProfileName → List (List Call) → World → ℕ → ℕ → Bool
@@ -91,28 +91,28 @@ is_together p own w a b = has_other_calls own w.made || share (objects_of_client
 -- ---- groups
 
 -- the group of a client, which is told by its first client
-abbrev pub group_of : List ℕ → ℕ → ℕ
-group_of groups client = unwrap_or (slice_get groups client) client
+abbrev pub group_of_client : List ℕ → ℕ → ℕ
+group_of_client groups client = unwrap_or (slice_get groups client) client
 
 -- clients that are together are in one group; and the groups are the finest of which that holds
 pub record AreGroups (p : ProfileName) (own : List (List Call)) (w : World) (groups : List ℕ) : Type 0 where
   pub each : length groups ≡ length own
-  pub together : (a b : ℕ) → a < length own → b < length own → is_together p own w a b ≡ true → group_of groups a ≡ group_of groups b
+  pub together : (a b : ℕ) → a < length own → b < length own → is_together p own w a b ≡ true → group_of_client groups a ≡ group_of_client groups b
   pub finest : (other : ℕ → ℕ) → ((a b : ℕ) → a < length own → b < length own → is_together p own w a b ≡ true → other a ≡ other b)
-      → (a b : ℕ) → a < length own → b < length own → group_of groups a ≡ group_of groups b → other a ≡ other b
-  pub first : (client : ℕ) → client < length own → (group_of groups client ≤ client) × (group_of groups (group_of groups client) ≡ group_of groups client)
+      → (a b : ℕ) → a < length own → b < length own → group_of_client groups a ≡ group_of_client groups b → other a ≡ other b
+  pub first : (client : ℕ) → client < length own → (group_of_client groups client ≤ client) × (group_of_client groups (group_of_client groups client) ≡ group_of_client groups client)
 
 -- whether a client is of the group that this client is the first of
-abbrev pub is_in : List ℕ → ℕ → ℕ → Bool
-is_in groups group client = group_of groups client == group
+abbrev pub is_client_in : List ℕ → ℕ → ℕ → Bool
+is_client_in groups group client = group_of_client groups client == group
 
 -- the first client of each group
 abbrev pub first_of_groups : List ℕ → List ℕ
-first_of_groups groups = filter (λ client. group_of groups client == client) (numbers_below (length groups))
+first_of_groups groups = filter (λ client. group_of_client groups client == client) (numbers_below (length groups))
 
 -- the calls of one group's clients; of the other clients those that they have made
-abbrev pub calls_in : List ℕ → (ℕ → Bool) → ℕ → List Call → List Call
-calls_in made has client calls = cond (has client) calls (take (next_place made client) calls)
+abbrev pub calls_left_in : List ℕ → (ℕ → Bool) → ℕ → List Call → List Call
+calls_left_in made has client calls = cond (has client) calls (take (next_place made client) calls)
 
 abbrev pub alone : List (List Call) → List ℕ → (ℕ → Bool) → List (List Call)
-alone own made has = map (λ client. calls_in made has client (unwrap_or (slice_get own client) [])) (clients own)
+alone own made has = map (λ client. calls_left_in made has client (unwrap_or (slice_get own client) [])) (clients own)

@@ -8,7 +8,7 @@ use Rattle.query_orders.specs.declared.answer.Answer.{Answer}
 use Rattle.query_orders.specs.declared.groups.exploring.GroupExplored.{GroupExplored}
 use Rattle.query_orders.specs.declared.groups.exploring.GroupsExplored.{GroupsExplored}
 use Rattle.query_orders.specs.World.{start, world_after}
-use Rattle.query_orders.specs.Groups.{AreGroups, is_in, first_of_groups, alone}
+use Rattle.query_orders.specs.Groups.{AreGroups, is_client_in, first_of_groups, alone}
 use Rattle.query_orders.specs.Explorations.{IsExplored}
 
 -- all orders of each group's clients are explored, by themselves, as far as the limit lets it go; the groups are those that there
@@ -16,4 +16,4 @@ use Rattle.query_orders.specs.Explorations.{IsExplored}
 pub record IsExploredByGroups (p : ProfileName) (own : List (List Call)) (A : State) (first : List ℕ) (same : Answer → Answer → Bool) (limit count : ℕ) (e : GroupsExplored) : Type 0 where
   pub groups_are : AreGroups p own (world_after p own (start own A) first) e.groups.items
   pub firsts_are : map (λ (g : GroupExplored). g.first) e.explored.items ≡ first_of_groups e.groups.items
-  pub explored_are : Each (λ (g : GroupExplored). IsExplored p (alone own (world_after p own (start own A) first).made (is_in e.groups.items g.first)) A first same limit count g.explored) e.explored.items
+  pub explored_are : Each (λ (g : GroupExplored). IsExplored p (alone own (world_after p own (start own A) first).made (is_client_in e.groups.items g.first)) A first same limit count g.explored) e.explored.items

@@ -15,7 +15,7 @@ use Rattle.kernel_abstract.specs.Shown.{Shown, ThreadView}
 use Rattle.kernel_abstract.specs.Private.Effects.{Effect, effect_of, decoded_effect}
 use Rattle.query_orders.specs.declared.answer.WaitingCall.{WaitingCall}
 use Rattle.query_orders.specs.World.{call_of_client_at, next_client_call, one_more, next_place, is_wait, is_waiting, still_waits, waiting_call, waits_with, waits_after}
-use Rattle.query_orders.specs.Groups.{is_message, endpoint_invoked}
+use Rattle.query_orders.specs.Groups.{is_send_or_receive, endpoint_invoked}
 use Rattle.query_orders.proofs.NoLonger.{get-set_same, get-set_apart}
 use Rattle.query_orders.proofs.Apart.Lists.{filters_swap, filter_alike, each_both, each_weaker, each_filter, each_passes}
 use Rattle.query_orders.proofs.Apart.Waits.{put, waits_with_is, AreOrdered, ordered_filter, put_among, put_unseen}
@@ -56,7 +56,7 @@ more_grown before made client (Some m) e h c n is = elim (eqb_tells c client) as
 module _ (p : ProfileName) (own : List (List Call)) (f : Forest Entry) (before : List ℕ) (has on_thread on_endpoint : ℕ → Bool) where
   -- a call of a client sends or receives, and what it touches stands on the client's side
   pub record IsOnSide (client : ℕ) (call : Call) : Type 0 where
-    pub message : is_message call.op ≡ true
+    pub message : is_send_or_receive call.op ≡ true
     pub thread : on_thread call.thread ≡ has client
     pub endpoint : (e : ℕ) → endpoint_invoked p f call ≡ Some e → on_endpoint e ≡ has client
 

@@ -8,7 +8,7 @@ use Rattle.kernel_abstract.specs.declared.call.Call.{Call}
 use Rattle.kernel_abstract.specs.State.{State}
 use Rattle.query_orders.specs.World.{World, start, call_of_client_at, next_client_call, one_more, next_place, with_call, after_call, world_after}
 use Rattle.query_orders.specs.Orders.{numbers_below, clients}
-use Rattle.query_orders.specs.Groups.{calls_in, alone}
+use Rattle.query_orders.specs.Groups.{calls_left_in, alone}
 use Rattle.query_orders.specs.Apart.{BeginsAlike}
 use Rattle.query_orders.proofs.NoLonger.{get-set_same, get-set_apart}
 
@@ -59,12 +59,12 @@ module _ (own : List (List Call)) (made : List ℕ) (has : ℕ → Bool) where
   calls_at l client = unwrap_or (slice_get l client) []
 
   pub lone_long : length lone ≡ length own
-  lone_long = length-map (clients own) (λ client. calls_in made has client (calls_at own client)) ∙ numbers_long (length own)
+  lone_long = length-map (clients own) (λ client. calls_left_in made has client (calls_at own client)) ∙ numbers_long (length own)
 
-  lone_calls : (client : ℕ) → client < length own → slice_get lone client ≡ Some (calls_in made has client (calls_at own client))
+  lone_calls : (client : ℕ) → client < length own → slice_get lone client ≡ Some (calls_left_in made has client (calls_at own client))
   lone_calls client lt =
-      slice_get-map (λ client. calls_in made has client (calls_at own client)) (clients own) client
-      ∙ ap (λ (o : Option ℕ). option_map (λ client. calls_in made has client (calls_at own client)) o) (number_at (length own) client lt)
+      slice_get-map (λ client. calls_left_in made has client (calls_at own client)) (clients own) client
+      ∙ ap (λ (o : Option ℕ). option_map (λ client. calls_left_in made has client (calls_at own client)) o) (number_at (length own) client lt)
 
   -- a place of a client's calls
   abbrev place_of : Option (List Call) → ℕ → Option Call

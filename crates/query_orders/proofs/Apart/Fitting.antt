@@ -24,7 +24,7 @@ use Rattle.kernel_abstract.specs.Reasons.{with_refusal}
 use Rattle.kernel_abstract.specs.Lookups.{slot_by_word}
 use Rattle.kernel_abstract.specs.Decode.{service_word, has_right, right_bit, service_in, checked_invocation, checked_op, checked_call, decoded_call, ensure_ready, ensure_live}
 use Rattle.kernel_abstract.specs.Shown.{Shown, ThreadView, endpoint_base}
-use Rattle.query_orders.specs.Groups.{is_message, endpoint_found, endpoint_invoked}
+use Rattle.query_orders.specs.Groups.{is_send_or_receive, endpoint_found, endpoint_invoked}
 
 module _ (on_endpoint : ℕ → Bool) (side : Bool) where
   -- a send or a receive of an endpoint on this side, or what is refused
@@ -57,7 +57,7 @@ module _ (on_endpoint : ℕ → Bool) (side : Bool) where
   asked_fits (Err reason) ask f h = tt
 
   module _ (p : ProfileName) (f : Forest Entry) (thread : ℕ) where
-    invocation_fits : (o : Op) (slot : ℕ) → is_message o ≡ true → ((e : ℕ) → endpoint_base (cap_at f slot) ≡ Some e → on_endpoint e ≡ side) → Fits (checked_invocation p f thread o slot)
+    invocation_fits : (o : Op) (slot : ℕ) → is_send_or_receive o ≡ true → ((e : ℕ) → endpoint_base (cap_at f slot) ≡ Some e → on_endpoint e ≡ side) → Fits (checked_invocation p f thread o slot)
     invocation_fits (op.Send cap message) slot is h = asked_fits (service_in Write slot (cap_at f slot)) (λ service. invocation.Send service message true) (λ service on. on) (service_fits Write slot (cap_at f slot) h)
     invocation_fits (op.NbSend cap message) slot is h = asked_fits (service_in Write slot (cap_at f slot)) (λ service. invocation.Send service message false) (λ service on. on) (service_fits Write slot (cap_at f slot) h)
     invocation_fits (op.Recv cap) slot is h = asked_fits (service_in Read slot (cap_at f slot)) (λ service. invocation.Receive service true) (λ service on. on) (service_fits Read slot (cap_at f slot) h)
@@ -74,7 +74,7 @@ module _ (on_endpoint : ℕ → Bool) (side : Bool) where
     invocation_fits (op.Suspend cap) slot is h = cc
     invocation_fits (op.Resume cap) slot is h = cc
 
-    op_fits : (o : Op) (found : Result ℕ Reason) → is_message o ≡ true → ((e : ℕ) → endpoint_found f found ≡ Some e → on_endpoint e ≡ side) → Fits (found >>= checked_invocation p f thread o)
+    op_fits : (o : Op) (found : Result ℕ Reason) → is_send_or_receive o ≡ true → ((e : ℕ) → endpoint_found f found ≡ Some e → on_endpoint e ≡ side) → Fits (found >>= checked_invocation p f thread o)
     op_fits o (Ok slot) is h = invocation_fits o slot is h
     op_fits o (Err reason) is h = tt
 
@@ -92,7 +92,7 @@ module _ (on_endpoint : ℕ → Bool) (side : Bool) where
   refusal_fits (Ok asked) h = h
   refusal_fits (Err reason) h = tt
 
-  pub decoded_fits : (p : ProfileName) (v : Shown) (call : Call) → is_message call.op ≡ true → ((e : ℕ) → endpoint_invoked p v.derivations call ≡ Some e → on_endpoint e ≡ side) → Fits (decoded_call p v call)
+  pub decoded_fits : (p : ProfileName) (v : Shown) (call : Call) → is_send_or_receive call.op ≡ true → ((e : ℕ) → endpoint_invoked p v.derivations call ≡ Some e → on_endpoint e ≡ side) → Fits (decoded_call p v call)
   decoded_fits p v call is h =
       refusal_fits (checked_call p v call) (live_fits (get v.threads call.thread) (checked_op p v.derivations call.thread call.op)
       (op_fits p v.derivations call.thread call.op (slot_by_word p v.derivations Invoked call.thread (service_word call.op)) is h))

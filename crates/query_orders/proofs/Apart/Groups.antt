@@ -6,7 +6,7 @@ use Rattle.kernel_abstract.specs.declared.call.Call.{Call}
 use Rattle.kernel_abstract.specs.State.{State, shown}
 use Rattle.kernel_abstract.specs.Reached.{IsReached}
 use Rattle.query_orders.specs.World.{World, start, world_after}
-use Rattle.query_orders.specs.Groups.{AreGroups, alone, has_other_calls, is_in, objects_of_client, share}
+use Rattle.query_orders.specs.Groups.{AreGroups, alone, has_other_calls, is_client_in, objects_of_client, share}
 use Rattle.query_orders.specs.Laws.{EachCanBeMade}
 use Rattle.query_orders.specs.Apart.{IsSeenAlike, HasPart, GoesOn}
 use Rattle.query_orders.proofs.Exploration.Steps.{world_reached}
@@ -24,7 +24,7 @@ use Rattle.query_orders.proofs.Apart.OneGroup.{alone_is_all, part_is_all, part_i
 module _ (p : ProfileName) (own : List (List Call)) (w : World) (groups : List ℕ) (group : ℕ) (are : AreGroups p own w groups) (r : IsReached p w.kernel)
     (waits : WaitsHold (shown w.kernel) w.waits × Each (IsOfClient own) w.waits) where
   abbrev has : ℕ → Bool
-  has = is_in groups group
+  has = is_client_in groups group
 
   abbrev lone : List (List Call)
   lone = alone own w.made has

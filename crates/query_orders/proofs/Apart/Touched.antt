@@ -20,7 +20,7 @@ use Rattle.query_orders.specs.declared.groups.objects.CallObject.{CallObject}
 use Rattle.query_orders.specs.declared.groups.objects.CallObject.TheVariants.{Thread, Endpoint}
 use Rattle.query_orders.specs.World.{World, next_place}
 use Rattle.query_orders.specs.Orders.{clients}
-use Rattle.query_orders.specs.Groups.{is_message, endpoint_invoked, object_in, object_of, object_invoked, objects_of_call, calls_left, objects_of_client, same_object, share, has_other_calls, is_together, AreGroups, is_in}
+use Rattle.query_orders.specs.Groups.{is_send_or_receive, endpoint_invoked, object_in, object_of, object_invoked, objects_of_call, calls_left, objects_of_client, is_same_object, share, has_other_calls, is_together, AreGroups, is_client_in}
 use Rattle.query_orders.proofs.Contained.{contains-below, contains-map, contains-filter, contains-flat_map, contains-head, contains-tail}
 use Rattle.query_orders.proofs.Apart.Lists.{each_weaker}
 use Rattle.query_orders.proofs.Apart.Contents.{both_true, true_parts, or_right, any_of, some_of, none_of, each_contained, contains_dropped, below_contained}
@@ -31,19 +31,19 @@ use Rattle.query_orders.proofs.Apart.Shown.{shown_to_wait}
 number_is : (a b : ℕ) → (a == b) ≡ true → a ≡ b
 number_is a b h = grind (arith, nat_tests)
 
-object_is : (x y : CallObject) → same_object x y ≡ true → x ≡ y
+object_is : (x y : CallObject) → is_same_object x y ≡ true → x ≡ y
 object_is (Thread a) (Thread b) h = ap (λ n. Thread n) (number_is a b h)
 object_is (Endpoint a) (Endpoint b) h = ap (λ n. Endpoint n) (number_is a b h)
 object_is (Thread a) (Endpoint b) h = absurd (false≢true h)
 object_is (Endpoint a) (Thread b) h = absurd (false≢true h)
 
-object_itself : (x : CallObject) → same_object x x ≡ true
+object_itself : (x : CallObject) → is_same_object x x ≡ true
 object_itself (Thread a) = eq-eqb a a refl
 object_itself (Endpoint a) = eq-eqb a a refl
 
 module _ (p : ProfileName) (own : List (List Call)) (w : World) (groups : List ℕ) (group : ℕ) (are : AreGroups p own w groups) where
   abbrev has : ℕ → Bool
-  has = is_in groups group
+  has = is_client_in groups group
 
   -- clients that are together are in the group both, or neither
   pub has_same : (a b : ℕ) → a < length own → b < length own → is_together p own w a b ≡ true → has a ≡ has b
@@ -51,7 +51,7 @@ module _ (p : ProfileName) (own : List (List Call)) (w : World) (groups : List �
 
   -- a client touches an object
   abbrev touches : ℕ → CallObject → Bool
-  touches client x = list_any (same_object x) (objects_of_client p own w client)
+  touches client x = list_any (is_same_object x) (objects_of_client p own w client)
 
   -- a client of the group does
   abbrev pub is_ours : CallObject → Bool
@@ -61,15 +61,15 @@ module _ (p : ProfileName) (own : List (List Call)) (w : World) (groups : List �
   touched client x lt contains = by (has client) refl
     where
       there : touches client x ≡ true
-      there = any_of (same_object x) (objects_of_client p own w client) x contains (object_itself x)
+      there = any_of (is_same_object x) (objects_of_client p own w client) x contains (object_itself x)
 
       -- another client that touches it is in the same group
       shared : (other : ℕ) → other < length own → touches other x ≡ true → has other ≡ has client
       shared other below touching =
-          let at = some_of (same_object x) (objects_of_client p own w other) touching in
+          let at = some_of (is_same_object x) (objects_of_client p own w other) touching in
           let contains_there = subst (Contains (objects_of_client p own w other)) (sym (object_is x at.0 at.2)) at.1 in
           let sharing : share (objects_of_client p own w other) (objects_of_client p own w client) ≡ true =
-          any_of (λ y. list_any (same_object y) (objects_of_client p own w client)) (objects_of_client p own w other) x contains_there there in
+          any_of (λ y. list_any (is_same_object y) (objects_of_client p own w client)) (objects_of_client p own w other) x contains_there there in
           has_same other client below lt (or_right (has_other_calls own w.made) (share (objects_of_client p own w other) (objects_of_client p own w client)) sharing)
 
       none : has client ≡ false → (b : Bool) → is_ours x ≡ b → b ≡ false
@@ -92,10 +92,10 @@ module _ (p : ProfileName) (own : List (List Call)) (w : World) (groups : List �
   -- ---- the calls that are left
 
   module _ (messages : has_other_calls own w.made ≡ false) where
-    is_message_so : (client : ℕ) (call : Call) → client < length own → Contains (calls_left own w.made client) call → is_message call.op ≡ true
+    is_message_so : (client : ℕ) (call : Call) → client < length own → Contains (calls_left own w.made client) call → is_send_or_receive call.op ≡ true
     is_message_so client call lt contains =
-        let of_client = none_of (λ client. list_any (λ (call : Call). not (is_message call.op)) (calls_left own w.made client)) (clients own) client messages (contains-below (length own) client lt) in
-        not_false (is_message call.op) (none_of (λ (call : Call). not (is_message call.op)) (calls_left own w.made client) call of_client contains)
+        let of_client = none_of (λ client. list_any (λ (call : Call). not (is_send_or_receive call.op)) (calls_left own w.made client)) (clients own) client messages (contains-below (length own) client lt) in
+        not_false (is_send_or_receive call.op) (none_of (λ (call : Call). not (is_send_or_receive call.op)) (calls_left own w.made client) call of_client contains)
       where
         not_false : (b : Bool) → not b ≡ false → b ≡ true
         not_false true h = refl

@@ -8,18 +8,18 @@ use Rattle.kernel_abstract.specs.State.{shown}
 use Rattle.query_orders.specs.declared.groups.objects.CallObject.{CallObject}
 use Rattle.query_orders.specs.World.{World}
 use Rattle.query_orders.specs.Orders.{numbers_below}
-use Rattle.query_orders.specs.Groups.{objects_of_client, share, has_other_calls, is_together, group_of, AreGroups}
+use Rattle.query_orders.specs.Groups.{objects_of_client, share, has_other_calls, is_together, group_of_client, AreGroups}
 use Rattle.query_orders.specs.Private.Grouping.{objects_by, touch_alike, AreGrouped}
 use Rattle.query_orders.proofs.Grouped.Lists.{length-below, group_below, mapped_below}
 
 module _ (together : ℕ → ℕ → Bool) (n : ℕ) where
-  alone_in : (client : ℕ) → client < length (numbers_below n) → group_of (numbers_below n) client ≡ client
+  alone_in : (client : ℕ) → client < length (numbers_below n) → group_of_client (numbers_below n) client ≡ client
   alone_in client lt = group_below n client (subst (λ k. client < k) (length-below n) lt)
 
   pub single : AreGrouped together 0 0 (numbers_below n)
   single = record {
     first = λ client lt.
-        (let is = alone_in client lt in (let low : client ≤ client = omega arith in subst (λ k. k ≤ client) (sym is) low, ap (group_of (numbers_below n)) is));
+        (let is = alone_in client lt in (let low : client ≤ client = omega arith in subst (λ k. k ≤ client) (sym is) low, ap (group_of_client (numbers_below n)) is));
     finest = λ other respects client lt. ap other (sym (alone_in client lt));
     before = λ x y lx hx hy t. absurd (omega (arith, lx));
     here = λ y ly hx hy t. absurd (omega (arith, ly));

@@ -7,14 +7,14 @@ use Rattle.std.proofs.lemmas.List.{get_or_append_left, map-append, append-nil}
 use Rattle.std.proofs.lemmas.List.Elements.{filter-append}
 use Rattle.std.proofs.Math.Seq.{get_or-append_seam}
 use Rattle.std.proofs.lemmas.Bool.Decides.{eqb_tells}
-use Rattle.query_orders.specs.Groups.{group_of}
+use Rattle.query_orders.specs.Groups.{group_of_client}
 use Rattle.query_orders.specs.Orders.{numbers_below}
 use Rattle.query_orders.proofs.Contained.{each_append}
 
-pub group_at : (groups : List ℕ) (client : ℕ) → client < length groups → slice_get groups client ≡ Some (group_of groups client)
+pub group_at : (groups : List ℕ) (client : ℕ) → client < length groups → slice_get groups client ≡ Some (group_of_client groups client)
 group_at groups client lt = slice_get-get_or groups client client lt ∙ ap Some (sym (unwrap_or-slice_get groups client client))
 
-pub group_mapped : (f : ℕ → ℕ) (groups : List ℕ) (client : ℕ) → client < length groups → group_of (map f groups) client ≡ f (group_of groups client)
+pub group_mapped : (f : ℕ → ℕ) (groups : List ℕ) (client : ℕ) → client < length groups → group_of_client (map f groups) client ≡ f (group_of_client groups client)
 group_mapped f groups client lt = ap (λ o. unwrap_or o client) (slice_get-map f groups client ∙ ap (option_map f) (group_at groups client lt))
 
 -- ---- the numbers below one
@@ -40,7 +40,7 @@ below_at (suc n) at d lt = elim (eqb_tells at n) as (λ _. get_or (numbers_below
 slice_below : (n at : ℕ) → at < n → slice_get (numbers_below n) at ≡ Some at
 slice_below n at lt = slice_get-get_or (numbers_below n) at at (subst (λ k. at < k) (sym (length-below n)) lt) ∙ ap Some (below_at n at at lt)
 
-pub group_below : (n client : ℕ) → client < n → group_of (numbers_below n) client ≡ client
+pub group_below : (n client : ℕ) → client < n → group_of_client (numbers_below n) client ≡ client
 group_below n client lt = ap (λ o. unwrap_or o client) (slice_below n client lt)
 
 pub mapped_below : {X : Type 0} (f : ℕ → X) (n at : ℕ) (d : X) → at < n → unwrap_or (slice_get (map f (numbers_below n)) at) d ≡ f at

@@ -7,7 +7,7 @@ use Rattle.kernel_abstract.specs.declared.call.Call.{Call}
 use Rattle.kernel_abstract.specs.Shown.{Shown}
 use Rattle.query_orders.specs.declared.answer.WaitingCall.{WaitingCall}
 use Rattle.query_orders.specs.declared.groups.objects.CallObject.{CallObject}
-use Rattle.query_orders.specs.Groups.{object_of, objects_of_call, calls_left, share, group_of}
+use Rattle.query_orders.specs.Groups.{object_of, objects_of_call, calls_left, share, group_of_client}
 
 -- what a client touches, by the parts of a world
 abbrev pub objects_by : ProfileName → List (List Call) → List ℕ → List WaitingCall → Shown → ℕ → List CallObject
@@ -28,8 +28,8 @@ regrouped from to group = cond (group == from) to group
 
 -- clients that are together are in one group: each client before `a` with all others, and `a` with each before `b`
 pub record AreGrouped (together : ℕ → ℕ → Bool) (a b : ℕ) (groups : List ℕ) : Type 0 where
-  pub first : (client : ℕ) → client < length groups → (group_of groups client ≤ client) × (group_of groups (group_of groups client) ≡ group_of groups client)
+  pub first : (client : ℕ) → client < length groups → (group_of_client groups client ≤ client) × (group_of_client groups (group_of_client groups client) ≡ group_of_client groups client)
   pub finest : (other : ℕ → ℕ) → ((x y : ℕ) → x < length groups → y < length groups → together x y ≡ true → other x ≡ other y)
-      → (client : ℕ) → client < length groups → other client ≡ other (group_of groups client)
-  pub before : (x y : ℕ) → x < a → x < length groups → y < length groups → together x y ≡ true → group_of groups x ≡ group_of groups y
-  pub here : (y : ℕ) → y < b → a < length groups → y < length groups → together a y ≡ true → group_of groups a ≡ group_of groups y
+      → (client : ℕ) → client < length groups → other client ≡ other (group_of_client groups client)
+  pub before : (x y : ℕ) → x < a → x < length groups → y < length groups → together x y ≡ true → group_of_client groups x ≡ group_of_client groups y
+  pub here : (y : ℕ) → y < b → a < length groups → y < length groups → together a y ≡ true → group_of_client groups a ≡ group_of_client groups y

@@ -1,6 +1,6 @@
 //! The calls that a group's clients have by themselves.
 ghost use Rattle.std.specs.Prelude.{◌≡◌, IfOk, [], length, slice_get, take, unwrap_or};
-ghost use Rattle.query_orders.specs.Groups.{is_in, calls_in, alone as alone_of};
+ghost use Rattle.query_orders.specs.Groups.{is_client_in, calls_left_in, alone as alone_of};
 ghost use Rattle.query_orders.specs.Nodes.{own_calls};
 
 use crate::exploring::node::place_of;
@@ -10,7 +10,7 @@ use std::alloc::{AllocError, Global};
 
 /// Whether a client is of a group, which its first client tells.
 pub fn is_in_group(groups: &[usize], group: usize, client: usize) -> bool
-    ensures { result ≡ is_in groups.now group client }
+    ensures { result ≡ is_client_in groups.now group client }
 {
     group_of(groups, client) == group
 }
@@ -41,7 +41,7 @@ fn kept_calls(
     is_in: bool,
     client: usize,
 ) -> Result<Vec<Call>, AllocError>
-    ensures { IfOk result (λ kept. kept.items ≡ calls_in made.now (λ client. is_in) client (unwrap_or (slice_get (own_calls calls.now) client) [])) }
+    ensures { IfOk result (λ kept. kept.items ≡ calls_left_in made.now (λ client. is_in) client (unwrap_or (slice_get (own_calls calls.now) client) [])) }
 {
     let own = calls_of(calls, client);
     if is_in {
@@ -59,7 +59,7 @@ pub fn alone(
     groups: &[usize],
     group: usize,
 ) -> Result<Vec<Vec<Call>>, AllocError>
-    ensures { IfOk result (λ lone. own_calls lone.items ≡ alone_of (own_calls calls.now) made.now (is_in groups.now group)) }
+    ensures { IfOk result (λ lone. own_calls lone.items ≡ alone_of (own_calls calls.now) made.now (is_client_in groups.now group)) }
 {
     let mut lone = Vec::new(alloc);
     for client in 0..calls.len() {

@@ -3,7 +3,7 @@ ghost use Rattle.std.specs.Prelude.{◌≡◌, ◌++◌, ◌==◌, ℕ, IfOk, On
 ghost use Rattle.std.specs.List.{flat_map, list_any};
 ghost use Rattle.kernel_abstract.specs.declared.call.Call.{Call as CallOf};
 ghost use Rattle.query_orders.specs.declared.answer.WaitingCall.{WaitingCall as WaitingCallOf};
-ghost use Rattle.query_orders.specs.Groups.{is_message as is_message_op, object_of as object_of_thread, objects_of_call, calls_left as calls_left_of, same_object as are_same, share as share_one, has_other_calls as any_other_left};
+ghost use Rattle.query_orders.specs.Groups.{is_send_or_receive as is_message_op, object_of as object_of_thread, objects_of_call, calls_left as calls_left_of, is_same_object as are_same, share as share_one, has_other_calls as any_other_left};
 ghost use Rattle.query_orders.specs.Nodes.{own_calls};
 ghost use Rattle.query_orders.specs.Orders.{numbers_below};
 ghost use Rattle.query_orders.specs.Private.Grouping.{objects_by, object_lists};

@@ -5,7 +5,7 @@ ghost use Rattle.kernel_abstract.specs.State.{State, shown};
 ghost use Rattle.kernel_abstract.specs.Reached.{IsReached};
 ghost use Rattle.query_orders.specs.declared.groups.exploring.GroupExplored.{GroupExplored as GroupExploredOf};
 ghost use Rattle.query_orders.specs.World.{start};
-ghost use Rattle.query_orders.specs.Groups.{first_of_groups, alone as alone_of, is_in};
+ghost use Rattle.query_orders.specs.Groups.{first_of_groups, alone as alone_of, is_client_in};
 ghost use Rattle.query_orders.specs.GroupsExplored.{IsExploredByGroups};
 ghost use Rattle.query_orders.specs.Nodes.{own_calls};
 ghost use Rattle.query_orders.specs.Explorations.{IsExplored};
@@ -48,7 +48,7 @@ fn explore_each<P: Profile, S: MakeStore<P> + DerivationStore<P>, W: MakeWaiters
 ) -> Result<Vec<GroupExplored>, AllocError>
     ensures firsts { IfOk result (λ all. map (λ (g : GroupExploredOf). g.first) all.items ≡ first_of_groups groups.now) }
     ensures explored { IfOk result (λ all. (A : State) → IsReached P.profile A → kernel.now ≡ shown A
-        → Each (λ (g : GroupExploredOf). IsExplored P.profile (alone_of (own_calls calls.now) made.now (is_in groups.now g.first)) A first.now ⟦<Answer as PartialEq>⟧.eq limit count g.explored) all.items) }
+        → Each (λ (g : GroupExploredOf). IsExplored P.profile (alone_of (own_calls calls.now) made.now (is_client_in groups.now g.first)) A first.now ⟦<Answer as PartialEq>⟧.eq limit count g.explored) all.items) }
 {
     let mut all = Vec::new(alloc);
     for client in 0..groups.len() {

@@ -1,7 +1,7 @@
 //! Which clients form a group: those that share objects, and those that share objects with these, and so on.
 ghost use Rattle.std.specs.Prelude.{◌≡◌, ◌<◌, ◌≤◌, ◌+◌, ℕ, Bool, true, IfOk, length, map};
 ghost use Rattle.kernel_abstract.specs.State.{shown};
-ghost use Rattle.query_orders.specs.Groups.{group_of as group_of_client, AreGroups};
+ghost use Rattle.query_orders.specs.Groups.{group_of_client, AreGroups};
 ghost use Rattle.query_orders.specs.Nodes.{own_calls};
 ghost use Rattle.query_orders.specs.Orders.{numbers_below};
 ghost use Rattle.query_orders.specs.World.{World};

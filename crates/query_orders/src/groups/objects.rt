@@ -2,7 +2,7 @@
 ghost use Rattle.std.specs.Prelude.{◌≡◌, ◌++◌, IfOk, OnOk};
 ghost use Rattle.kernel_abstract.specs.Decode.{service_word as service_word_of};
 ghost use Rattle.kernel_abstract.specs.Shown.{endpoint_base};
-ghost use Rattle.query_orders.specs.Groups.{is_message as is_message_op, object_in, object_of as object_of_thread, endpoint_invoked as endpoint_invoked_by, objects_of_call, same_object as are_same};
+ghost use Rattle.query_orders.specs.Groups.{is_send_or_receive as is_message_op, object_in, object_of as object_of_thread, endpoint_invoked as endpoint_invoked_by, objects_of_call, is_same_object as are_same};
 ghost use Rattle.query_orders.specs.Private.Ways.{endpoint_behind};
 
 use cap_core::{Cap, Profile};

@@ -2,14 +2,14 @@ use Rattle.std.proofs.Common.{◌≡◌, ◌++◌, List, filter, map, take, ap, 
 use Rattle.std.proofs.lemmas.List.{map-append, take_all}
 use Rattle.query_orders.specs.declared.exploring.found.FoundAnswer.{FoundAnswer}
 use Rattle.query_orders.specs.Answers.{Answered}
-use Rattle.query_orders.specs.Groups.{is_in}
+use Rattle.query_orders.specs.Groups.{is_client_in}
 use Rattle.query_orders.specs.Found.{answer_of, answers_of}
 use Rattle.command_explore_text.proofs.GroupViews.{answers_among}
 use Rattle.command_explore_text.proofs.groups.add_answers_of.Goals as goal
 
 pub returns : goal.returns
 returns c =
-    let has = is_in c.args.groups.now c.args.group.now.first in
+    let has = is_client_in c.args.groups.now c.args.group.now.first in
     let old = c.args.out.now.items in
     let among = λ (l : List FoundAnswer). filter (λ (f : FoundAnswer). has f.client) l in
     let found = c.args.group.now.explored.found.answers in

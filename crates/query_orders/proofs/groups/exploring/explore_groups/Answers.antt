@@ -4,7 +4,7 @@ use Rattle.kernel_abstract.specs.State.{shown}
 use Rattle.query_orders.specs.contracts.answer.AnswerPartialEq.TheImpl as answer_eq
 use Rattle.query_orders.specs.declared.groups.exploring.GroupExplored.{GroupExplored}
 use Rattle.query_orders.specs.World.{start, world_after}
-use Rattle.query_orders.specs.Groups.{is_in, first_of_groups, alone}
+use Rattle.query_orders.specs.Groups.{is_client_in, first_of_groups, alone}
 use Rattle.query_orders.specs.Nodes.{own_calls}
 use Rattle.query_orders.specs.Explorations.{IsExplored}
 use Rattle.query_orders.proofs.groups.exploring.explore_groups.Goals as goal
@@ -23,7 +23,7 @@ returns g c A r k =
     let waits : c.as_slice.result.now ≡ w.waits = c.as_slice.ensures.value ∙ node.waits_are ∙ ap (λ (o : List ℕ). (after o).waits) order in
     let kernel : c.begin.new.at ≡ shown w.kernel = begun.1 ∙ ap (λ (o : List ℕ). shown (after o).kernel) order in
     let groups : c.as_slice-list.result.now ≡ c.in_ok-groups.groups.items = c.as_slice-list.ensures.value in
-    let Gives = λ (made groups : List ℕ) (e : GroupExplored). IsExplored p (alone own made (is_in groups e.first)) A first answer_eq.ghosts.eq c.args.limit c.args.count e.explored in
+    let Gives = λ (made groups : List ℕ) (e : GroupExplored). IsExplored p (alone own made (is_client_in groups e.first)) A first answer_eq.ghosts.eq c.args.limit c.args.count e.explored in
     record {
       groups_are = c.in_ok-groups.ensures w made waits kernel;
       firsts_are = c.in_ok-explored.ensures.firsts ∙ ap first_of_groups groups;
