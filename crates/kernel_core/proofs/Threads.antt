@@ -1,5 +1,6 @@
 -- The rows of threads, and what is shown of them.
 pub mod KeyedRows
+pub mod RowsEnd
 pub mod Addresses
 pub mod RowViews
 pub mod NewThreads

@@ -1,5 +1,5 @@
 //! Boot: a kernel from a plan.
-ghost use Rattle.std.specs.Prelude.{◌≡◌, ◌+◌, ◌-◌, ◌/◌, ◌^◌, ◌<◌, IfOk};
+ghost use Rattle.std.specs.Prelude.{◌≡◌, ◌-◌, ◌/◌, ◌^◌, IfOk};
 ghost use Rattle.kernel_delete.specs.Housed.{IsHoused};
 ghost use Rattle.kernel_core.specs.Private.BootRows.{boot_rows};
 ghost use Rattle.kernel_abstract.specs.State.{shown};
@@ -10,7 +10,7 @@ ghost use Rattle.kernel_abstract.specs.Boot.{boot as booted};
 
 use crate::ending::Threads;
 use crate::kernel::Kernel;
-use crate::rows::{ThreadRow, write_rows};
+use crate::rows::ThreadRows;
 use cap_core::Profile;
 use ipc_core::MakeWaiters;
 use kernel_boot::{BootPlan, booted_store};
@@ -61,7 +61,7 @@ impl<P: Profile, S: MakeStore<P>, W: MakeWaiters<P>> Kernel<P, S, W> {
         let memory_bits = self.threads.memory_bits;
         let store = self.store.copy(alloc)?;
         let waiters = self.threads.waiters.copy(alloc)?;
-        let rows = Vec::from_slice(alloc, self.threads.rows.as_slice())?;
+        let rows = self.threads.rows.copy(alloc)?;
         let chain = SlotChain::new(alloc, 1 << (memory_bits - P::SLOT_BITS))?;
         Ok(Kernel {
             store,
@@ -100,7 +100,7 @@ impl<P: Profile, S: MakeStore<P>, W: MakeWaiters<P>> Kernel<P, S, W> {
         let store = self.store.copy_into(store)?;
         let waiters = self.threads.waiters.copy_into(threads.waiters)?;
         let mut rows = threads.rows;
-        write_rows(&mut rows, self.threads.rows.as_slice());
+        rows.copy_from(&self.threads.rows);
         Ok(Kernel {
             store,
             threads: Threads {
@@ -115,32 +115,11 @@ impl<P: Profile, S: MakeStore<P>, W: MakeWaiters<P>> Kernel<P, S, W> {
 }
 
 /// The rows of the threads: of the boot threads, which are ready, among the places of the memory.
-fn boot_threads<P: Profile>(
-    alloc: Global,
-    plan: &BootPlan,
-) -> Result<Vec<Option<ThreadRow>>, AllocError>
+fn boot_threads<P: Profile>(alloc: Global, plan: &BootPlan) -> Result<ThreadRows, AllocError>
     requires { IsPlan P.profile plan.now }
-    ensures { IfOk result (λ rows. rows.items ≡ boot_rows (first_tcb P.profile plan.now / tcb_size P.profile) plan.now.threads (2 ^ (plan.now.memory_bits - tcb_bits P.profile))) }
+    ensures { IfOk result (λ rows. rows ≡ boot_rows (first_tcb P.profile plan.now / tcb_size P.profile) plan.now.threads (2 ^ (plan.now.memory_bits - tcb_bits P.profile))) }
 {
     let first = plan.first_tcb::<P>() >> P::TCB_BITS;
     let count = 1u64 << (plan.memory_bits() - P::TCB_BITS);
-    thread_rows(alloc, first, u64::from(plan.threads()), count)
-}
-
-fn thread_rows(
-    alloc: Global,
-    first: u64,
-    threads: u64,
-    count: u64,
-) -> Result<Vec<Option<ThreadRow>>, AllocError>
-    requires { first + threads < 2 ^ 64 }
-    ensures { IfOk result (λ rows. rows.items ≡ boot_rows first threads count) }
-{
-    let ready = ThreadRow {
-        inactive: false,
-        inbox: None,
-    };
-    (0..count)
-        .map(|k| (first <= k && k < first + threads).then_some(ready))
-        .collect(alloc)
+    ThreadRows::ready(alloc, first, u64::from(plan.threads()), count)
 }

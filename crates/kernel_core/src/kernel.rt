@@ -26,7 +26,7 @@ use crate::addresses::{is_endpoint_address, slot_within};
 use crate::ending::Threads;
 use crate::objects::{add_threads, make_objects};
 use crate::placements::{derive_in, move_in};
-use crate::rows::{ThreadRow, row_at, set_row};
+use crate::rows::ThreadRow;
 use cap_core::{Cap, Kind, Message, Profile, Refusal};
 use ipc_core::{Offer, Received, Sent, Waiters};
 use kernel_abstract::call::{Call, Inbox, Reply, ThreadState};
@@ -61,10 +61,10 @@ impl<P: Profile, S: CapStore<P>, W: Waiters<P>> Model for Kernel<P, S, W> {
 
     ghost use Rattle.kernel_core.specs.Rows.{kernel_shown, IsBetweenCalls};
 
-    ghost view = { λ a. kernel_shown P.profile (S.forest a.store) a.threads.rows.items (W.waits a.threads.waiters) };
+    ghost view = { λ a. kernel_shown P.profile (S.forest a.store) a.threads.rows (W.waits a.threads.waiters) };
 
     ghost invariant = { λ a. IsBetweenCalls P.profile a.threads.memory_bits (S.memory_bits a.store)
-        (W.memory_bits a.threads.waiters) (S.forest a.store) a.threads.rows.items (W.waits a.threads.waiters) a.chain };
+        (W.memory_bits a.threads.waiters) (S.forest a.store) a.threads.rows (W.waits a.threads.waiters) a.chain };
 }
 
 impl<P: Profile, S: CapStore<P>, W: Waiters<P>> Kernel<P, S, W> {
@@ -245,7 +245,7 @@ impl<P: Profile, S: CapStore<P>, W: Waiters<P>> Kernel<P, S, W> {
                     inactive: false,
                     inbox,
                 };
-                set_row::<P>(&mut self.threads.rows, to, row);
+                self.threads.rows.set_row::<P>(to, row);
                 Reply::Delivered {
                     endpoint,
                     from: thread,
@@ -278,7 +278,7 @@ impl<P: Profile, S: CapStore<P>, W: Waiters<P>> Kernel<P, S, W> {
                     inactive: false,
                     inbox,
                 };
-                set_row::<P>(&mut self.threads.rows, thread, row);
+                self.threads.rows.set_row::<P>(thread, row);
                 Reply::Delivered {
                     endpoint,
                     from,
@@ -296,7 +296,7 @@ impl<P: Profile, S: CapStore<P>, W: Waiters<P>> Kernel<P, S, W> {
     pub fn thread_state(&self, tcb: u64) -> Option<ThreadState>
         ensures { result ≡ state_at self.now tcb }
     {
-        let row = row_at::<P>(self.threads.rows.as_slice(), tcb)?;
+        let row = self.threads.rows.row_at::<P>(tcb)?;
         Some(row.state(self.threads.waiters.role(tcb)))
     }
 
@@ -305,7 +305,7 @@ impl<P: Profile, S: CapStore<P>, W: Waiters<P>> Kernel<P, S, W> {
     pub fn inbox(&self, tcb: u64) -> Option<Inbox>
         ensures { result ≡ inbox_at self.now tcb }
     {
-        row_at::<P>(self.threads.rows.as_slice(), tcb)?.inbox
+        self.threads.rows.row_at::<P>(tcb)?.inbox
     }
 
     /// What a thread sends that waits to send, with the badge that it kept; `None` where it does not wait to send, and
@@ -313,7 +313,7 @@ impl<P: Profile, S: CapStore<P>, W: Waiters<P>> Kernel<P, S, W> {
     pub fn offer(&self, tcb: u64) -> Option<Offer>
         ensures { result ≡ offer_at self.now tcb }
     {
-        row_at::<P>(self.threads.rows.as_slice(), tcb)?;
+        self.threads.rows.row_at::<P>(tcb)?;
         self.threads.waiters.offer(tcb)
     }
 
@@ -365,7 +365,7 @@ impl<P: Profile, S: CapStore<P>, W: Waiters<P>> Kernel<P, S, W> {
     pub fn next_waiting(&self, tcb: u64) -> Option<u64>
         ensures { IsNextWaiting self.now tcb result }
     {
-        row_at::<P>(self.threads.rows.as_slice(), tcb)?;
+        self.threads.rows.row_at::<P>(tcb)?;
         self.threads.waiters.next_waiting(tcb)
     }
 }

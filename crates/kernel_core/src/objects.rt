@@ -10,7 +10,7 @@ ghost use Rattle.kernel_core.specs.Rows.{rows_map};
 ghost use Rattle.kernel_core.specs.Private.NewRows.{new_row, with_rows};
 ghost use Rattle.kernel_abstract.specs.Private.Stores.{IsKernelStore};
 
-use crate::rows::ThreadRow;
+use crate::rows::{ThreadRow, ThreadRows};
 use cap_core::{Cap, Profile, fresh};
 use kernel_abstract::invocation::NewObjects;
 use mem_core::Placed;
@@ -37,12 +37,12 @@ pub fn make_objects<P: Profile, S: CapStore<P>>(store: &mut S, new: NewObjects)
 }
 
 /// Writes the rows of new threads, which are inactive and got no message.
-pub fn add_threads<P: Profile>(rows: &mut Vec<Option<ThreadRow>>, placed: Placed, count: u64)
+pub fn add_threads<P: Profile>(rows: &mut ThreadRows, placed: Placed, count: u64)
     requires aligned { (i : ℕ) → i < count → object_at placed i % tcb_size P.profile ≡ 0 }
-    requires within { (i : ℕ) → i < count → object_at placed i < length rows.old.items * tcb_size P.profile }
+    requires within { (i : ℕ) → i < count → object_at placed i < length rows.old * tcb_size P.profile }
     requires addressed { (i : ℕ) → i < count → object_at placed i < 2 ^ 64 }
-    ensures map { rows_map (tcb_size P.profile) rows.new.items ≡ with_rows (map (object_at placed) (range_with_len 0 count)) (rows_map (tcb_size P.profile) rows.old.items) }
-    ensures length { length rows.new.items ≡ length rows.old.items }
+    ensures map { rows_map (tcb_size P.profile) rows.new ≡ with_rows (map (object_at placed) (range_with_len 0 count)) (rows_map (tcb_size P.profile) rows.old) }
+    ensures length { length rows.new ≡ length rows.old }
 {
     for i in 0..count {
         add_thread::<P>(rows, placed.first + i * placed.step);
@@ -50,15 +50,16 @@ pub fn add_threads<P: Profile>(rows: &mut Vec<Option<ThreadRow>>, placed: Placed
 }
 
 /// Writes the row of a new thread.
-fn add_thread<P: Profile>(rows: &mut Vec<Option<ThreadRow>>, thread: u64)
+fn add_thread<P: Profile>(rows: &mut ThreadRows, thread: u64)
     requires aligned { thread % tcb_size P.profile ≡ 0 }
-    requires within { thread / tcb_size P.profile < length rows.old.items }
-    ensures map { rows_map (tcb_size P.profile) rows.new.items ≡ insert (rows_map (tcb_size P.profile) rows.old.items) thread new_row }
-    ensures length { length rows.new.items ≡ length rows.old.items }
+    requires within { thread / tcb_size P.profile < length rows.old }
+    ensures map { rows_map (tcb_size P.profile) rows.new ≡ insert (rows_map (tcb_size P.profile) rows.old) thread new_row }
+    ensures length { length rows.new ≡ length rows.old }
 {
     let place = (thread >> P::TCB_BITS) as usize;
-    rows[place] = Some(ThreadRow {
+    let row = ThreadRow {
         inactive: true,
         inbox: None,
-    });
+    };
+    rows.put(place, row);
 }

@@ -3,7 +3,7 @@ ghost use Rattle.std.specs.Prelude.{◌≡◌, IfOk};
 
 use crate::ending::Threads;
 use crate::kernel::Kernel;
-use crate::rows::{LiveRow, live_rows, put_rows};
+use crate::rows::LiveRow;
 use cap_core::Profile;
 use ipc_core::MakeWaiters;
 use kernel_delete::SlotChain;
@@ -50,7 +50,7 @@ impl<P: Profile, S: MakeStore<P>, W: MakeWaiters<P>> Kernel<P, S, W> {
     pub fn save(&self, alloc: Global) -> Result<SavedKernel<P, S, W>, AllocError>
         ensures { IfOk result (λ saved. saved ≡ self.now) }
     {
-        let rows = live_rows(alloc, self.threads.rows.as_slice())?;
+        let rows = self.threads.rows.live(alloc)?;
         Ok(SavedKernel {
             store: self.store.save(alloc)?,
             waiters: self.threads.waiters.save(alloc)?,
@@ -88,9 +88,8 @@ impl<P: Profile, S: MakeStore<P>, W: MakeWaiters<P>> SavedKernel<P, S, W> {
         let store = S::restore(&self.store, store)?;
         let waiters = W::restore(&self.waiters, threads.waiters)?;
         let mut rows = threads.rows;
-        rows.clear();
-        rows.resize(1 << (memory_bits - P::TCB_BITS), None)?;
-        put_rows(&mut rows, self.rows.as_slice());
+        rows.clear(1 << (memory_bits - P::TCB_BITS))?;
+        rows.put_live(self.rows.as_slice());
         Ok(Kernel {
             store,
             threads: Threads {

@@ -36,6 +36,12 @@ threads_fit p plan h =
     fewer p (first_tcb p plan / tcb_size p + plan.threads) (2 ^ (plan.memory_bits - tcb_bits p))
     (let a = places p plan plan.threads in let b = rows_fill p plan.memory_bits h.limits.sizes.memory_least in let w = objects_within p plan h in omega arith)
 
+-- each boot thread is at a place of those that a boot makes
+pub threads_placed : (p : ProfileName) (plan : Plan) (first bits memory bits' threads : ℕ) → IsPlan p plan → first ≡ first_tcb p plan → bits ≡ tcb_bits p → memory ≡ plan.memory_bits → bits' ≡ tcb_bits p → threads ≡ plan.threads
+    → first / 2 ^ bits + threads ≤ 1 * 2 ^ (memory - bits') % 2 ^ 64
+threads_placed p plan first bits memory bits' threads h a b d e i =
+    rw (a, b, d, e, i, pow_fits (plan.memory_bits - tcb_bits p) (omega (arith, h.limits.sizes.memory_most))) (threads_fit p plan h)
+
 kernel_at_boot : (p : ProfileName) (plan : Plan) → IsPlan p plan
     → IsKernel p plan.memory_bits plan.memory_bits plan.memory_bits (boot_forest p plan) (boot_rows (first_tcb p plan / tcb_size p) plan.threads (2 ^ (plan.memory_bits - tcb_bits p))) no_waits
 kernel_at_boot p plan h =

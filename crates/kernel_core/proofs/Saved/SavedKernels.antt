@@ -1,6 +1,5 @@
 -- The parts of a kernel that is saved, and of one that is restored.
-use Rattle.std.proofs.Common.{◌≡◌, ◌<◌, ◌≤◌, ◌+◌, ◌-◌, ◌*◌, ◌%◌, ◌^◌, ◌++◌, [], ℕ, List, Option, None, length, take, replicate, refl, ap, sym, subst, ◌∙◌, arith}
-use Rattle.std.proofs.Math.Seq.{take-nil}
+use Rattle.std.proofs.Common.{◌≡◌, ◌≤◌, ◌-◌, ◌*◌, ◌%◌, ◌^◌, ℕ, List, Option, None, length, replicate, ap, sym, ◌∙◌, arith}
 use Rattle.cap_core.specs.declared.profile.ProfileName.{ProfileName}
 use Rattle.cap_core.specs.declared.profile.ProfileName.TheVariants.{Wide, Narrow}
 use Rattle.cap_core.specs.declared.limits.TheConstants.{MAX_MEMORY_BITS}
@@ -38,12 +37,6 @@ pub restored_kernel : (p : ProfileName) (memory store waiters store' waiters' : 
     → store' ≡ store → waiters' ≡ waiters → f' ≡ f → rows' ≡ rows → w' ≡ w → chain ≡ empty_links (2 ^ memory) → IsBetweenCalls p memory store' waiters' f' rows' w' chain
 restored_kernel p memory store waiters store' waiters' f f' rows rows' w w' chain kernel a b d e i links = record { kernel = rw (a, b, d, e, i) kernel; chain_is = links }
 
--- rows that are cleared, and of which there are then as many as a memory has
-pub resized_rows : (p : ProfileName) (memory bits old : ℕ) (cleared rows : List (Option ThreadRow)) → 12 ≤ memory → memory ≤ MAX_MEMORY_BITS → bits ≡ tcb_bits p → cleared ≡ [] → old ≡ 0
-    → rows ≡ take (1 * 2 ^ (memory - bits) % 2 ^ 64) cleared ++ replicate (1 * 2 ^ (memory - bits) % 2 ^ 64 - old) None → rows ≡ replicate (2 ^ (memory - tcb_bits p)) None
-resized_rows p memory bits old cleared rows least most is none zero all =
-    let size : 1 * 2 ^ (memory - bits) % 2 ^ 64 ≡ 2 ^ (memory - tcb_bits p) = pow_fits (memory - bits) (omega (arith, least, most)) ∙ ap (λ (n : ℕ). 2 ^ (memory - n)) is in
-    let whole : 1 * 2 ^ (memory - bits) % 2 ^ 64 - old ≡ 2 ^ (memory - tcb_bits p) = omega (arith, size, zero) in
-    all ∙ ap (λ (l : List (Option ThreadRow)). take (1 * 2 ^ (memory - bits) % 2 ^ 64) l ++ replicate (1 * 2 ^ (memory - bits) % 2 ^ 64 - old) None) none
-    ∙ ap (λ (l : List (Option ThreadRow)). l ++ replicate (1 * 2 ^ (memory - bits) % 2 ^ 64 - old) None) (take-nil (1 * 2 ^ (memory - bits) % 2 ^ 64))
-    ∙ ap (λ (n : ℕ). replicate n None) whole
+-- how many places of rows a memory has
+pub places_number : (p : ProfileName) (memory bits : ℕ) → 12 ≤ memory → memory ≤ MAX_MEMORY_BITS → bits ≡ tcb_bits p → 1 * 2 ^ (memory - bits) % 2 ^ 64 ≡ 2 ^ (memory - tcb_bits p)
+places_number p memory bits least most is = pow_fits (memory - bits) (omega (arith, least, most)) ∙ ap (λ (n : ℕ). 2 ^ (memory - n)) is

@@ -14,5 +14,5 @@ loop-i-preserved g c =
       length = c.add_thread.ensures.length ∙ c.loop-i.invariant.length;
       map = c.add_thread.ensures.map
           ∙ ap (λ m. insert m (object_at c.args.placed c.loop-i.i) new_row) c.loop-i.invariant.map
-          ∙ sym (rows-added c.args.placed c.loop-i.i (rows_map (tcb_size g.P.Profile.profile) c.args.rows.now.items));
+          ∙ sym (rows-added c.args.placed c.loop-i.i (rows_map (tcb_size g.P.Profile.profile) c.args.rows.now));
     }

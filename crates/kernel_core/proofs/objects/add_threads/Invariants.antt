@@ -11,6 +11,6 @@ use Rattle.kernel_core.proofs.objects.add_threads.Given as goal
 abbrev pub invariant-loop-i : goal.invariant-loop-i
 invariant-loop-i g l =
     record {
-      length : length l.rows.items ≡ length l.fn.rows.items;
-      map : rows_map (tcb_size g.P.Profile.profile) l.rows.items ≡ with_rows (map (object_at l.placed) (range_with_len 0 l.i)) (rows_map (tcb_size g.P.Profile.profile) l.fn.rows.items);
+      length : length l.rows ≡ length l.fn.rows;
+      map : rows_map (tcb_size g.P.Profile.profile) l.rows ≡ with_rows (map (object_at l.placed) (range_with_len 0 l.i)) (rows_map (tcb_size g.P.Profile.profile) l.fn.rows);
     }

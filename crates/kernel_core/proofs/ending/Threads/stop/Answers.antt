@@ -7,4 +7,4 @@ use Rattle.kernel_core.proofs.ending.Threads.stop.Goals as goal
 pub cancel_thread-requires : goal.cancel_thread-requires
 cancel_thread-requires g c =
     let own = c.args.self.now in
-    subst (λ (m : ℕ). IsThreadAddress g.P.Profile.profile m c.args.thread) (sym own.memory) (row_address g.P.Profile.profile own.memory_bits own.rows.items c.args.thread own.fill c.requires)
+    subst (λ (m : ℕ). IsThreadAddress g.P.Profile.profile m c.args.thread) (sym own.memory) (row_address g.P.Profile.profile own.memory_bits own.rows c.args.thread own.fill c.requires)

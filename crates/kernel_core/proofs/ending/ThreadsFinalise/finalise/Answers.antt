@@ -9,14 +9,14 @@ use Rattle.kernel_core.proofs.Endings.EndedObjects.{endpoint_ended, thread_ended
 use Rattle.kernel_core.proofs.ending.ThreadsFinalise.finalise.Goals as goal
 
 pub returns-in-Endpoint : goal.returns-in-Endpoint
-returns-in-Endpoint g c = endpoint_ended g.P.Profile.profile c.args.self.now.memory_bits c.end_endpoint.new.self.memory_bits c.args.self.now.rows.items c.end_endpoint.new.self.rows.items (g.W.Waiters.waits c.args.self.now.waiters) (g.W.Waiters.waits c.end_endpoint.new.self.waiters) c.args.cap c.in-Endpoint.base c.in-Endpoint.badge c.in-Endpoint.rights c.in-Endpoint.is c.end_endpoint.ensures
+returns-in-Endpoint g c = endpoint_ended g.P.Profile.profile c.args.self.now.memory_bits c.end_endpoint.new.self.memory_bits c.args.self.now.rows c.end_endpoint.new.self.rows (g.W.Waiters.waits c.args.self.now.waiters) (g.W.Waiters.waits c.end_endpoint.new.self.waiters) c.args.cap c.in-Endpoint.base c.in-Endpoint.badge c.in-Endpoint.rights c.in-Endpoint.is c.end_endpoint.ensures
 
 pub returns-in-Tcb : goal.returns-in-Tcb
-returns-in-Tcb g c = thread_ended g.P.Profile.profile c.args.self.now.memory_bits c.end_thread.new.self.memory_bits c.args.self.now.rows.items c.end_thread.new.self.rows.items (g.W.Waiters.waits c.args.self.now.waiters) (g.W.Waiters.waits c.end_thread.new.self.waiters) c.args.cap c.in-Tcb.base c.in-Tcb.is c.end_thread.ensures
+returns-in-Tcb g c = thread_ended g.P.Profile.profile c.args.self.now.memory_bits c.end_thread.new.self.memory_bits c.args.self.now.rows c.end_thread.new.self.rows (g.W.Waiters.waits c.args.self.now.waiters) (g.W.Waiters.waits c.end_thread.new.self.waiters) c.args.cap c.in-Tcb.base c.in-Tcb.is c.end_thread.ensures
 
 pub returns-in-Null : goal.returns-in-Null
 returns-in-Null g c =
-    other_ended g.P.Profile.profile c.args.self.now.memory_bits c.args.self.now.rows.items (g.W.Waiters.waits c.args.self.now.waiters) (same_object c.args.cap)
+    other_ended g.P.Profile.profile c.args.self.now.memory_bits c.args.self.now.rows (g.W.Waiters.waits c.args.self.now.waiters) (same_object c.args.cap)
     (λ e. unlike (Endpoint e (record { 0 = 0 }) all_rights) refl (λ base bits free. refl) (λ base radix guard. refl)) (λ t. unlike (Tcb t) refl (λ base bits free. refl) (λ base radix guard. refl))
   where
     unlike : (other : Cap) → same_object Null other ≡ false → ((base bits free : ℕ) → same_object (Untyped base bits free) other ≡ false) → ((base radix : ℕ) (guard : Guard) → same_object (CNode base radix guard) other ≡ false) →

@@ -13,7 +13,7 @@ invariant_of-result g c =
     record {
       memory = c.in_ok-waiters.ensures.memory ∙ c.memory_bits.ensures ∙ sym c.memory_bits-3.ensures;
       most = subst (λ (n : ℕ). n ≤ MAX_MEMORY_BITS) (sym c.memory_bits-3.ensures) c.requires.limits.sizes.memory_most;
-      fill = rows_at_boot g.P.Profile.profile c.args.plan.now c.memory_bits-3.result c.in_ok-rows.rows.items c.requires c.memory_bits-3.ensures c.in_ok-rows.ensures;
+      fill = rows_at_boot g.P.Profile.profile c.args.plan.now c.memory_bits-3.result c.in_ok-rows.rows c.requires c.memory_bits-3.ensures c.in_ok-rows.ensures;
     }
 
 pub invariant_of-result-2 : goal.invariant_of-result-2

@@ -15,8 +15,8 @@ revoke_at-requires-clause-slot g c =
     (ap (λ (v : Shown). is_full c.args.slot v.derivations) c.self.view_is ∙ c.requires))
 
 pub invariant_of-self : goal.invariant_of-self
-invariant_of-self g c = revoked_kernel g.P.Profile.profile c.self.inside.threads.memory_bits (g.S.CapStore.memory_bits c.self.inside.store) (g.W.Waiters.memory_bits c.self.inside.threads.waiters) (g.S.CapStore.forest c.self.inside.store) c.self.inside.threads.rows.items (g.W.Waiters.waits c.self.inside.threads.waiters) c.self.invariant.kernel (g.met.W.Waiters.agree c.self.inside.threads.waiters) c.args.self.now c.self.view_is c.args.slot (g.S.CapStore.forest c.revoke_at.new.store) c.revoke_at.new.rest.memory_bits c.revoke_at.new.rest.rows.items (g.W.Waiters.waits c.revoke_at.new.rest.waiters) c.revoke_at.ensures.forest c.revoke_at.ensures.ended
+invariant_of-self g c = revoked_kernel g.P.Profile.profile c.self.inside.threads.memory_bits (g.S.CapStore.memory_bits c.self.inside.store) (g.W.Waiters.memory_bits c.self.inside.threads.waiters) (g.S.CapStore.forest c.self.inside.store) c.self.inside.threads.rows (g.W.Waiters.waits c.self.inside.threads.waiters) c.self.invariant.kernel (g.met.W.Waiters.agree c.self.inside.threads.waiters) c.args.self.now c.self.view_is c.args.slot (g.S.CapStore.forest c.revoke_at.new.store) c.revoke_at.new.rest.memory_bits c.revoke_at.new.rest.rows (g.W.Waiters.waits c.revoke_at.new.rest.waiters) c.revoke_at.ensures.forest c.revoke_at.ensures.ended
     (g.S.CapStore.memory_bits c.revoke_at.new.store) (g.W.Waiters.memory_bits c.revoke_at.new.rest.waiters) c.revoke_at.ensures.memory c.revoke_at.new.rest.memory c.revoke_at.new.rest.fill c.self.inside.chain c.revoke_at.new.chain c.revoke_at.ensures.chain c.self.invariant.chain_is
 
 pub returns : goal.returns
-returns g c = revoked_shown g.P.Profile.profile c.self.inside.threads.memory_bits (g.S.CapStore.memory_bits c.self.inside.store) (g.W.Waiters.memory_bits c.self.inside.threads.waiters) (g.S.CapStore.forest c.self.inside.store) c.self.inside.threads.rows.items (g.W.Waiters.waits c.self.inside.threads.waiters) c.self.invariant.kernel (g.met.W.Waiters.agree c.self.inside.threads.waiters) c.args.self.now c.self.view_is c.args.slot (g.S.CapStore.forest c.revoke_at.new.store) c.revoke_at.new.rest.memory_bits c.revoke_at.new.rest.rows.items (g.W.Waiters.waits c.revoke_at.new.rest.waiters) c.revoke_at.ensures.forest c.revoke_at.ensures.ended
+returns g c = revoked_shown g.P.Profile.profile c.self.inside.threads.memory_bits (g.S.CapStore.memory_bits c.self.inside.store) (g.W.Waiters.memory_bits c.self.inside.threads.waiters) (g.S.CapStore.forest c.self.inside.store) c.self.inside.threads.rows (g.W.Waiters.waits c.self.inside.threads.waiters) c.self.invariant.kernel (g.met.W.Waiters.agree c.self.inside.threads.waiters) c.args.self.now c.self.view_is c.args.slot (g.S.CapStore.forest c.revoke_at.new.store) c.revoke_at.new.rest.memory_bits c.revoke_at.new.rest.rows (g.W.Waiters.waits c.revoke_at.new.rest.waiters) c.revoke_at.ensures.forest c.revoke_at.ensures.ended

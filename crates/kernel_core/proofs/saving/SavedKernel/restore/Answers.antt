@@ -5,7 +5,7 @@ use Rattle.kernel_core.specs.declared.rows.ThreadRow.{ThreadRow}
 use Rattle.kernel_core.specs.declared.rows.LiveRow.{LiveRow}
 use Rattle.kernel_core.specs.SavedRows.{rows_with, rows_saved}
 use Rattle.kernel_core.proofs.Booted.BootedParts.{links_made, empty_links}
-use Rattle.kernel_core.proofs.Saved.SavedKernels.{resized_rows, restored_kernel}
+use Rattle.kernel_core.proofs.Saved.SavedKernels.{places_number, restored_kernel}
 use Rattle.kernel_core.proofs.saving.SavedKernel.restore.Goals as goal
 use Rattle.kernel_core.proofs.saving.SavedKernel.restore.Goals.{then-threads-memory_bits, else-threads-memory_bits+in_ok-chain}
 
@@ -16,10 +16,10 @@ invariant_of-result-2 g c =
     let kernel = c.self.invariant in
     let live = c.self.inside.rows.items in
     let none : List (Option ThreadRow) = replicate (2 ^ (memory - tcb_bits p)) None in
-    let resized : c.resize.new.self.items ≡ none =
-    resized_rows p memory c.TCB_BITS.result _ _ c.resize.new.self.items kernel.memory_least kernel.memory_most (c.TCB_BITS.ensures ∙ g.met.P.Profile.tcb_bits_is) c.clear.ensures.items c.clear.ensures.len c.in_ok-resize.ensures.items in
-    let rows : c.put_rows.new.rows.items ≡ rows_saved p memory live =
-    c.put_rows.ensures ∙ ap (λ (l : List (Option ThreadRow)). rows_with l c.as_slice.result.now) resized ∙ ap (λ (l : List LiveRow). rows_with none l) c.as_slice.ensures.value in
+    let cleared : c.clear.new.self ≡ none =
+    c.in_ok-clear.ensures ∙ ap (λ (n : ℕ). replicate n None) (places_number p memory c.TCB_BITS.result kernel.memory_least kernel.memory_most (c.TCB_BITS.ensures ∙ g.met.P.Profile.tcb_bits_is)) in
+    let rows : c.put_live.new.self ≡ rows_saved p memory live =
+    c.put_live.ensures ∙ ap (λ (l : List (Option ThreadRow)). rows_with l c.as_slice.result.now) cleared ∙ ap (λ (l : List LiveRow). rows_with none l) c.as_slice.ensures.value in
     let links : c.if-threads-memory_bits.chain2 ≡ empty_links (2 ^ memory) =
     elim c.if-threads-memory_bits.branch [
       | then-threads-memory_bits w ↦ w.chain2-is ∙ c.spare.invariant.chain_is ∙ ap (λ (n : ℕ). empty_links (2 ^ n)) (grind (arith, nat_tests))
