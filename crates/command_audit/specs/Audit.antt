@@ -8,7 +8,7 @@ use Rattle.kernel_abstract.specs.State.{State, shown}
 use Rattle.setup_values.specs.Names.{Names}
 use Rattle.setup_format.specs.Views.{SetupView}
 use Rattle.setup_report.specs.State.{endpoints, slot_rows}
-use Rattle.command_trace_lines.specs.Changes.{changes, lines_of_state}
+use Rattle.command_trace.specs.Changes.{changes, lines_of_state}
 use Rattle.command_audit.specs.declared.threads.ThreadSlots.{ThreadSlots}
 use Rattle.setup_report.specs.Naming.{Texts}
 use Rattle.command_audit.specs.Text.{audit_head_line}

@@ -4,9 +4,9 @@ use Rattle.cap_core.specs.declared.profile.ProfileName.{ProfileName}
 use Rattle.kernel_abstract.specs.State.{State, shown}
 use Rattle.setup_values.specs.Names.{Names}
 use Rattle.setup_format.specs.Views.{ReadView, SetupView}
-use Rattle.setup_objects.specs.declared.meant.ObjectKind.TheVariants.{Thread}
-use Rattle.setup_objects.specs.Meant.{are_meant, objects_meant}
-use Rattle.setup_objects.specs.Slots.{slot_meant}
+use Rattle.setup_report.specs.declared.meanings.meant.ObjectKind.TheVariants.{Thread}
+use Rattle.setup_report.specs.Meant.{are_meant, objects_meant}
+use Rattle.setup_report.specs.Slots.{slot_meant}
 use Rattle.command_audit.specs.Audit.{IsWholeAudit, slot_answer}
 use Rattle.setup_report.specs.Naming.{texts_of}
 use Rattle.command_check.specs.Commands.{text_or_absent, IsStateAnswer}

@@ -16,8 +16,8 @@ use Rattle.query_reach.specs.Lists.{AreReached}
 use Rattle.setup_values.specs.Names.{Names}
 use Rattle.setup_report.specs.State.{is_in, threads as live_threads}
 use Rattle.setup_report.specs.Report.{terminated}
-use Rattle.command_trace_lines.specs.Lines.{offer_text}
-use Rattle.command_trace_lines.specs.Names.{name_lines}
+use Rattle.command_trace.specs.Lines.{offer_text}
+use Rattle.command_trace.specs.Names.{name_lines}
 use Rattle.command_audit.specs.declared.threads.ThreadSlots.{ThreadSlots}
 use Rattle.command_audit.specs.Spaces.{told_as}
 use Rattle.setup_report.specs.declared.objects.Object.{Object}

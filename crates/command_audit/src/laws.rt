@@ -6,7 +6,7 @@ ghost use Rattle.kernel_abstract.specs.declared.invocation.Invocation.TheVariant
 ghost use Rattle.kernel_abstract.specs.Decode.{decoded_call};
 ghost use Rattle.kernel_abstract.specs.State.{State, shown};
 ghost use Rattle.setup_report.specs.Naming.{Texts};
-ghost use Rattle.command_trace_lines.specs.Calls.{call_changes};
+ghost use Rattle.command_trace.specs.Calls.{call_changes};
 ghost use Rattle.command_audit.specs.Audit.{slot_changes};
 ghost use Rattle.command_audit.specs.declared.threads.ThreadSlots.{ThreadSlots};
 ghost use Rattle.command_audit.specs.Spaces.{IsToldRight, IsToldOnce};

@@ -10,26 +10,23 @@ ghost use Rattle.command_audit.specs.Audit.{IsWholeAudit};
 
 use crate::state::{Heading, whole_audit};
 use cap_core::Profile;
-use command_check::{Behind, Command, OnState, StateCommand};
+use command_check::{Behind, StateCommand};
 use command_core::{Answer, Verdict};
 use ipc_core::MakeWaiters;
 use kernel_core::Kernel;
-use setup_format::{ReadSetup, Setup};
-use setup_objects::{ObjectKind, absent_object, are_meant, objects_meant};
-use setup_report::Naming;
+use setup_format::Setup;
+use setup_report::{Naming, ObjectKind, absent_object, are_meant, objects_meant};
 use setup_values::Name;
 use slot_core::{DerivationStore, MakeStore};
 use std::alloc::{AllocError, Global};
 
-/// The audit of the state behind the first `after` calls of a set-up, or behind all, without the threads that the words stand for:
-/// each is a thread's address, its name, or a slot of the root CNode (`object_meant`). If `names` is set, objects that have a name
-/// are told by it. The verdict is `AllMet`, or `Absent` with nothing written where the set-up has fewer calls, and where a word
-/// stands for no thread.
+/// The audit of the state behind the first calls of a set-up, without the threads that the words stand for: each is a thread's
+/// address, its name, or a slot of the root CNode (`object_meant`). If `names` is set, objects that have a name are told by it. The
+/// verdict is `AllMet`, or `Absent` with nothing written where a word stands for no thread.
 #[derive(Clone, Copy, Drop)]
 pub struct StateAudit<'a> {
     pub without: &'a [&'a str],
     pub names: bool,
-    pub after: Option<u64>,
 }
 
 /// The audit of a kernel, by addresses or by the names of objects.
@@ -91,22 +88,5 @@ impl StateCommand for StateAudit<'_> {
         let text = told_by::<P, S, W>(alloc, self.names, names, trusted, setup, made, kernel)?;
         let answer = Answer::new(alloc, text, Verdict::AllMet);
         Ok(answer)
-    }
-}
-
-impl Command for StateAudit<'_> {
-    ghost use Rattle.std.specs.Prelude.{map};
-    ghost use Rattle.command_check.specs.Commands.{IsStateAnswer};
-    ghost use Rattle.command_audit.specs.Audits.{IsStateAudited};
-
-    ghost answers = { λ audit. IsStateAnswer (IsStateAudited (map (λ w. w.now) audit.without.now) audit.names) audit.after };
-
-    fn answer<P: Profile, S: MakeStore<P> + DerivationStore<P>, W: MakeWaiters<P>>(
-        &self,
-        alloc: Global,
-        read: ReadSetup,
-    ) -> Result<Answer, AllocError> {
-        let (command, after) = (*self, self.after);
-        OnState { command, after }.answer::<P, S, W>(alloc, read)
     }
 }

@@ -16,8 +16,7 @@ use command_core::{Answer, Verdict};
 use ipc_core::MakeWaiters;
 use kernel_core::Kernel;
 use setup_format::{ReadSetup, Setup};
-use setup_objects::{absent_slot, slot_meant};
-use setup_report::Naming;
+use setup_report::{Naming, absent_slot, slot_meant};
 use setup_values::Name;
 use slot_core::{DerivationStore, MakeStore};
 use std::alloc::{AllocError, Global};
@@ -115,7 +114,7 @@ impl Command for SlotAudit<'_> {
     fn answer<P: Profile, S: MakeStore<P> + DerivationStore<P>, W: MakeWaiters<P>>(
         &self,
         alloc: Global,
-        read: ReadSetup,
+        read: &ReadSetup,
     ) -> Result<Answer, AllocError> {
         let (names, word) = (read.names.as_slice(), self.slot.as_bytes());
         match slot_meant::<P>(names, &read.setup, word) {

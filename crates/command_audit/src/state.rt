@@ -13,7 +13,7 @@ use crate::head::add_head;
 use crate::revokes::{add_revoke, add_revokes, revoked, told_rows};
 use crate::threads::{add_opening, add_threads, others, thread_slots};
 use cap_core::Profile;
-use command_trace_lines::add_changes_between;
+use command_trace::add_changes_between;
 use ipc_core::MakeWaiters;
 use kernel_core::Kernel;
 use query_reach::kernel_slots;

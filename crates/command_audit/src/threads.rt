@@ -11,7 +11,7 @@ ghost use Rattle.command_audit.specs.Threads as spec;
 
 use crate::spaces::told_as;
 use cap_core::Profile;
-use command_trace_lines::{OfferText, add_names};
+use command_trace::{OfferText, add_names};
 use ipc_core::Waiters;
 use kernel_core::Kernel;
 use query_reach::{FullSlot, Held, Reached, held_slots, reached_slots};

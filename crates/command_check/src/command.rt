@@ -30,10 +30,10 @@ pub trait Command {
     fn answer<P: Profile, S: MakeStore<P> + DerivationStore<P>, W: MakeWaiters<P>>(
         &self,
         alloc: Global,
-        read: ReadSetup,
+        read: &ReadSetup,
     ) -> Result<Answer, AllocError>
-        requires { IsPlan P.profile read.setup.plan }
-        ensures { IfOk result (λ made. answers self.now P.profile (read_view read) made.text.items made.verdict) };
+        requires { IsPlan P.profile read.now.setup.plan }
+        ensures { IfOk result (λ made. answers self.now P.profile (read_view read.now) made.text.items made.verdict) };
 }
 
 /// A command, on the set-up that the bytes of an input are.
@@ -47,9 +47,9 @@ impl<C: Command> OnSetup<C> {
     ghost use Rattle.command_check.specs.Commands.{IsSetUpAnswer};
 
     /// The command's answer in the profile that the set-up names, by the linked forms.
-    fn answer_read(&self, alloc: Global, read: ReadSetup) -> Result<Answer, AllocError>
-        requires { IsPlan read.setup.profile read.setup.plan }
-        ensures { IfOk result (λ made. C.answers self.now.command read.setup.profile (read_view read) made.text.items made.verdict) }
+    fn answer_read(&self, alloc: Global, read: &ReadSetup) -> Result<Answer, AllocError>
+        requires { IsPlan read.now.setup.profile read.now.setup.plan }
+        ensures { IfOk result (λ made. C.answers self.now.command read.now.setup.profile (read_view read.now) made.text.items made.verdict) }
     {
         let command = &self.command;
         match read.setup.profile() {
@@ -67,7 +67,7 @@ impl<C: Command> OnSetup<C> {
         ensures { IfOk result (λ made. IsSetUpAnswer (C.answers self.now.command) (read_of_bytes bytes.now) made.text.items made.verdict) }
     {
         match read(alloc, bytes) {
-            Ok(read) => self.answer_read(alloc, read),
+            Ok(read) => self.answer_read(alloc, &read),
             Err(SetupFault::Memory) => Err(AllocError),
             Err(fault) => refused(alloc, &fault),
         }

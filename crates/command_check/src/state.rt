@@ -3,7 +3,7 @@ ghost use Rattle.std.specs.Prelude.{◌≡◌, ◌≤◌, ℕ, IfOk, length};
 ghost use Rattle.kernel_abstract.specs.Memory.{IsInMemory};
 ghost use Rattle.kernel_abstract.specs.Plan.{IsPlan};
 ghost use Rattle.kernel_abstract.specs.State.{shown};
-ghost use Rattle.setup_report.specs.Behind.{state_behind};
+ghost use Rattle.setup_report.specs.Behind.{refused_behind, state_behind};
 ghost use Rattle.setup_values.specs.Names.{names_view};
 
 use crate::command::Command;
@@ -12,19 +12,20 @@ use command_core::Answer;
 use ipc_core::MakeWaiters;
 use kernel_core::Kernel;
 use setup_format::{ReadSetup, Setup};
-use setup_report::{calls_made, kernel_after};
+use setup_report::{calls_made, count_refused, run_first};
 use setup_values::Name;
 use slot_core::{DerivationStore, MakeStore};
 use std::alloc::{AllocError, Global};
 use toml::Table;
 
-/// A set-up that was read, with its names and its table, and how many of its calls are made.
+/// A set-up that was read, with its names and its table, how many of its calls are made, and how many of these were refused.
 #[derive(Clone, Copy, Drop)]
 pub struct Behind<'a> {
     pub names: &'a [Name],
     pub setup: &'a Setup,
     pub table: &'a Table,
     pub made: usize,
+    pub refused: usize,
 }
 
 /// What is written of the state after the first calls of a set-up.
@@ -54,6 +55,7 @@ pub trait StateCommand {
         requires plan { IsPlan P.profile behind.now.setup.now.plan }
         requires made { behind.now.made ≤ length behind.now.setup.now.calls }
         requires shows { kernel.now ≡ shown (state_behind P.profile behind.now.setup.now behind.now.made) }
+        requires refused { behind.now.refused ≡ refused_behind P.profile behind.now.setup.now behind.now.made }
         requires within { (memory : ℕ) × IsInMemory P.profile memory kernel.now }
         ensures { IfOk result (λ answer. answers self.now P.profile (names_view behind.now.names.now) behind.now.setup.now behind.now.made
             (state_behind P.profile behind.now.setup.now behind.now.made) answer.text.items answer.verdict) };
@@ -75,7 +77,7 @@ impl<C: StateCommand> Command for OnState<C> {
     fn answer<P: Profile, S: MakeStore<P> + DerivationStore<P>, W: MakeWaiters<P>>(
         &self,
         alloc: Global,
-        read: ReadSetup,
+        read: &ReadSetup,
     ) -> Result<Answer, AllocError> {
         let setup = &read.setup;
         let Some(made) = calls_made(setup, self.after) else {
@@ -83,12 +85,13 @@ impl<C: StateCommand> Command for OnState<C> {
             let absent = format!(in alloc; "--after {asked}: the set-up has {calls} calls")?;
             return Ok(Answer::absent(alloc, absent));
         };
-        let kernel = kernel_after::<P, S, W>(alloc, setup, made)?;
+        let (kernel, replies) = run_first::<P, S, W>(alloc, setup, made)?;
         let behind = Behind {
             names: read.names.as_slice(),
             setup,
             table: &read.table,
             made,
+            refused: count_refused(replies.as_slice()),
         };
         self.command.answer::<P, S, W>(alloc, &behind, &kernel)
     }

@@ -6,8 +6,8 @@ use Rattle.std.proofs.lemmas.Option.{none-some, same_Some, option_and_then_some}
 use Rattle.std.specs.Cmp.Lexicographic.{slice_cmp}
 use Rattle.std.specs.Ordering.{ordering_reverse, is_lt}
 use Rattle.setup_migrate.proofs.Parts.{cases_ordering}
-use Rattle.command_explore_text.proofs.Replay.Accepted.{some_of}
-use Rattle.command_explore_text.proofs.Replay.Without.{both}
+use Rattle.command_explore.proofs.Replay.Accepted.{some_of}
+use Rattle.command_explore.proofs.Replay.Without.{both}
 use Rattle.toml_parser.specs.Lexical.{Read, first, skip_ws, skip_blank, left_bracket, left_brace, right_bracket, right_brace}
 use Rattle.toml_parser.specs.Strings.{Key, quoted, starts_string, recursion_limit}
 use Rattle.toml_parser.specs.Numbers.{unquoted}

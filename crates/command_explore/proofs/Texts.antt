@@ -10,11 +10,11 @@ use Rattle.setup_format.specs.Setups.{document_in, document_of, setup_of, setup_
 use Rattle.setup_format.specs.Views.{SetupView, ReadView}
 use Rattle.setup_format.proofs.Grammar.Parts.{no_answer, parts}
 use Rattle.setup_migrate.proofs.Law.Follows.{together}
-use Rattle.command_explore_text.specs.declared.witness.Witness.{Witness}
-use Rattle.command_explore_text.specs.Witnesses.{witness_of}
-use Rattle.command_explore_text.specs.Replays.{run_replies, run_end}
-use Rattle.command_explore_text.proofs.Replay.Accepted.{witness_accepted}
-use Rattle.command_explore_text.proofs.Replay.Replayed.{witness_replayed}
+use Rattle.command_explore.specs.declared.report.witness.Witness.{Witness}
+use Rattle.command_explore.specs.Witnesses.{witness_of}
+use Rattle.command_explore.specs.Replays.{run_replies, run_end}
+use Rattle.command_explore.proofs.Replay.Accepted.{witness_accepted}
+use Rattle.command_explore.proofs.Replay.Replayed.{witness_replayed}
 use Rattle.command_check.specs.Program.{program, outcome_in, outcome_of, replies_to, end_state}
 use Rattle.command_core.specs.declared.fault.Verdict.{Verdict}
 use Rattle.command_core.specs.declared.fault.Verdict.TheVariants.{AllMet, Absent, Refused}

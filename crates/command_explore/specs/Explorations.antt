@@ -3,8 +3,8 @@ use Rattle.std.specs.Prelude.{◌≡◌, ℕ, Bool, cond, List}
 use Rattle.cap_core.specs.declared.profile.ProfileName.{ProfileName}
 use Rattle.setup_values.specs.Names.{Names}
 use Rattle.setup_format.specs.Views.{SetupView, ReadView}
-use Rattle.command_explore_text.specs.Report.{explored_report}
-use Rattle.command_explore_text.specs.Groups.{IsGroupsReport}
+use Rattle.command_explore.specs.Report.{explored_report}
+use Rattle.command_explore.specs.Groups.{IsGroupsReport}
 use Rattle.command_core.specs.declared.fault.Verdict.{Verdict}
 use Rattle.command_core.specs.declared.fault.Verdict.TheVariants.{AllMet, NotMet}
 

@@ -1,3 +1,13 @@
 pub mod Explorations
 pub mod Witnessed
 pub mod Replayed
+pub mod Clients
+pub mod Numbers
+pub mod Text
+pub mod Views
+pub mod Report
+pub mod Groups
+pub mod Witnesses
+pub mod Rows
+pub mod Laws
+pub mod Replays

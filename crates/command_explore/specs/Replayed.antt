@@ -2,10 +2,10 @@
 use Rattle.std.specs.Prelude.{◌≡◌, ℕ, List, Some, Ok}
 use Rattle.setup_format.specs.Setups.{read_of_bytes}
 use Rattle.setup_format.specs.Views.{ReadView}
-use Rattle.command_explore_text.specs.declared.witness.Witness.{Witness}
-use Rattle.command_explore_text.specs.Numbers.{client_numbers_of}
-use Rattle.command_explore_text.specs.Witnesses.{named_order, expecting}
-use Rattle.command_explore_text.specs.Replays.{explored, MakesOrder, run_replies, run_end, ComesToTold}
+use Rattle.command_explore.specs.declared.report.witness.Witness.{Witness}
+use Rattle.command_explore.specs.Numbers.{client_numbers_of}
+use Rattle.command_explore.specs.Witnesses.{named_order, expecting}
+use Rattle.command_explore.specs.Replays.{explored, MakesOrder, run_replies, run_end, ComesToTold}
 use Rattle.command_check.specs.Commands.{IsAnswerTo}
 use Rattle.command_check.specs.Program.{program, outcome_of, replies_to, end_state}
 use Rattle.command_core.specs.declared.fault.Verdict.{Verdict}

@@ -4,8 +4,8 @@ use Rattle.toml.specs.Data.{Members}
 use Rattle.cap_core.specs.declared.profile.ProfileName.{ProfileName}
 use Rattle.setup_format.specs.Views.{ReadView}
 use Rattle.setup_format.specs.Setups.{document_of}
-use Rattle.command_explore_text.specs.Witnesses.{witness_of}
-use Rattle.command_explore_text.specs.declared.witness.Witness.{Witness}
+use Rattle.command_explore.specs.Witnesses.{witness_of}
+use Rattle.command_explore.specs.declared.report.witness.Witness.{Witness}
 use Rattle.command_core.specs.declared.fault.Verdict.{Verdict}
 use Rattle.command_core.specs.declared.fault.Verdict.TheVariants.{AllMet, Absent}
 

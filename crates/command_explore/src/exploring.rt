@@ -2,10 +2,10 @@
 ghost use Rattle.std.specs.Prelude.{◌≡◌};
 ghost use Rattle.command_explore.specs.Explorations.{explore_verdict};
 
+use crate::report::{ExploredText, explored_report};
 use cap_core::Profile;
 use command_check::Command;
 use command_core::{Answer, Verdict};
-use command_explore_text::{ExploredText, explored_report};
 use ipc_core::{MakeWaiters, RowWaiters};
 use setup_format::ReadSetup;
 use slot_core::{DerivationStore, MakeStore, RowStore};
@@ -55,7 +55,7 @@ impl Command for Explore {
     fn answer<P: Profile, S: MakeStore<P> + DerivationStore<P>, W: MakeWaiters<P>>(
         &self,
         alloc: Global,
-        read: ReadSetup,
+        read: &ReadSetup,
     ) -> Result<Answer, AllocError> {
         let (names, setup) = (read.names.as_slice(), &read.setup);
         let ExploreOptions { first, states } = self.options;

@@ -1,9 +1,9 @@
 //! The exploration of clients that share nothing, as the answer of a command.
 use crate::exploring::{ExploreOptions, answered};
+use crate::report::groups_report;
 use cap_core::Profile;
 use command_check::Command;
 use command_core::Answer;
-use command_explore_text::groups_report;
 use ipc_core::{MakeWaiters, RowWaiters};
 use setup_format::ReadSetup;
 use slot_core::{DerivationStore, MakeStore, RowStore};
@@ -25,7 +25,7 @@ impl Command for ExploreGroups {
     fn answer<P: Profile, S: MakeStore<P> + DerivationStore<P>, W: MakeWaiters<P>>(
         &self,
         alloc: Global,
-        read: ReadSetup,
+        read: &ReadSetup,
     ) -> Result<Answer, AllocError> {
         let (names, setup) = (read.names.as_slice(), &read.setup);
         let ExploreOptions { first, states } = self.options;

@@ -2,8 +2,8 @@
 ghost use Rattle.std.specs.Prelude.{ℕ, List};
 ghost use Rattle.command_explore.specs.Replayed.{IsWitnessReplay};
 
+use crate::report::Witness;
 use command_core::Verdict;
-use command_explore_text::Witness;
 
 /// A text that is written for a witness is a set-up, which `check` takes. It makes the calls of the order that is told, and the
 /// replies that `check` writes come to what is told.

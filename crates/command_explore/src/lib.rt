@@ -1,12 +1,17 @@
 //! The commands that tell what the calls of a set-up come to in every order of its clients' calls, and that write a set-up which
-//! makes the calls of one of these orders.
+//! makes the calls of one of these orders. The reports are made by `report`.
 #![tactic(auto)]
 
 mod exploring;
 mod groups;
 pub mod laws;
+mod report;
 mod witnessing;
 
 pub use exploring::{Explore, ExploreOptions};
 pub use groups::ExploreGroups;
+pub use report::{
+    AnswerText, ExploredText, Witness, calls_of_clients, expected_of, explored_report,
+    first_clients, groups_report, make_witness, number_at, numbers_of_clients,
+};
 pub use witnessing::WriteWitness;

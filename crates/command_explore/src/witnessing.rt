@@ -4,10 +4,10 @@ ghost use Rattle.toml.specs.View.{table_view};
 ghost use Rattle.command_explore.specs.Witnessed.{IsTextOfTable};
 
 use crate::exploring::ExploreOptions;
+use crate::report::{Witness, copy_of_table, make_witness};
 use cap_core::Profile;
 use command_check::{Command, table_text};
 use command_core::{Answer, Verdict};
-use command_explore_text::{Witness, make_witness};
 use ipc_core::{MakeWaiters, RowWaiters};
 use setup_format::ReadSetup;
 use slot_core::{DerivationStore, MakeStore, RowStore};
@@ -43,13 +43,13 @@ impl Command for WriteWitness {
     fn answer<P: Profile, S: MakeStore<P> + DerivationStore<P>, W: MakeWaiters<P>>(
         &self,
         alloc: Global,
-        read: ReadSetup,
+        read: &ReadSetup,
     ) -> Result<Answer, AllocError> {
         let ExploreOptions { first, states } = self.options;
-        let ReadSetup { table, setup, .. } = read;
+        let table = copy_of_table(&read.table)?;
         let made = make_witness::<P, RowStore<P>, RowWaiters<P>>(
             alloc,
-            &setup,
+            &read.setup,
             first,
             states,
             self.witness,

@@ -80,7 +80,7 @@ impl Command for NamedCheck {
     fn answer<P: Profile, S: MakeStore<P> + DerivationStore<P>, W: MakeWaiters<P>>(
         &self,
         alloc: Global,
-        read: ReadSetup,
+        read: &ReadSetup,
     ) -> Result<Answer, AllocError> {
         let names = read.names.as_slice();
         let made = run_setup::<P, S, W>(alloc, true, names, &read.setup)?;

@@ -6,7 +6,7 @@ use Rattle.query_parts.specs.declared.listed.PartMemory.{PartMemory}
 use Rattle.query_parts.specs.declared.listed.PartUse.{PartUse}
 use Rattle.setup_values.specs.Names.{Names}
 use Rattle.setup_format.specs.Views.{SetupView}
-use Rattle.setup_objects.specs.declared.meant.ObjectKind.TheVariants.{Thread, Endpoint}
+use Rattle.setup_report.specs.declared.meanings.meant.ObjectKind.TheVariants.{Thread, Endpoint}
 use Rattle.command_parts.specs.Threads.{objects_named}
 use Rattle.command_parts.specs.Ever.{AreRightParts}
 use Rattle.command_core.specs.declared.fault.Verdict.{Verdict}

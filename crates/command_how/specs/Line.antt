@@ -5,7 +5,7 @@ use Rattle.query_parts.specs.Listed.{part_at}
 use Rattle.setup_values.specs.Names.{Names}
 use Rattle.setup_values.specs.Told.{thread_name}
 use Rattle.setup_report.specs.Report.{terminated}
-use Rattle.command_never_text.specs.Open.{part_text}
+use Rattle.command_never.specs.Open.{part_text}
 use Rattle.command_how_witness.specs.declared.asked.Happening.{Happening}
 use Rattle.command_how_witness.specs.declared.asked.Happening.TheVariants.{Message, Hold, Loss}
 use Rattle.command_how.specs.declared.line.NoWitness.{NoWitness}

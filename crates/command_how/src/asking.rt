@@ -1,26 +1,25 @@
 //! How it could happen, as the answer of a command.
-ghost use Rattle.std.specs.Prelude.{◌≡◌, ◌≤◌, ℕ, [], IfOk, length};
+ghost use Rattle.std.specs.Prelude.{◌≡◌, ◌≤◌, ℕ, IfOk, length};
 ghost use Rattle.kernel_abstract.specs.Memory.{IsInMemory};
 ghost use Rattle.kernel_abstract.specs.Plan.{IsPlan, IsWithinLimits};
 ghost use Rattle.setup_values.specs.Names.{names_view};
-ghost use Rattle.setup_objects.specs.declared.meant.ObjectKind.TheVariants as objects;
-ghost use Rattle.setup_objects.specs.Meant as words;
+ghost use Rattle.setup_report.specs.declared.meanings.meant.ObjectKind.TheVariants as objects;
+ghost use Rattle.setup_report.specs.Meant as words;
 ghost use Rattle.setup_report.specs.State as state;
 ghost use Rattle.command_parts.specs.Ever.{AreRightParts};
 ghost use Rattle.command_how.specs.How as spec;
 
-use crate::telling::{Behind, told};
+use crate::telling::told;
 use cap_core::Profile;
-use command_check::{Behind as FirstCalls, Command, OnState, StateCommand};
+use command_check::{Behind, StateCommand};
 use command_core::{Answer, Verdict};
 use command_how_witness::{Asked, Happening};
-use command_parts::{named, parts_of_callers};
+use command_parts::{ObjectWords, absent_answer, named, parts_of_callers};
 use ipc_core::{MakeWaiters, Waiters};
 use kernel_core::Kernel;
 use query_parts::{Parts, PartsFault};
-use setup_format::{ReadSetup, Setup};
-use setup_objects::{ObjectKind, absent_object, are_meant, object_meant};
-use setup_report::{StateRows, state_rows};
+use setup_format::Setup;
+use setup_report::{ObjectKind, StateRows, are_meant, object_meant, state_rows};
 use setup_values::Name;
 use slot_core::{CapStore, DerivationStore, MakeStore};
 use std::alloc::{AllocError, Global};
@@ -28,14 +27,12 @@ use std::alloc::{AllocError, Global};
 /// How many copies of the kernel are tried where no number is given.
 pub const STATES: u64 = 2_000;
 
-/// What is asked behind the first `after` calls of a set-up, or behind all: whether it can happen from the thread `from` to the thread
-/// `to`; by messages but by the endpoints `by`, with a badge where one is given; where the threads `without` make no more calls; and
+/// What is asked behind the first calls of a set-up: whether it can happen from the thread `from` to the thread `to`; by messages but by the endpoints `by`, with a badge where one is given; where the threads `without` make no more calls; and
 /// by so many copies of the kernel at most. Each thread and each endpoint is given by its address, by its name, or by a slot of the
 /// root CNode (`object_meant`).
 ///
 /// The verdict is `AllMet` where the text is a witness: a set-up that makes the first calls, then others that show it, and meets all
-/// that it expects; `NotMet` with a line where it is excluded, or no calls are found; or `Absent` with nothing written: where the
-/// set-up has fewer calls, where a word stands for nothing of its kind, where no thread is live at `from` or at `to`, and where both
+/// that it expects; `NotMet` with a line where it is excluded, or no calls are found; or `Absent` with nothing written: where a word stands for nothing of its kind, where no thread is live at `from` or at `to`, and where both
 /// are one.
 #[derive(Clone, Copy, Drop)]
 pub struct How<'a> {
@@ -45,7 +42,6 @@ pub struct How<'a> {
     pub by: &'a [&'a str],
     pub badge: Option<u64>,
     pub without: &'a [&'a str],
-    pub after: Option<u64>,
     pub states: Option<u64>,
 }
 
@@ -76,18 +72,6 @@ fn are_two_live<P: Profile, S: CapStore<P> + Drop, W: Waiters<P> + Drop>(
     ensures { result ≡ spec.are_two_live kernel.now from to }
 {
     from != to && kernel.thread_state(from).is_some() && kernel.thread_state(to).is_some()
-}
-
-/// An answer of which a text is told, where there is one: nothing is written.
-fn absent_answer(alloc: Global, absent: String) -> Answer
-    ensures text { result.text.items ≡ [] }
-    ensures verdict { result.verdict ≡ Verdict.Absent }
-{
-    if absent.is_empty() {
-        Answer::new(alloc, Vec::new(alloc), Verdict::Absent)
-    } else {
-        Answer::absent(alloc, absent)
-    }
 }
 
 impl How<'_> {
@@ -181,40 +165,36 @@ impl How<'_> {
             && are_meant::<P, S, W>(names, setup, kernel, ObjectKind::Endpoint, self.by)
     }
 
-    /// What is told of the first word that stands for nothing of its kind; nothing where there are not two threads.
+    /// The answer where a word stands for nothing of its kind, or where there are not two threads.
     fn absent<P: Profile, S: CapStore<P> + Drop, W: Waiters<P> + Drop>(
         &self,
         alloc: Global,
-        names: &[Name],
-        setup: &Setup,
+        behind: &Behind<'_>,
         kernel: &Kernel<P, S, W>,
-    ) -> Result<String, AllocError>
-        requires { IsWithinLimits P.profile setup.now.plan }
+    ) -> Result<Answer, AllocError>
+        requires { IsWithinLimits P.profile behind.now.setup.now.plan }
+        ensures { IfOk result (λ made. spec.IsNothing made.text.items made.verdict) }
     {
-        let (kind, words) = (ObjectKind::Thread, self.without);
-        if let Some(text) = absent_object::<P, S, W>(
-            alloc,
-            names,
-            setup,
-            kernel,
-            kind,
-            "--without",
-            words,
-        )? {
-            return Ok(text);
-        }
-        let (kind, words) = (ObjectKind::Endpoint, self.by);
-        if let Some(text) = absent_object::<P, S, W>(
-            alloc, names, setup, kernel, kind, "--by", words,
-        )? {
-            return Ok(text);
-        }
-        if self.to.is_empty() || self.to.contains(',') {
-            return Ok(String::new(alloc));
-        }
-        let (kind, words) = (ObjectKind::Thread, [self.from, self.to]);
-        let text = absent_object::<P, S, W>(alloc, names, setup, kernel, kind, "--how", &words)?;
-        Ok(text.unwrap_or(String::new(alloc)))
+        self.absent_of::<P, S, W>(alloc, behind, kernel, &[self.from, self.to])
+    }
+
+    /// The same, where these are the words for the two threads.
+    fn absent_of<P: Profile, S: CapStore<P> + Drop, W: Waiters<P> + Drop>(
+        &self,
+        alloc: Global,
+        behind: &Behind<'_>,
+        kernel: &Kernel<P, S, W>,
+        ends: &[&str; 2],
+    ) -> Result<Answer, AllocError>
+        requires { IsWithinLimits P.profile behind.now.setup.now.plan }
+        ensures { IfOk result (λ made. spec.IsNothing made.text.items made.verdict) }
+    {
+        let asked = [
+            ObjectWords::threads("--without", self.without),
+            ObjectWords::endpoints("--by", self.by),
+            ObjectWords::two_threads("--how", ends),
+        ];
+        absent_answer::<P, S, W>(alloc, behind, kernel, &asked)
     }
 
     /// The same, where each of the words for the two threads stands for one.
@@ -236,10 +216,7 @@ impl How<'_> {
         let to = object_meant::<P, S, W>(names, setup, kernel, kind, self.to.as_bytes());
         match (from, to) {
             (Some(from), Some(to)) => { self.answer_of::<P, S, W>(alloc, behind, kernel, from, to) }
-            _ => {
-                let absent = self.absent::<P, S, W>(alloc, names, setup, kernel)?;
-                Ok(absent_answer(alloc, absent))
-            }
+            _ => self.absent::<P, S, W>(alloc, behind, kernel),
         }
     }
 
@@ -256,12 +233,11 @@ impl How<'_> {
         ensures { IfOk result (λ answer. spec.IsHowBy (spec.how_words self.now) P.profile (names_view behind.now.names.now) behind.now.setup.now behind.now.made
             kernel.now answer.text.items answer.verdict) }
     {
-        let (names, setup) = (behind.names, behind.setup);
-        if !self.has_asked::<P, S, W>(names, setup, kernel) {
-            let absent = self.absent::<P, S, W>(alloc, names, setup, kernel)?;
-            return Ok(absent_answer(alloc, absent));
+        if self.has_asked::<P, S, W>(behind.names, behind.setup, kernel) {
+            self.answer_meant::<P, S, W>(alloc, behind, kernel)
+        } else {
+            self.absent::<P, S, W>(alloc, behind, kernel)
         }
-        self.answer_meant::<P, S, W>(alloc, behind, kernel)
     }
 }
 
@@ -273,31 +249,9 @@ impl StateCommand for How<'_> {
     fn answer<P: Profile, S: MakeStore<P> + DerivationStore<P>, W: MakeWaiters<P>>(
         &self,
         alloc: Global,
-        first: &FirstCalls<'_>,
+        behind: &Behind<'_>,
         kernel: &Kernel<P, S, W>,
     ) -> Result<Answer, AllocError> {
-        let behind = Behind {
-            names: first.names,
-            setup: first.setup,
-            table: first.table,
-            made: first.made,
-        };
-        self.answer_by::<P, S, W>(alloc, &behind, kernel)
-    }
-}
-
-impl Command for How<'_> {
-    ghost use Rattle.command_check.specs.Commands.{IsStateAnswer};
-    ghost use Rattle.command_how.specs.How.{IsHow, how_words};
-
-    ghost answers = { λ how. IsStateAnswer (IsHow (how_words how)) how.after };
-
-    fn answer<P: Profile, S: MakeStore<P> + DerivationStore<P>, W: MakeWaiters<P>>(
-        &self,
-        alloc: Global,
-        read: ReadSetup,
-    ) -> Result<Answer, AllocError> {
-        let (command, after) = (*self, self.after);
-        OnState { command, after }.answer::<P, S, W>(alloc, read)
+        self.answer_by::<P, S, W>(alloc, behind, kernel)
     }
 }

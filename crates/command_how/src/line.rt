@@ -1,7 +1,7 @@
 //! The line of an answer that is no witness.
 ghost use Rattle.std.specs.Prelude.{◌≡◌, Some};
 ghost use Rattle.std.specs.Fmt.{decimal};
-ghost use Rattle.command_never_text.specs.Open.{part_text};
+ghost use Rattle.command_never.specs.Open.{part_text};
 ghost use Rattle.command_how.specs.Line as spec;
 
 use command_how_witness::Happening;

@@ -1,6 +1,6 @@
 //! The table of a set-up that makes the first calls of another, and then those that were found.
 use cap_core::{Profile, Rights};
-use command_why_words::{KeyWord, KeyWords, key_words};
+use command_why::{KeyWord, KeyWords, key_words};
 use kernel_core::{Call, Op, Reply};
 use setup_format::limits::NEWEST_FORMAT;
 use setup_format::op_name;

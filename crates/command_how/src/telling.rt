@@ -10,12 +10,12 @@ ghost use Rattle.command_how_witness.specs.Excluded.{IsOutside, IsRuledOut, IsIn
 ghost use Rattle.command_how.specs.How as spec;
 ghost use Rattle.command_how.specs.Line.{how_line};
 
+use crate::finding::{Found, find, shortened};
 use crate::line::{NoWitness, PartText, happening_word};
 use crate::table::with_calls;
 use cap_core::Profile;
-use command_check::table_text;
+use command_check::{Behind, table_text};
 use command_core::Verdict;
-use command_how_search::{Found, find, shortened};
 use command_how_witness::{Asked, is_excluded, is_excluded_by_flow, is_witness_text};
 use ipc_core::MakeWaiters;
 use kernel_core::{Call, Kernel};
@@ -26,15 +26,6 @@ use slot_core::{DerivationStore, MakeStore};
 use std::alloc::{AllocError, Global};
 use std::fmt::Write;
 use toml::Table;
-
-/// A set-up that was read, with its names and its table, and how many of its calls are made.
-#[derive(Clone, Copy)]
-pub struct Behind<'a> {
-    pub names: &'a [Name],
-    pub setup: &'a Setup,
-    pub table: &'a Table,
-    pub made: usize,
-}
 
 /// What comes of a question: the text of a witness, or why there is none.
 #[derive(Drop)]

@@ -39,7 +39,7 @@ use Rattle.kernel_abstract.proofs.Lists.Tables.{get_after}
 use Rattle.kernel_abstract.proofs.Reached.Equations.{shown-derivations}
 use Rattle.kernel_abstract.proofs.Reached.Runs.{replies_of-nil, replies_of-cons, state_after-nil, state_after-cons}
 use Rattle.kernel_abstract.proofs.Reached.Simulation.{Reached, reached_is, reached_step, simulates}
-use Rattle.command_never_text.specs.Still.{IsReadyToPass}
+use Rattle.command_never.specs.Still.{IsReadyToPass}
 use Rattle.command_how_witness.specs.Still.{HoldsEndpoint, SendsOrReceives, PassesMessage, CanPass}
 use Rattle.command_how_witness.proofs.SlotWords.{has_word}
 

@@ -28,17 +28,17 @@ use Rattle.query_parts.proofs.Lists.{in_mapped, from_mapped, and_true}
 use Rattle.setup_report.specs.State.{is_in}
 use Rattle.setup_report.proofs.Addresses.Rising.{any_rising}
 use Rattle.command_parts.specs.Text.{is_part, is_use}
-use Rattle.command_never_text.specs.declared.waits.Wait.{Wait}
-use Rattle.command_never_text.specs.declared.never.Never.TheVariants.{Excluded, Possible}
-use Rattle.command_never_text.specs.Never.{has_some, has_bytes, is_use_of, is_waiting_sender, is_waiting_receiver, may_send_to, may_receive_on, is_open, endpoints_met, are_open, never_between, never}
-use Rattle.command_never_text.proofs.Tests.{neither, none_at}
-use Rattle.command_never_text.proofs.Had.{IsKeptRight, write_kept, read_kept, bytes_at, covered_use, may_use}
-use Rattle.command_never_text.proofs.Kept.{used_met, waited_met, use_at, sender_at, receiver_at}
+use Rattle.command_never.specs.declared.parts_kept.waits.Wait.{Wait}
+use Rattle.command_never.specs.declared.parts_kept.never.Never.TheVariants.{Excluded, Possible}
+use Rattle.command_never.specs.Never.{has_some, has_bytes, is_use_of, is_waiting_sender, is_waiting_receiver, may_send_to, may_receive_on, is_open, endpoints_met, are_open, never_between, never}
+use Rattle.command_never.proofs.Tests.{neither, none_at}
+use Rattle.command_never.proofs.Had.{IsKeptRight, write_kept, read_kept, bytes_at, covered_use, may_use}
+use Rattle.command_never.proofs.Kept.{used_met, waited_met, use_at, sender_at, receiver_at}
 use Rattle.kernel_abstract.specs.Shown.{Shown}
 use Rattle.query_parts.proofs.Same.{lie_in_each_other}
 use Rattle.command_parts.specs.Ever.{AreRightParts}
 use Rattle.command_parts.specs.Threads.{callers}
-use Rattle.command_never_text.specs.Waits.{waits}
+use Rattle.command_never.specs.Waits.{waits}
 use Rattle.command_how_witness.specs.declared.asked.Happening.{Happening}
 use Rattle.command_how_witness.specs.declared.asked.Happening.TheVariants.{Message, Hold, Loss}
 use Rattle.command_how_witness.specs.Witness.{Asking}

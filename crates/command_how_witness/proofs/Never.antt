@@ -28,7 +28,7 @@ use Rattle.command_parts.specs.Threads.{callers}
 use Rattle.query_parts.proofs.Taking.{takes_nothing, stay_none}
 use Rattle.query_reach.specs.Reaching.{Reaches}
 use Rattle.setup_report.specs.State.{is_in}
-use Rattle.command_never_text.specs.Kept.{TellsKept}
+use Rattle.command_never.specs.Kept.{TellsKept}
 use Rattle.command_how_witness.specs.declared.asked.Happening.{Happening}
 use Rattle.command_how_witness.specs.declared.asked.Happening.TheVariants.{Message, Hold, Loss}
 use Rattle.command_how_witness.specs.Witness.{Asking, is_caller, is_message, is_message_last, ShowsMessage, ShowsHold, ShowsLoss, ShowsIt}

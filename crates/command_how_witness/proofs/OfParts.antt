@@ -4,12 +4,12 @@ use Rattle.std.proofs.lemmas.Bool.{false≢true}
 use Rattle.cap_core.specs.declared.profile.ProfileName.{ProfileName}
 use Rattle.kernel_abstract.specs.Shown.{Shown}
 use Rattle.query_parts.specs.Listed.{part_at}
-use Rattle.command_never_text.specs.declared.never.Never.{Never}
-use Rattle.command_never_text.specs.declared.never.Never.TheVariants.{Excluded, Possible}
-use Rattle.command_never_text.specs.Waits.{waits}
-use Rattle.command_never_text.specs.Never.{never}
-use Rattle.command_never_text.specs.Answer.{is_excluded, IsNeverByParts}
-use Rattle.command_never_text.proofs.Answered.{only_two, excluded_so}
+use Rattle.command_never.specs.declared.parts_kept.never.Never.{Never}
+use Rattle.command_never.specs.declared.parts_kept.never.Never.TheVariants.{Excluded, Possible}
+use Rattle.command_never.specs.Waits.{waits}
+use Rattle.command_never.specs.Never.{never}
+use Rattle.command_never.specs.Answer.{is_excluded, IsNeverByParts}
+use Rattle.command_never.proofs.Answered.{only_two, excluded_so}
 use Rattle.command_how_witness.specs.Witness.{Asking}
 use Rattle.command_how_witness.specs.Excluded.{IsKept, IsNeverSaid}
 

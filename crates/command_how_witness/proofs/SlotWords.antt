@@ -20,7 +20,7 @@ use Rattle.cspace_core.proofs.Steps.{choice_is}
 use Rattle.kernel_abstract.specs.Lookups.{slot_found, slot_named}
 use Rattle.kernel_abstract.specs.Shown.{Shown}
 use Rattle.kernel_abstract.proofs.Checks.FoundSlots.{lawful_at}
-use Rattle.command_never_text.specs.Still.{IsReadyToPass}
+use Rattle.command_never.specs.Still.{IsReadyToPass}
 
 -- the bits of the guard and of an index lead to the slot with this index
 chosen : (p : ProfileName) (base radix index : ℕ) (guard : Guard) → guard.size + radix ≡ word_bits p → guard.value < 2 ^ guard.size → index < 2 ^ radix →

@@ -10,13 +10,13 @@ use Rattle.kernel_abstract.specs.Reached.{IsReached}
 use Rattle.query_parts.specs.declared.listed.PartUse.{PartUse}
 use Rattle.query_parts.specs.Listed.{part_at}
 use Rattle.command_parts.specs.Ever.{AreRightParts}
-use Rattle.command_never_text.specs.declared.never.Never.TheVariants.{Excluded, Possible}
-use Rattle.command_never_text.specs.declared.waits.Wait.{Wait}
-use Rattle.command_never_text.specs.Never.{is_open, endpoints_met, never}
-use Rattle.command_never_text.specs.Waits.{waits}
-use Rattle.command_never_text.proofs.Kept.{kept_ever}
-use Rattle.command_never_text.proofs.Answered.{only_two}
-use Rattle.command_never_text.specs.Still.{LieInTwoStill}
+use Rattle.command_never.specs.declared.parts_kept.never.Never.TheVariants.{Excluded, Possible}
+use Rattle.command_never.specs.declared.parts_kept.waits.Wait.{Wait}
+use Rattle.command_never.specs.Never.{is_open, endpoints_met, never}
+use Rattle.command_never.specs.Waits.{waits}
+use Rattle.command_never.proofs.Kept.{kept_ever}
+use Rattle.command_never.proofs.Answered.{only_two}
+use Rattle.command_never.specs.Still.{LieInTwoStill}
 use Rattle.command_how_witness.specs.declared.asked.Happening.TheVariants as happening
 use Rattle.command_how_witness.specs.Witness.{Asking, is_badge}
 use Rattle.command_how_witness.specs.Excluded.{IsKept, IsOutside, IsExcluded}

@@ -57,11 +57,11 @@ use Rattle.query_parts.proofs.Going.{Tells, Wait, wait_before, Fits, run_told}
 use Rattle.query_parts.proofs.Lists.{and_true}
 use Rattle.setup_report.specs.State.{is_in}
 use Rattle.command_parts.specs.Ever.{AreRightParts}
-use Rattle.command_never_text.specs.Never.{is_waiting_sender, is_waiting_receiver}
-use Rattle.command_never_text.specs.Waits.{waits}
-use Rattle.command_never_text.proofs.Had.{read_kept}
-use Rattle.command_never_text.proofs.Waiting.{sender_waits, receiver_waits}
-use Rattle.command_never_text.specs.Still.{LieInTwoStill}
+use Rattle.command_never.specs.Never.{is_waiting_sender, is_waiting_receiver}
+use Rattle.command_never.specs.Waits.{waits}
+use Rattle.command_never.proofs.Had.{read_kept}
+use Rattle.command_never.proofs.Waiting.{sender_waits, receiver_waits}
+use Rattle.command_never.specs.Still.{LieInTwoStill}
 use Rattle.command_how_witness.specs.declared.asked.Happening.TheVariants as happening
 use Rattle.command_how_witness.specs.Witness.{Asking, IsShown, is_caller, is_badge, is_message, is_message_last, ShowsMessage, ShowsIt}
 use Rattle.command_how_witness.specs.Still.{HoldsEndpoint}

@@ -42,12 +42,12 @@ use Rattle.setup_report.proofs.Addresses.Rising.{any_rising}
 use Rattle.command_parts.specs.Ever.{AreRightParts}
 use Rattle.command_parts.specs.Text.{is_part, is_use}
 use Rattle.command_parts.specs.Threads.{callers}
-use Rattle.command_never_text.specs.declared.waits.Wait.{Wait}
-use Rattle.command_never_text.specs.Never.{has_bytes, is_use_of, is_open, is_waiting_sender, is_waiting_receiver, may_send_to, may_receive_on, endpoints_met}
-use Rattle.command_never_text.specs.Waits.{wait_in, wait_of, waits}
-use Rattle.command_never_text.proofs.Had.{IsKeptRight, write_kept, read_kept}
-use Rattle.command_never_text.proofs.Kept.{now_closed}
-use Rattle.command_never_text.specs.Still.{IsReadyToPass, IsStill, LieInTwoStill}
+use Rattle.command_never.specs.declared.parts_kept.waits.Wait.{Wait}
+use Rattle.command_never.specs.Never.{has_bytes, is_use_of, is_open, is_waiting_sender, is_waiting_receiver, may_send_to, may_receive_on, endpoints_met}
+use Rattle.command_never.specs.Waits.{wait_in, wait_of, waits}
+use Rattle.command_never.proofs.Had.{IsKeptRight, write_kept, read_kept}
+use Rattle.command_never.proofs.Kept.{now_closed}
+use Rattle.command_never.specs.Still.{IsReadyToPass, IsStill, LieInTwoStill}
 use Rattle.command_how_witness.specs.Witness.{Asking, may_thread_call}
 use Rattle.command_how_witness.specs.Still.{HoldsEndpoint}
 use Rattle.command_how_witness.proofs.Below.{is_the_part}

@@ -12,7 +12,7 @@ use Rattle.kernel_abstract.specs.State.{State, shown}
 use Rattle.kernel_abstract.specs.Reached.{IsReached}
 use Rattle.query_parts.proofs.Lists.{and_true}
 use Rattle.setup_report.specs.State.{is_in}
-use Rattle.command_never_text.specs.Still.{IsReadyToPass}
+use Rattle.command_never.specs.Still.{IsReadyToPass}
 use Rattle.command_how_witness.specs.declared.asked.Happening.TheVariants as happening
 use Rattle.command_how_witness.specs.Witness.{Asking, may_thread_call, is_caller, is_badge, is_message, is_message_last, ends_in_message, ShowsMessage, ShowsIt}
 use Rattle.command_how_witness.specs.Still.{HoldsEndpoint, SendsOrReceives}

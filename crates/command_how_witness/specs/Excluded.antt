@@ -14,11 +14,11 @@ use Rattle.query_parts.specs.Listed.{part_at, parts_listed}
 use Rattle.command_parts.specs.Ever.{AreRightParts}
 use Rattle.query_parts.specs.Below.{StandsNoneBelow}
 use Rattle.query_flow.specs.Excluded.{is_number_listed, PassesNoneEver, NamesNoneEver, ChangesNoneEver}
-use Rattle.command_never_text.specs.declared.never.Never.{Never}
-use Rattle.command_never_text.specs.declared.never.Never.TheVariants.{Excluded, Possible}
-use Rattle.command_never_text.specs.Waits.{waits}
-use Rattle.command_never_text.specs.Never.{never}
-use Rattle.command_never_text.specs.Kept.{AreThreadsKept}
+use Rattle.command_never.specs.declared.parts_kept.never.Never.{Never}
+use Rattle.command_never.specs.declared.parts_kept.never.Never.TheVariants.{Excluded, Possible}
+use Rattle.command_never.specs.Waits.{waits}
+use Rattle.command_never.specs.Never.{never}
+use Rattle.command_never.specs.Kept.{AreThreadsKept}
 use Rattle.command_how_witness.specs.declared.asked.Happening.{Happening}
 use Rattle.command_how_witness.specs.declared.asked.Happening.TheVariants.{Message, Hold, Loss}
 use Rattle.command_how_witness.specs.Witness.{Asking, IsShown}

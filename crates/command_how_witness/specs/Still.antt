@@ -22,7 +22,7 @@ use Rattle.kernel_abstract.specs.Shown.{Shown, waiting_at}
 use Rattle.kernel_abstract.specs.State.{State, shown}
 use Rattle.kernel_abstract.specs.Step.{replies_of, state_after}
 use Rattle.query_parts.specs.Parts.{Parts}
-use Rattle.command_never_text.specs.Still.{IsReadyToPass, IsStill}
+use Rattle.command_never.specs.Still.{IsReadyToPass, IsStill}
 
 -- a call is of a thread of a still part
 abbrev pub IsOfStillPart : ProfileName → Parts → Shown → Call → Type 0

@@ -7,14 +7,14 @@ use Rattle.kernel_abstract.specs.Reached.{IsReached}
 use Rattle.kernel_abstract.specs.State.{State, shown}
 use Rattle.query_parts.specs.declared.listed.PartUse.{PartUse}
 use Rattle.command_parts.specs.Ever.{AreRightParts}
-use Rattle.command_never_text.specs.declared.never.Never.TheVariants.{Possible, Decided}
-use Rattle.command_never_text.specs.Never.{never}
-use Rattle.command_never_text.specs.Waits.{waits}
-use Rattle.command_never_text.specs.Answer.{IsFounded}
+use Rattle.command_never.specs.declared.parts_kept.never.Never.TheVariants.{Possible, Decided}
+use Rattle.command_never.specs.Never.{never}
+use Rattle.command_never.specs.Waits.{waits}
+use Rattle.command_never.specs.Answer.{IsFounded}
 use Rattle.command_how_witness.specs.declared.asked.Happening.TheVariants.{Message}
 use Rattle.command_how_witness.specs.Witness.{Asking, IsShown}
 use Rattle.command_how_witness.specs.Excluded.{IsExcluded}
-use Rattle.command_never_text.specs.Still.{LieInTwoStill}
+use Rattle.command_never.specs.Still.{LieInTwoStill}
 use Rattle.command_how_witness.specs.Still.{SendsOrReceives}
 
 -- some calls show what is asked, each of them a send of the one thread or a receive of the other

@@ -8,15 +8,15 @@ ghost use Rattle.query_parts.specs.declared.listed.PartUse.{PartUse as PartUseOf
 ghost use Rattle.query_parts.specs.Listed.{parts_listed};
 ghost use Rattle.query_parts.specs.Below.{StandsNoneBelow};
 ghost use Rattle.kernel_abstract.specs.Memory.{IsInMemory};
-ghost use Rattle.command_never_text.specs.declared.never.Never.TheVariants.{Excluded as ExcludedOf, Possible as PossibleOf};
-ghost use Rattle.command_never_text.specs.Answer.{is_excluded as is_excluded_of};
+ghost use Rattle.command_never.specs.declared.parts_kept.never.Never.TheVariants.{Excluded as ExcludedOf, Possible as PossibleOf};
+ghost use Rattle.command_never.specs.Answer.{is_excluded as is_excluded_of};
 ghost use Rattle.command_how_witness.specs.Witness.{asking_of};
 ghost use Rattle.command_how_witness.specs.Excluded.{IsKept, IsNeverSaid, IsOutside, IsRuledOut, IsInside, StandsOneBelow, TakesFrom};
 ghost use Rattle.command_how_witness.specs.Private as spec;
 
 use crate::asked::{Asked, Happening};
 use cap_core::Profile;
-use command_never_text::{Never, never_by_parts};
+use command_never::{Never, never_by_parts};
 use command_parts::{is_in, is_of_part};
 use ipc_core::MakeWaiters;
 use kernel_core::Kernel;

@@ -21,7 +21,7 @@ impl Command for Marks {
     fn answer<P: Profile, S: MakeStore<P> + DerivationStore<P>, W: MakeWaiters<P>>(
         &self,
         alloc: Global,
-        read: ReadSetup,
+        read: &ReadSetup,
     ) -> Result<Answer, AllocError> {
         let made = mark_setup::<P, S, W>(alloc, &read.setup)?;
         let text = marks_text(alloc, &read.setup, made.marks.as_slice(), made.count)?;

@@ -1,84 +1,82 @@
--- What is written of whether one thread's part is kept from another's, and the verdict.
-use Rattle.std.specs.Prelude.{◌≡◌, ℕ, ◌&&◌, Bool, List, [], map, Option, Some, None, is_some, MatchBool}
-use Rattle.std.specs.Borrow.{Bor}
+-- Whether one thread's part is kept from another's: that it can never get a capability to an object that has bytes in that
+-- part's memory, and that no message of it is ever delivered there, but by the endpoints that are named.
+use Rattle.std.specs.Prelude.{ℕ, ◌+◌, ◌==◌, ◌&&◌, ◌||◌, nat_le, nat_lt, Bool, not, cond, List, filter, map, ◌++◌, Option, Some, None}
+use Rattle.std.specs.List.{list_any}
 use Rattle.cap_core.specs.declared.profile.ProfileName.{ProfileName}
-use Rattle.kernel_abstract.specs.Shown.{Shown, state_at}
-use Rattle.kernel_abstract.specs.State.{State, shown}
-use Rattle.setup_values.specs.Names.{Names}
-use Rattle.setup_format.specs.Views.{SetupView}
-use Rattle.command_never_text.specs.declared.never.Never.{Never}
-use Rattle.command_never_text.specs.declared.never.Never.TheVariants.{Excluded, ExcludedByFlow, Possible, Decided}
-use Rattle.kernel_abstract.specs.Plan.{Plan}
-use Rattle.setup_objects.specs.declared.meant.ObjectKind.TheVariants.{Thread, Endpoint}
-use Rattle.setup_objects.specs.Meant.{object_meant, are_meant}
-use Rattle.setup_report.specs.Naming.{Texts, texts_of}
-use Rattle.command_parts.specs.Behind.{refused_behind}
-use Rattle.command_parts.specs.Threads.{Trusted, trusted_by, are_trusted, objects_named}
-use Rattle.command_never_text.specs.Open.{IsNeverOf}
-use Rattle.command_core.specs.declared.fault.Verdict.{Verdict}
-use Rattle.command_core.specs.declared.fault.Verdict.TheVariants.{AllMet, NotMet, Absent}
-use Rattle.command_never.specs.declared.asking.Question.{Question}
+use Rattle.cap_core.specs.Numbers.{endpoint_size}
+use Rattle.cap_core.specs.Rights.{write_bit, read_bit}
+use Rattle.query_parts.specs.declared.listed.PartMemory.{PartMemory}
+use Rattle.query_parts.specs.declared.listed.PartUse.{PartUse}
+use Rattle.query_parts.specs.Listed.{part_at}
+use Rattle.setup_report.specs.State.{is_in, rising}
+use Rattle.command_never.specs.declared.parts_kept.waits.Wait.{Wait}
+use Rattle.command_never.specs.declared.parts_kept.never.Never.{Never}
+use Rattle.command_never.specs.declared.parts_kept.never.Never.TheVariants.{Excluded, Possible}
+use Rattle.command_parts.specs.Text.{is_part, is_use}
 
--- what is asked: which threads are trusted, of which two threads, and but by which endpoints; and whether objects are told by
--- their names
-pub record Asked : Type 0 where
-  pub trust : Trusted
-  pub from : List ℕ
-  pub to : List ℕ
-  pub by : List (List ℕ)
-  pub by_name : Bool
+-- ---- an endpoint, and what a part has of it
 
--- a question, with its words as lists of characters
-abbrev pub asked_never : Question → Asked
-asked_never q = record {
-  trust = trusted_by q.trust;
-  from = q.from.now;
-  to = q.to.now;
-  by = map (λ (w : Bor (List ℕ)). w.now) q.by.now;
-  by_name = q.names;
-}
+-- a stretch of the part has one of so many bytes
+abbrev pub has_some : ℕ → ℕ → ℕ → PartMemory → Bool
+has_some part first size m = m.part == part && (nat_lt m.first (first + size) && nat_le first m.last)
 
-abbrev pub never_verdict : Never → Verdict
-never_verdict Excluded = AllMet
-never_verdict ExcludedByFlow = AllMet
-never_verdict Possible = NotMet
-never_verdict Decided = NotMet
+-- some byte of the endpoint is memory of the part, as all are where the part owns it
+abbrev pub has_bytes : ProfileName → List PartMemory → ℕ → ℕ → Bool
+has_bytes p memory part endpoint = list_any (has_some part endpoint (endpoint_size p)) memory
 
--- nothing is written
-abbrev pub IsAbsent : List ℕ → Verdict → Type 0
-IsAbsent text verdict = (text ≡ []) × (verdict ≡ Absent)
+-- a use of the part, of the endpoint
+abbrev pub is_use_of : ℕ → ℕ → PartUse → Bool
+is_use_of part endpoint u = u.part == part && u.endpoint == endpoint
 
--- both threads are live
-abbrev pub are_live : Shown → ℕ → ℕ → Bool
-are_live v from to = is_some (state_at v from) && is_some (state_at v to)
+-- a thread of the part waits on the endpoint to send; or to receive
+abbrev pub is_waiting_sender : List PartMemory → ℕ → ℕ → Wait → Bool
+is_waiting_sender memory part endpoint w = w.sends && (w.endpoint == endpoint && is_part part (part_at memory w.thread))
 
--- the text of an answer of what is shown, and its verdict
-abbrev pub IsAnsweredOf : ProfileName → Texts → SetupView → ℕ → ℕ → List ℕ → List ℕ → Shown → List ℕ → ℕ → ℕ → List ℕ → Verdict → Type 0
-IsAnsweredOf p texts setup made refused without messages v by from to text verdict =
-    MatchBool (are_live v from to)
-    ((answer : Never) × (IsNeverOf p texts setup made refused without messages v by from to text answer × (verdict ≡ never_verdict answer)))
-    (IsAbsent text verdict)
+abbrev pub is_waiting_receiver : List PartMemory → ℕ → ℕ → Wait → Bool
+is_waiting_receiver memory part endpoint w = not w.sends && (w.endpoint == endpoint && is_part part (part_at memory w.thread))
 
--- of two threads, where each text stands for one
-abbrev pub IsNeverAnswered : Texts → ProfileName → Names → SetupView → ℕ → ℕ → Shown → Asked → Option ℕ → Option ℕ → List ℕ → Verdict → Type 0
-IsNeverAnswered texts p names setup made refused v asked None to text verdict = IsAbsent text verdict
-IsNeverAnswered texts p names setup made refused v asked (Some from) None text verdict = IsAbsent text verdict
-IsNeverAnswered texts p names setup made refused v asked (Some from) (Some to) text verdict =
-    IsAnsweredOf p texts setup made refused (objects_named Thread p names setup.plan v asked.trust.without) (objects_named Thread p names setup.plan v asked.trust.messages) v
-    (objects_named Endpoint p names setup.plan v asked.by) from to text verdict
+-- the part may send to the endpoint: it has bytes of it, or a use with Write, or one of its threads waits there to send
+abbrev pub may_send_to : ProfileName → List PartMemory → List PartUse → List Wait → ℕ → ℕ → Bool
+may_send_to p memory uses waits part endpoint =
+    has_bytes p memory part endpoint
+    || (list_any (is_use write_bit part endpoint) uses || list_any (is_waiting_sender memory part endpoint) waits)
 
--- each text for a trusted thread stands for a thread, and each for an endpoint that is allowed for an endpoint
-abbrev pub has_asked : ProfileName → Names → Plan → Shown → Asked → Bool
-has_asked p names plan v asked = are_trusted p names plan v asked.trust && are_meant Endpoint p names plan v asked.by
+-- the part may receive on it: it has bytes of it, or a use with Read, or one of its threads waits there to receive
+abbrev pub may_receive_on : ProfileName → List PartMemory → List PartUse → List Wait → ℕ → ℕ → Bool
+may_receive_on p memory uses waits part endpoint =
+    has_bytes p memory part endpoint
+    || (list_any (is_use read_bit part endpoint) uses || list_any (is_waiting_receiver memory part endpoint) waits)
 
--- the text and the verdict of what is shown, where so many calls were refused: nothing, where a word stands for nothing
-abbrev pub IsNeverBy : Asked → Texts → ProfileName → Names → SetupView → ℕ → ℕ → Shown → List ℕ → Verdict → Type 0
-IsNeverBy asked texts p names setup made refused v text verdict =
-    MatchBool (has_asked p names setup.plan v asked)
-    (IsNeverAnswered texts p names setup made refused v asked (object_meant Thread p names setup.plan v asked.from) (object_meant Thread p names setup.plan v asked.to) text verdict)
-    (IsAbsent text verdict)
+-- ---- what is open from part i to part j
 
--- the same of the state after the first calls
-abbrev pub IsNever : Asked → ProfileName → Names → SetupView → ℕ → State → List ℕ → Verdict → Type 0
-IsNever asked p names setup made A text verdict =
-    IsNeverBy asked (texts_of asked.by_name p names setup.plan (shown A)) p names setup made (refused_behind p setup made) (shown A) text verdict
+-- an endpoint that is not named is open: part i has a use of it, and part j has bytes of it; or part i may send to it, and
+-- part j may receive on it
+abbrev pub is_open : ProfileName → List PartMemory → List PartUse → List Wait → List ℕ → ℕ → ℕ → ℕ → Bool
+is_open p memory uses waits by i j endpoint =
+    not (is_in endpoint by)
+    && ((list_any (is_use_of i endpoint) uses && has_bytes p memory j endpoint)
+    || (may_send_to p memory uses waits i endpoint && may_receive_on p memory uses waits j endpoint))
+
+-- the endpoints of which a part has a use, and those on which a thread waits: no other is open between two parts
+abbrev pub endpoints_met : List PartUse → List Wait → List ℕ
+endpoints_met uses waits = rising (map (λ (u : PartUse). u.endpoint) uses ++ map (λ (w : Wait). w.endpoint) waits)
+
+-- those that are open
+abbrev pub open_endpoints : ProfileName → List PartMemory → List PartUse → List Wait → List ℕ → ℕ → ℕ → List ℕ
+open_endpoints p memory uses waits by i j = filter (is_open p memory uses waits by i j) (endpoints_met uses waits)
+
+-- they are one part, or an endpoint is open
+abbrev pub are_open : ProfileName → List PartMemory → List PartUse → List Wait → List ℕ → ℕ → ℕ → Bool
+are_open p memory uses waits by i j = i == j || list_any (is_open p memory uses waits by i j) (endpoints_met uses waits)
+
+-- ---- the answer
+
+-- a thread that lies in no part is not bound by parts
+abbrev pub never_between : ProfileName → List PartMemory → List PartUse → List Wait → List ℕ → Option ℕ → Option ℕ → Never
+never_between p memory uses waits by None to = Possible
+never_between p memory uses waits by (Some i) None = Possible
+never_between p memory uses waits by (Some i) (Some j) = cond (are_open p memory uses waits by i j) Possible Excluded
+
+-- for the parts of two threads
+abbrev pub never : ProfileName → List PartMemory → List PartUse → List Wait → List ℕ → ℕ → ℕ → Never
+never p memory uses waits by from to = never_between p memory uses waits by (part_at memory from) (part_at memory to)

@@ -1,9 +1,8 @@
--- What the threads of a set-up can never get: Threads has which of them are trusted, Behind how many calls were refused, Takes which
--- parts may take slots from which, NotTaken what it means that they may not, Messages which parts only pass messages, Telling how
--- threads, endpoints and parts are told, Text the text of parts, Ever of which parts it is, Alone what it means that a part only passes
--- messages, and Told what the program writes of an input.
+-- What the threads of a set-up can never get: Threads has which of them are trusted, Takes which parts may take slots from
+-- which, NotTaken what it means that they may not, Messages which parts only pass messages, Telling how threads, endpoints and parts
+-- are told, Text the text of parts, Ever of which parts it is, Alone what it means that a part only passes messages, and Told what the
+-- program writes of an input.
 pub mod Threads
-pub mod Behind
 pub mod Takes
 pub mod NotTaken
 pub mod Messages

@@ -5,9 +5,9 @@ use Rattle.cap_core.specs.declared.profile.ProfileName.{ProfileName}
 use Rattle.kernel_abstract.specs.Plan.{Plan}
 use Rattle.kernel_abstract.specs.Shown.{Shown}
 use Rattle.setup_values.specs.Names.{Names}
-use Rattle.setup_objects.specs.declared.meant.ObjectKind.{ObjectKind}
-use Rattle.setup_objects.specs.declared.meant.ObjectKind.TheVariants.{Thread}
-use Rattle.setup_objects.specs.Meant.{are_meant, objects_meant}
+use Rattle.setup_report.specs.declared.meanings.meant.ObjectKind.{ObjectKind}
+use Rattle.setup_report.specs.declared.meanings.meant.ObjectKind.TheVariants.{Thread}
+use Rattle.setup_report.specs.Meant.{are_meant, objects_meant}
 use Rattle.setup_report.specs.State.{is_in, rising, threads}
 use Rattle.command_parts.specs.declared.threads.Trust.{Trust}
 

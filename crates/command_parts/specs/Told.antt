@@ -5,10 +5,10 @@ use Rattle.kernel_abstract.specs.Shown.{Shown}
 use Rattle.kernel_abstract.specs.State.{State, shown}
 use Rattle.setup_values.specs.Names.{Names}
 use Rattle.setup_format.specs.Views.{SetupView}
-use Rattle.setup_objects.specs.declared.meant.ObjectKind.TheVariants.{Thread}
+use Rattle.setup_report.specs.declared.meanings.meant.ObjectKind.TheVariants.{Thread}
+use Rattle.setup_report.specs.Behind.{refused_behind}
 use Rattle.setup_report.specs.Naming.{Texts, texts_of}
 use Rattle.command_parts.specs.Threads.{Trusted, are_trusted, objects_named}
-use Rattle.command_parts.specs.Behind.{refused_behind}
 use Rattle.command_parts.specs.Ever.{IsPartsText}
 use Rattle.command_core.specs.declared.fault.Verdict.{Verdict}
 use Rattle.command_core.specs.declared.fault.Verdict.TheVariants.{AllMet, Absent}

@@ -1,5 +1,5 @@
 //! Which threads words mean, and which threads may go on to make calls.
-ghost use Rattle.std.specs.Prelude.{◌≡◌, IfOk, filter, map, not};
+ghost use Rattle.std.specs.Prelude.{◌≡◌, [], IfOk, filter, map, not};
 ghost use Rattle.kernel_abstract.specs.Plan.{IsWithinLimits};
 ghost use Rattle.setup_values.specs.Names.{names_view};
 ghost use Rattle.setup_report.specs.State.{is_in as is_in_list};
@@ -7,13 +7,81 @@ ghost use Rattle.command_parts.specs.Threads as spec;
 
 use crate::sets::{is_in, rising};
 use cap_core::Profile;
+use command_check::Behind;
+use command_core::{Answer, Verdict};
 use ipc_core::Waiters;
 use kernel_core::Kernel;
 use setup_format::Setup;
-use setup_objects::{ObjectKind, absent_object, are_meant, objects_meant};
+use setup_report::{ObjectKind, absent_object, are_meant, objects_meant};
 use setup_values::Name;
 use slot_core::CapStore;
 use std::alloc::{AllocError, Global};
+
+/// The words of an option, each for an object of a kind.
+#[derive(Clone, Copy, Drop)]
+pub struct ObjectWords<'a> {
+    kind: ObjectKind,
+    option: &'a str,
+    words: &'a [&'a str],
+}
+
+impl<'a> ObjectWords<'a> {
+    /// Words for threads.
+    pub fn threads(option: &'a str, words: &'a [&'a str]) -> ObjectWords<'a> {
+        let kind = ObjectKind::Thread;
+        ObjectWords {
+            kind,
+            option,
+            words,
+        }
+    }
+
+    /// Words for endpoints.
+    pub fn endpoints(option: &'a str, words: &'a [&'a str]) -> ObjectWords<'a> {
+        let kind = ObjectKind::Endpoint;
+        ObjectWords {
+            kind,
+            option,
+            words,
+        }
+    }
+
+    /// The words `FROM,TO` for two threads; none where they are not two.
+    pub fn two_threads(option: &'a str, ends: &'a [&'a str; 2]) -> ObjectWords<'a> {
+        let to = ends[1];
+        let are_two = !to.is_empty() && !to.contains(',');
+        ObjectWords::threads(option, if are_two { ends } else { &[] })
+    }
+}
+
+/// The answer where not all words stand for an object: nothing is written, and the first that stands for none is told.
+///
+/// # Errors
+///
+/// Memory was refused.
+pub fn absent_answer<P: Profile, S: CapStore<P> + Drop, W: Waiters<P> + Drop>(
+    alloc: Global,
+    behind: &Behind<'_>,
+    kernel: &Kernel<P, S, W>,
+    asked: &[ObjectWords<'_>],
+) -> Result<Answer, AllocError>
+    requires { IsWithinLimits P.profile behind.now.setup.now.plan }
+    ensures text { IfOk result (λ made. made.text.items ≡ []) }
+    ensures verdict { IfOk result (λ made. made.verdict ≡ Verdict.Absent) }
+{
+    let (names, setup) = (behind.names, behind.setup);
+    for ObjectWords {
+        kind,
+        option,
+        words,
+    } in asked {
+        let absent = absent_object::<P, S, W>(alloc, names, setup, kernel, *kind, *option, *words)?;
+        if let Some(absent) = absent {
+            return Ok(Answer::absent(alloc, absent));
+        }
+    }
+    Ok(Answer::new(alloc, Vec::new(alloc), Verdict::Absent))
+}
 
 /// The words for the threads that are trusted: to make no more calls, and to go on to send and receive alone. Each is a thread's
 /// address, its name, or a slot of the root CNode (`object_meant`).
@@ -38,7 +106,7 @@ impl Trust<'_> {
             && are_meant::<P, S, W>(names, setup, kernel, ObjectKind::Thread, self.messages)
     }
 
-    /// What is told of the first of the words that stands for no thread.
+    /// The answer where one of the words stands for no thread: nothing is written, and the first such word is told.
     ///
     /// # Errors
     ///
@@ -46,35 +114,18 @@ impl Trust<'_> {
     pub fn absent<P: Profile, S: CapStore<P> + Drop, W: Waiters<P> + Drop>(
         &self,
         alloc: Global,
-        names: &[Name],
-        setup: &Setup,
+        behind: &Behind<'_>,
         kernel: &Kernel<P, S, W>,
-    ) -> Result<String, AllocError>
-        requires { IsWithinLimits P.profile setup.now.plan }
+    ) -> Result<Answer, AllocError>
+        requires { IsWithinLimits P.profile behind.now.setup.now.plan }
+        ensures text { IfOk result (λ made. made.text.items ≡ []) }
+        ensures verdict { IfOk result (λ made. made.verdict ≡ Verdict.Absent) }
     {
-        let (kind, words) = (ObjectKind::Thread, self.without);
-        if let Some(text) = absent_object::<P, S, W>(
-            alloc,
-            names,
-            setup,
-            kernel,
-            kind,
-            "--without",
-            words,
-        )? {
-            return Ok(text);
-        }
-        let words = self.messages;
-        let text = absent_object::<P, S, W>(
-            alloc,
-            names,
-            setup,
-            kernel,
-            kind,
-            "--messages",
-            words,
-        )?;
-        Ok(text.unwrap_or(String::new(alloc)))
+        let asked = [
+            ObjectWords::threads("--without", self.without),
+            ObjectWords::threads("--messages", self.messages),
+        ];
+        absent_answer::<P, S, W>(alloc, behind, kernel, &asked)
     }
 }
 

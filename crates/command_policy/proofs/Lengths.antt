@@ -5,7 +5,7 @@ use Rattle.cap_core.specs.declared.profile.ProfileName.{ProfileName}
 use Rattle.kernel_abstract.specs.Boot.{boot}
 use Rattle.setup_format.specs.Views.{SetupView, CallView}
 use Rattle.setup_report.proofs.Runs.{replies_length}
-use Rattle.command_policy.specs.Policies.{replies_behind}
+use Rattle.setup_report.specs.Behind.{replies_behind}
 
 pub replies_fit : (p : ProfileName) (setup : SetupView) (made : ℕ) → length (replies_behind p setup made) ≤ length setup.calls
 replies_fit p setup made =

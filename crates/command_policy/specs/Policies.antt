@@ -1,15 +1,13 @@
 -- What is written of a set-up that is held to a policy, and the verdict.
-use Rattle.std.specs.Prelude.{◌≡◌, ◌⊎◌, ◌++◌, codes, ℕ, List, [], map, take, Option, Some, None}
+use Rattle.std.specs.Prelude.{◌≡◌, ◌⊎◌, ◌++◌, codes, ℕ, List, [], map, Option, Some, None}
 use Rattle.std.specs.Option.{option_or}
 use Rattle.std.specs.Fmt.{decimal}
 use Rattle.cap_core.specs.declared.profile.ProfileName.{ProfileName}
 use Rattle.kernel_abstract.specs.declared.call.Reply.{Reply}
-use Rattle.kernel_abstract.specs.Boot.{boot}
 use Rattle.kernel_abstract.specs.Shown.{Shown}
 use Rattle.kernel_abstract.specs.State.{shown}
-use Rattle.kernel_abstract.specs.Step.{replies_of}
-use Rattle.setup_format.specs.Views.{SetupView, CallView, ReadView}
-use Rattle.setup_report.specs.Behind.{state_behind, calls_made}
+use Rattle.setup_format.specs.Views.{SetupView, ReadView}
+use Rattle.setup_report.specs.Behind.{state_behind, replies_behind, calls_made}
 use Rattle.command_core.specs.declared.fault.Verdict.{Verdict}
 use Rattle.command_core.specs.declared.fault.Verdict.TheVariants.{Refused, Absent}
 use Rattle.command_policy_text.specs.declared.told.Held.{Held}
@@ -20,10 +18,6 @@ use Rattle.command_policy_breaches.specs.Ways.{passages}
 use Rattle.command_policy.specs.declared.judging.Judged.{Judged}
 use Rattle.command_policy.specs.declared.command.Judging.{Judging}
 use Rattle.command_policy.specs.declared.command.Judging.TheVariants.{Done, Answered}
-
--- what the first calls of a set-up are answered
-abbrev pub replies_behind : ProfileName → SetupView → ℕ → List Reply
-replies_behind p setup made = replies_of p (boot p setup.plan) (take made (map (λ (c : CallView). c.call) setup.calls))
 
 -- what lines are told of is the policy, its layout, the names and the groups of the joined parts
 pub record IsHeldOf (j : Judged) (h : Held) : Type 0 where

@@ -141,9 +141,9 @@ impl Command for HeldTo<'_> {
     fn answer<P: Profile, S: MakeStore<P> + DerivationStore<P>, W: MakeWaiters<P>>(
         &self,
         alloc: Global,
-        read: ReadSetup,
+        read: &ReadSetup,
     ) -> Result<Answer, AllocError> {
-        match self.judged::<P, S, W>(alloc, &read)? {
+        match self.judged::<P, S, W>(alloc, read)? {
             Judging::Done { judged, file, .. } => {
                 let (text, setup) = (text_of(self.policy), &read.setup);
                 let told = judged.told(alloc, setup)?;

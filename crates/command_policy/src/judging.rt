@@ -1,31 +1,26 @@
 //! A set-up is held to a policy.
-ghost use Rattle.std.specs.Prelude.{◌≡◌, ◌≤◌, ℕ, IfErr, IfOk, length, map, string_bytes, take};
-ghost use Rattle.kernel_abstract.specs.Boot.{boot as boot_state};
+ghost use Rattle.std.specs.Prelude.{◌≡◌, ◌≤◌, ℕ, IfErr, IfOk, length, map, string_bytes};
 ghost use Rattle.kernel_abstract.specs.Memory.{IsInMemory};
 ghost use Rattle.kernel_abstract.specs.Plan.{IsPlan};
-ghost use Rattle.kernel_abstract.specs.State.{shown};
-ghost use Rattle.kernel_abstract.specs.Step.{replies_of, state_after};
-ghost use Rattle.setup_report.specs.Behind.{state_behind};
 ghost use Rattle.setup_report.specs.State as state;
 ghost use Rattle.slot_core.specs.Calls.{derivation_view};
 ghost use Rattle.command_policy.specs.Policies as spec;
 
-use crate::objects::{Meaning, Object, Objects, object_of, root_slots};
-use crate::resolve::Resolver;
 use cap_core::Profile;
 use command_core::Answer;
 use command_parts::parts_of_callers;
 use command_policy_breaches::{
-    Home, Join, Labels, Layout, Passage, Policy, blocks, homes_joined, joins, layout_of, passages,
-    trusted_threads,
+    Home, Join, Layout, Passage, blocks, homes_joined, joins, layout_of, passages, trusted_threads,
 };
 use command_policy_text::{Held, breach_lines, policy_text};
 use ipc_core::{MakeWaiters, Waiters};
-use kernel_core::{Call, Kernel, Reply};
+use kernel_core::{Kernel, Reply};
 use query_parts::PartsFault;
 use setup_format::Setup;
-use setup_policy::{PolicyFile, Refusal};
-use setup_report::{StateRows, state_rows};
+use setup_policy::{
+    Labels, Meaning, Object, Objects, Policy, PolicyFile, Refusal, Resolver, object_of, root_slots,
+};
+use setup_report::{StateRows, run_first, state_rows};
 use setup_values::Name;
 use slot_core::{CapStore, Derivation, DerivationStore, MakeStore};
 use std::alloc::{AllocError, Global};
@@ -94,33 +89,6 @@ impl Judged {
             self.passages.as_slice(),
         )
     }
-}
-
-/// The first calls of a set-up.
-fn first_calls(setup: &Setup, made: usize) -> &[Call]
-    requires { made ≤ length setup.now.calls }
-    ensures calls { result.now ≡ take made (map (λ c. c.call) setup.entry.now.calls) }
-    ensures count { length result.now ≡ made }
-{
-    &setup.calls()[..made]
-}
-
-/// The kernel of a set-up behind its first calls, and what these were answered.
-fn run_first<P: Profile, S: MakeStore<P>, W: MakeWaiters<P>>(
-    alloc: Global,
-    setup: &Setup,
-    made: usize,
-) -> Result<(Kernel<P, S, W>, Vec<Reply>), AllocError>
-    requires plan { IsPlan P.profile setup.now.plan }
-    requires made { made ≤ length setup.now.calls }
-    ensures shows { IfOk result (λ r. r.0 ≡ shown (state_behind P.profile setup.now made)) }
-    ensures replies { IfOk result (λ r. r.1.items ≡ spec.replies_behind P.profile setup.now made) }
-    ensures within { IfOk result (λ r. (memory : ℕ) × IsInMemory P.profile memory r.0) }
-{
-    let mut kernel = Kernel::<P, S, W>::boot(alloc, setup.plan())?;
-    let mut replies = Vec::with_capacity(alloc, made)?;
-    kernel.run(first_calls(setup, made), &mut replies);
-    Ok((kernel, replies))
 }
 
 fn live_objects<P: Profile>(

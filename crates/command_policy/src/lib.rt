@@ -4,8 +4,6 @@
 mod command;
 mod judging;
 mod notes;
-mod objects;
-mod resolve;
 
 pub use command::{HeldTo, Judging};
 pub use judging::{Judged, judge};

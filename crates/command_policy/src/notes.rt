@@ -3,12 +3,10 @@
 ghost use Rattle.std.specs.Prelude.{◌≤◌, length};
 
 use crate::judging::Judged;
-use crate::resolve::table_spot;
 use command_core::{CallNote, PolicyNote, Verdict};
 use command_parts::BadgeText;
 use command_policy_breaches::{
-    Allowance, End, HeldRegion, Hold, Join, Passage, PolicyWay, Waiting, groups_at, is_entry,
-    is_way_between,
+    End, HeldRegion, Hold, Join, Passage, Waiting, groups_at, is_entry, is_way_between,
 };
 use command_policy_text::{
     Held, Told, allowed_badges, allowed_rights, call_breaches, capability_text, end_label,
@@ -16,7 +14,9 @@ use command_policy_text::{
 };
 use query_parts::{PartUse, part_at};
 use setup_format::Setup;
-use setup_policy::{Place, PolicyFile, Refusal, Spot, line_and_column};
+use setup_policy::{
+    Allowance, Place, PolicyFile, PolicyWay, Refusal, Spot, line_and_column, table_spot,
+};
 use std::alloc::{AllocError, Global};
 use std::collections::BTreeMap;
 use std::fmt::Write;

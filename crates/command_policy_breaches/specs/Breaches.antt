@@ -6,13 +6,13 @@ use Rattle.kernel_abstract.specs.Decode.{has_right}
 use Rattle.query_parts.specs.declared.listed.PartUse.{PartUse}
 use Rattle.query_parts.specs.Listed.{part_at, last_in}
 use Rattle.command_policy_breaches.specs.declared.breaches.Hold.{Hold}
-use Rattle.command_policy_breaches.specs.declared.policy.Allowance.{Allowance}
-use Rattle.command_policy_breaches.specs.declared.policy.HeldRegion.{HeldRegion}
-use Rattle.command_policy_breaches.specs.declared.policy.Layout.{Layout}
-use Rattle.command_policy_breaches.specs.declared.policy.Member.{Member}
-use Rattle.command_policy_breaches.specs.declared.policy.OwnRegion.{OwnRegion}
-use Rattle.command_policy_breaches.specs.declared.policy.Policy.{Policy}
-use Rattle.command_policy_breaches.specs.declared.policy.Waiting.{Waiting}
+use Rattle.setup_policy.specs.declared.policy.Allowance.{Allowance}
+use Rattle.command_policy_breaches.specs.declared.held.HeldRegion.{HeldRegion}
+use Rattle.command_policy_breaches.specs.declared.held.Layout.{Layout}
+use Rattle.setup_policy.specs.declared.policy.Member.{Member}
+use Rattle.setup_policy.specs.declared.policy.OwnRegion.{OwnRegion}
+use Rattle.setup_policy.specs.declared.policy.Policy.{Policy}
+use Rattle.command_policy_breaches.specs.declared.held.Waiting.{Waiting}
 use Rattle.command_policy_breaches.specs.Sides.{is_in_part}
 
 -- ---- what is a group's own

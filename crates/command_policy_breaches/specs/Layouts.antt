@@ -16,12 +16,12 @@ use Rattle.query_parts.specs.Listed.{part_at}
 use Rattle.setup_report.specs.State.{Derived, rising, threads, slot_rows}
 use Rattle.command_parts.specs.Ever.{AreRightParts}
 use Rattle.command_parts.specs.Text.{parts_of}
-use Rattle.command_policy_breaches.specs.declared.policy.HeldRegion.{HeldRegion}
-use Rattle.command_policy_breaches.specs.declared.policy.Home.{Home}
-use Rattle.command_policy_breaches.specs.declared.policy.Layout.{Layout}
-use Rattle.command_policy_breaches.specs.declared.policy.Member.{Member}
-use Rattle.command_policy_breaches.specs.declared.policy.Policy.{Policy}
-use Rattle.command_policy_breaches.specs.declared.policy.Waiting.{Waiting}
+use Rattle.command_policy_breaches.specs.declared.held.HeldRegion.{HeldRegion}
+use Rattle.command_policy_breaches.specs.declared.held.Home.{Home}
+use Rattle.command_policy_breaches.specs.declared.held.Layout.{Layout}
+use Rattle.setup_policy.specs.declared.policy.Member.{Member}
+use Rattle.setup_policy.specs.declared.policy.Policy.{Policy}
+use Rattle.command_policy_breaches.specs.declared.held.Waiting.{Waiting}
 
 -- the endpoints that parts may use, and those on which threads wait
 abbrev pub endpoints_to_check : List PartUse → List Waiting → List ℕ

@@ -7,9 +7,9 @@ use Rattle.query_parts.specs.declared.listed.PartUse.{PartUse}
 use Rattle.query_parts.specs.Listed.{part_at}
 use Rattle.setup_report.specs.State.{rising}
 use Rattle.command_parts.specs.Text.{is_part}
-use Rattle.command_policy_breaches.specs.declared.policy.Home.{Home}
-use Rattle.command_policy_breaches.specs.declared.policy.Layout.{Layout}
-use Rattle.command_policy_breaches.specs.declared.policy.Waiting.{Waiting}
+use Rattle.command_policy_breaches.specs.declared.held.Home.{Home}
+use Rattle.command_policy_breaches.specs.declared.held.Layout.{Layout}
+use Rattle.command_policy_breaches.specs.declared.held.Waiting.{Waiting}
 
 -- ---- what a use of a part lets it do on an endpoint
 

@@ -5,15 +5,16 @@ use Rattle.cap_core.specs.Rights.{write_bit, read_bit, grant_bit, grant_reply_bi
 use Rattle.kernel_abstract.specs.Decode.{has_right}
 use Rattle.query_parts.specs.declared.listed.PartUse.{PartUse}
 use Rattle.query_parts.specs.Listed.{part_at}
-use Rattle.command_policy_breaches.specs.declared.policy.Allowance.{Allowance}
-use Rattle.command_policy_breaches.specs.declared.policy.Home.{Home}
-use Rattle.command_policy_breaches.specs.declared.policy.HeldRegion.{HeldRegion}
-use Rattle.command_policy_breaches.specs.declared.policy.Layout.{Layout}
-use Rattle.command_policy_breaches.specs.declared.policy.Member.{Member}
-use Rattle.command_policy_breaches.specs.declared.policy.OwnRegion.{OwnRegion}
-use Rattle.command_policy_breaches.specs.declared.policy.Policy.{Policy}
-use Rattle.command_policy_breaches.specs.declared.policy.PolicyWay.{PolicyWay}
-use Rattle.command_policy_breaches.specs.declared.policy.Waiting.{Waiting}
+use Rattle.setup_policy.specs.Entries.{sender_entry}
+use Rattle.setup_policy.specs.declared.policy.Allowance.{Allowance}
+use Rattle.command_policy_breaches.specs.declared.held.Home.{Home}
+use Rattle.command_policy_breaches.specs.declared.held.HeldRegion.{HeldRegion}
+use Rattle.command_policy_breaches.specs.declared.held.Layout.{Layout}
+use Rattle.setup_policy.specs.declared.policy.Member.{Member}
+use Rattle.setup_policy.specs.declared.policy.OwnRegion.{OwnRegion}
+use Rattle.setup_policy.specs.declared.policy.Policy.{Policy}
+use Rattle.setup_policy.specs.declared.policy.PolicyWay.{PolicyWay}
+use Rattle.command_policy_breaches.specs.declared.held.Waiting.{Waiting}
 use Rattle.command_policy_breaches.specs.Breaches.{range_lies_within}
 pub use Rattle.command_policy_breaches.specs.Sides.{is_in_part}
 use Rattle.command_policy_breaches.specs.Sides.{is_found_home}
@@ -89,10 +90,6 @@ is_idle l a right = has_right right a.rights && not (is_used l a.actor a.endpoin
 
 abbrev pub has_idle_behind_write : Layout → Allowance → Bool
 has_idle_behind_write l a = is_idle l a read_bit || (is_idle l a grant_bit || is_idle l a grant_reply_bit)
-
--- what a way lets its sender hold
-abbrev pub sender_entry : PolicyWay → Allowance
-sender_entry w = record { actor = w.from; endpoint = w.endpoint; badge = w.badge; rights = w.rights }
 
 abbrev pub is_group : Policy → ℕ → Bool
 is_group c actor = list_any (λ g. g == actor) c.groups.items

@@ -5,12 +5,13 @@ ghost use Rattle.query_parts.specs.Listed.{last_in};
 ghost use Rattle.command_policy_breaches.specs.Breaches as spec;
 ghost use Rattle.command_policy_breaches.specs.Joins.{have_one_group, have_two_groups};
 
+use crate::held::{HeldRegion, Layout, Waiting};
 use crate::joining::{Join, have_one_group as one_group, have_two_groups as two_groups};
-use crate::policy::{Allowance, HeldRegion, Layout, Member, OwnRegion, Policy, Waiting};
 use crate::sides::is_in_part;
 use bitflags::Flags;
 use cap_core::Rights;
 use query_parts::{PartUse, part_at};
+use setup_policy::{Allowance, Member, OwnRegion, Policy};
 use std::alloc::{AllocError, Global};
 
 /// The last of 2^`bits` addresses; `None` where that is no word.

@@ -3,9 +3,10 @@ ghost use Rattle.std.specs.Prelude.{◌≡◌, ◌++◌, ◌&&◌, ◌||◌, ◌
 ghost use Rattle.std.specs.List.{flat_map, list_any};
 ghost use Rattle.command_policy_breaches.specs.Joins as spec;
 
+use crate::held::{Block, Home, Layout};
 use crate::layout::add_homes;
-use crate::policy::{Block, Home, Layout, Policy};
 use crate::sides::{is_at_home, may_answer, may_call, may_give, may_hear};
+use setup_policy::Policy;
 use std::alloc::{AllocError, Global};
 
 /// That a part can hand capabilities to another, by an endpoint.

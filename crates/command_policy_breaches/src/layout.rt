@@ -11,12 +11,13 @@ ghost use Rattle.command_parts.specs.Ever.{AreRightParts};
 ghost use Rattle.command_parts.specs.Text.{parts_of as numbers_of};
 ghost use Rattle.command_policy_breaches.specs.Layouts as spec;
 
-use crate::policy::{HeldRegion, Home, Layout, Member, Policy, Waiting};
+use crate::held::{HeldRegion, Home, Layout, Waiting};
 use cap_core::{Cap, Profile};
 use command_parts::{listed, rising};
 use ipc_core::{Offer, Waiters};
 use kernel_core::{Kernel, ThreadState};
 use query_parts::{PartMemory, PartUse, Parts, part_at};
+use setup_policy::{Member, Policy};
 use setup_report::StateRows;
 use slot_core::{CapStore, Derivation, DerivationStore};
 use std::alloc::{AllocError, Global};

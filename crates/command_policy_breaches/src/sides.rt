@@ -4,7 +4,7 @@ ghost use Rattle.std.specs.List.{list_any};
 ghost use Rattle.query_parts.specs.Listed.{part_at as part_of};
 ghost use Rattle.command_policy_breaches.specs.Sides as spec;
 
-use crate::policy::{Home, Layout, Waiting};
+use crate::held::{Home, Layout, Waiting};
 use bitflags::Flags;
 use cap_core::Rights;
 use command_parts::{is_of_part, rising};

@@ -4,14 +4,13 @@ ghost use Rattle.std.specs.List.{list_any};
 ghost use Rattle.command_policy_breaches.specs.Unused as spec;
 
 use crate::breaches::lies_within;
-use crate::policy::{
-    Allowance, HeldRegion, Home, Layout, Member, OwnRegion, Policy, PolicyWay, Waiting,
-};
+use crate::held::{HeldRegion, Home, Layout, Waiting};
 use crate::sides::{is_in_part, is_of_group};
 use crate::ways::{hears, is_send_of};
 use bitflags::Flags;
 use cap_core::Rights;
 use query_parts::PartUse;
+use setup_policy::{Allowance, Member, OwnRegion, Policy, PolicyWay, sender_entry};
 use std::alloc::{AllocError, Global};
 
 /// Whether two badges have one in common, where 0 is any.
@@ -151,18 +150,6 @@ pub fn is_idle(layout: &Layout, entry: &Allowance, right: Rights) -> bool
     ensures { result ≡ spec.is_idle layout.now entry.now right.0 }
 {
     entry.rights.contains(right) && !has(layout, entry.actor, entry.endpoint, entry.badge, right)
-}
-
-/// What a way lets its sender hold.
-pub fn sender_entry(way: &PolicyWay) -> Allowance
-    ensures { result ≡ spec.sender_entry way.now }
-{
-    Allowance {
-        actor: way.from,
-        endpoint: way.endpoint,
-        badge: way.badge,
-        rights: way.rights,
-    }
 }
 
 /// Whether an entry has a right but Write that nothing has.

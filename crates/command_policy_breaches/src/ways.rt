@@ -6,11 +6,12 @@ ghost use Rattle.setup_report.specs.State.{rising as rising_of};
 ghost use Rattle.command_policy_breaches.specs.Ways as spec;
 
 use crate::breaches::meets;
+use crate::held::{Block, Home, Layout, Waiting};
 use crate::joining::block_of;
-use crate::policy::{Block, Home, Layout, Member, Policy, PolicyWay, Waiting};
 use crate::sides::{badges, is_at_home, may_hear};
 use command_parts::{is_of_part, rising};
 use query_parts::{PartUse, part_at};
+use setup_policy::{Member, Policy, PolicyWay};
 use std::alloc::{AllocError, Global};
 
 /// Who sends or receives: the parts that have a number, or a trusted thread, by its number in the policy.

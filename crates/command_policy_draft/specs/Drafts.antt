@@ -4,13 +4,13 @@ use Rattle.cap_core.specs.declared.profile.ProfileName.{ProfileName}
 use Rattle.kernel_abstract.specs.Shown.{Shown}
 use Rattle.kernel_abstract.specs.State.{State, shown}
 use Rattle.setup_values.specs.Names.{Names}
-use Rattle.setup_objects.specs.declared.meant.ObjectKind.TheVariants.{Thread}
+use Rattle.setup_report.specs.declared.meanings.meant.ObjectKind.TheVariants.{Thread}
 use Rattle.setup_format.specs.Views.{SetupView}
 use Rattle.setup_report.specs.State.{is_in, threads}
 use Rattle.command_core.specs.declared.fault.Verdict.{Verdict}
 use Rattle.command_core.specs.declared.fault.Verdict.TheVariants.{AllMet, Absent}
 use Rattle.command_parts.specs.Threads.{Trusted, objects_named}
-use Rattle.command_policy_breaches.specs.declared.policy.Member.{Member}
+use Rattle.setup_policy.specs.declared.policy.Member.{Member}
 use Rattle.command_policy_text.specs.Kinds.{thread_breaches}
 use Rattle.command_policy.specs.declared.judging.Judged.{Judged}
 use Rattle.command_policy.specs.Policies.{IsJudged, told_of}

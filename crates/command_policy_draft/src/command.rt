@@ -8,16 +8,13 @@ ghost use Rattle.command_policy_draft.specs.Drafts as spec;
 
 use crate::judged::{Asked, kept_text};
 use cap_core::Profile;
-use command_check::Command;
+use command_check::{Behind, StateCommand};
 use command_core::{Answer, Verdict};
-use command_parts::{Trust, is_in, kernel_behind, listed, named};
+use command_parts::{Trust, is_in, listed, named};
 use ipc_core::{MakeWaiters, Waiters};
 use kernel_core::Kernel;
-use setup_format::{ReadSetup, Setup};
-use setup_objects::ObjectKind;
 use setup_policy::Refusal;
-use setup_report::{calls_made, state_rows};
-use setup_values::Name;
+use setup_report::{ObjectKind, state_rows};
 use slot_core::{DerivationStore, MakeStore};
 use std::alloc::{AllocError, Global};
 
@@ -67,23 +64,26 @@ fn answer_by<P: Profile, S: MakeStore<P> + DerivationStore<P>, W: MakeWaiters<P>
     }
 }
 
-impl Draft<'_> {
-    /// The answer by the kernel behind the first calls.
-    fn answer_of<P: Profile, S: MakeStore<P> + DerivationStore<P>, W: MakeWaiters<P>>(
+impl StateCommand for Draft<'_> {
+    ghost use Rattle.command_parts.specs.Threads.{trusted_by};
+    ghost use Rattle.command_policy_draft.specs.Drafts.{IsDraft};
+
+    ghost answers = { λ draft. IsDraft (trusted_by draft.trust) };
+
+    fn answer<P: Profile, S: MakeStore<P> + DerivationStore<P>, W: MakeWaiters<P>>(
         &self,
         alloc: Global,
-        names: &[Name],
-        setup: &Setup,
-        made: usize,
+        behind: &Behind<'_>,
         kernel: &Kernel<P, S, W>,
-    ) -> Result<Answer, AllocError>
-        requires plan { IsPlan P.profile setup.now.plan }
-        requires made { made ≤ length setup.now.calls }
-        ensures { IfOk result (λ answer. spec.IsDraftOf (trusted_by self.now.trust) P.profile (names_view names.now) setup.now made kernel.now answer.text.items answer.verdict) }
-    {
+    ) -> Result<Answer, AllocError> {
+        let Behind {
+            names,
+            setup,
+            made,
+            ..
+        } = *behind;
         if !self.trust.is_meant::<P, S, W>(names, setup, kernel) {
-            let absent = self.trust.absent::<P, S, W>(alloc, names, setup, kernel)?;
-            return Ok(Answer::absent(alloc, absent));
+            return self.trust.absent::<P, S, W>(alloc, behind, kernel);
         }
         let Trust { without, messages } = self.trust;
         let without = named::<P, S, W>(alloc, names, setup, kernel, ObjectKind::Thread, without)?;
@@ -105,28 +105,5 @@ impl Draft<'_> {
             messages: messages.as_slice(),
             others: others.as_slice(),
         })
-    }
-}
-
-impl Command for Draft<'_> {
-    ghost use Rattle.command_check.specs.Commands.{IsStateAnswer};
-    ghost use Rattle.command_parts.specs.Threads.{trusted_by};
-    ghost use Rattle.command_policy_draft.specs.Drafts.{IsDraft};
-
-    ghost answers = { λ draft. IsStateAnswer (IsDraft (trusted_by draft.trust)) draft.after };
-
-    fn answer<P: Profile, S: MakeStore<P> + DerivationStore<P>, W: MakeWaiters<P>>(
-        &self,
-        alloc: Global,
-        read: ReadSetup,
-    ) -> Result<Answer, AllocError> {
-        let (names, setup) = (read.names.as_slice(), &read.setup);
-        let Some(made) = calls_made(setup, self.after) else {
-            let (asked, calls) = (self.after.unwrap_or(0), setup.calls().len());
-            let absent = format!(in alloc; "--after {asked}: the set-up has {calls} calls")?;
-            return Ok(Answer::absent(alloc, absent));
-        };
-        let (kernel, _refused) = kernel_behind::<P, S, W>(alloc, setup, made)?;
-        self.answer_of::<P, S, W>(alloc, names, setup, made, &kernel)
     }
 }

@@ -4,10 +4,11 @@ use crate::groups::group_at;
 use cap_core::{Badge, Rights};
 use command_policy::Judged;
 use command_policy_breaches::{
-    Allowance, badges_amiss, is_entry, passages_amiss, rights_amiss, unlisted, waits_amiss,
+    badges_amiss, is_entry, passages_amiss, rights_amiss, unlisted, waits_amiss,
 };
 use command_policy_text::{end_label, label, object};
 use query_parts::{PartUse, part_at};
+use setup_policy::Allowance;
 use setup_report::RightsText;
 use std::alloc::{AllocError, Global};
 use std::fmt;

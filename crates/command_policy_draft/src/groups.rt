@@ -5,8 +5,9 @@ ghost use Rattle.std.specs.Prelude.{◌≤◌, length};
 use crate::judged::Asked;
 use command_parts::is_in;
 use command_policy::Judged;
-use command_policy_breaches::{Home, Label, groups_at, regions_amiss};
+use command_policy_breaches::{Home, groups_at, regions_amiss};
 use command_policy_text::{Told, call_breaches, kinds, object};
+use setup_policy::Label;
 use std::alloc::{AllocError, Global};
 use std::fmt::Write;
 

@@ -12,10 +12,10 @@ use Rattle.command_how.specs.declared.line.NoWitness.{NoWitness}
 use Rattle.command_how.specs.declared.line.NoWitness.TheVariants.{Excluded, ExcludedByFlow, NotFound, NotFoundOf}
 use Rattle.command_how.specs.How.{IsWithout}
 use Rattle.command_how.specs.Line.{says_excluded}
-use Rattle.command_policy_breaches.specs.declared.policy.Home.{Home}
-use Rattle.command_policy_breaches.specs.declared.policy.Layout.{Layout}
-use Rattle.command_policy_breaches.specs.declared.policy.Member.{Member}
-use Rattle.command_policy_breaches.specs.declared.policy.Policy.{Policy}
+use Rattle.command_policy_breaches.specs.declared.held.Home.{Home}
+use Rattle.command_policy_breaches.specs.declared.held.Layout.{Layout}
+use Rattle.setup_policy.specs.declared.policy.Member.{Member}
+use Rattle.setup_policy.specs.declared.policy.Policy.{Policy}
 use Rattle.command_policy_text.specs.declared.told.Told.{Told}
 use Rattle.command_policy_how.specs.Question.{IsAbout, everyone, is_asked}
 use Rattle.command_policy_how.specs.Asked.{AreExcluded, AreExcludedFrom, HasWitness, HasWitnessFrom, IsExcludedOf}

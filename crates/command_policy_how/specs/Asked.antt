@@ -9,10 +9,10 @@ use Rattle.command_how_witness.specs.Text.{IsWitnessText}
 use Rattle.command_how.specs.declared.telling.Outcome.{Outcome}
 use Rattle.command_how.specs.declared.telling.Outcome.TheVariants.{Witness, Without}
 use Rattle.command_how.specs.Line.{says_excluded}
-use Rattle.command_policy_breaches.specs.declared.policy.Home.{Home}
-use Rattle.command_policy_breaches.specs.declared.policy.Layout.{Layout}
-use Rattle.command_policy_breaches.specs.declared.policy.Member.{Member}
-use Rattle.command_policy_breaches.specs.declared.policy.Policy.{Policy}
+use Rattle.command_policy_breaches.specs.declared.held.Home.{Home}
+use Rattle.command_policy_breaches.specs.declared.held.Layout.{Layout}
+use Rattle.setup_policy.specs.declared.policy.Member.{Member}
+use Rattle.setup_policy.specs.declared.policy.Policy.{Policy}
 use Rattle.command_policy_text.specs.declared.told.Told.{Told}
 use Rattle.command_policy_how.specs.Question.{IsQuestionOf, everyone, is_asked}
 

@@ -5,10 +5,10 @@ use Rattle.query_parts.specs.Listed.{part_at}
 use Rattle.command_how_witness.specs.declared.asked.Happening.{Happening}
 use Rattle.command_how_witness.specs.declared.asked.Happening.TheVariants.{Message, Hold}
 use Rattle.command_how_witness.specs.Witness.{Asking}
-use Rattle.command_policy_breaches.specs.declared.policy.Home.{Home}
-use Rattle.command_policy_breaches.specs.declared.policy.Layout.{Layout}
-use Rattle.command_policy_breaches.specs.declared.policy.Member.{Member}
-use Rattle.command_policy_breaches.specs.declared.policy.Policy.{Policy}
+use Rattle.command_policy_breaches.specs.declared.held.Home.{Home}
+use Rattle.command_policy_breaches.specs.declared.held.Layout.{Layout}
+use Rattle.setup_policy.specs.declared.policy.Member.{Member}
+use Rattle.setup_policy.specs.declared.policy.Policy.{Policy}
 use Rattle.command_policy_breaches.specs.Layouts.{trusted_threads}
 use Rattle.command_policy_breaches.specs.Ways.{is_end_at}
 use Rattle.command_policy_text.specs.declared.told.Told.{Told}

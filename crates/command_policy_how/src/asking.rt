@@ -11,12 +11,14 @@ ghost use Rattle.command_policy_how.specs.Question.{IsAbout, everyone as everyon
 
 use crate::question::{badge_of, everyone, happening_of, is_asked, other_endpoints};
 use cap_core::Profile;
-use command_how::{Behind, NoWitness, Outcome, outcome_of};
+use command_check::Behind;
+use command_how::{NoWitness, Outcome, outcome_of};
 use command_how_witness::Asked;
-use command_policy_breaches::{Member, trusted_threads};
+use command_policy_breaches::trusted_threads;
 use command_policy_text::{Held, Told};
 use ipc_core::MakeWaiters;
 use kernel_core::Kernel;
+use setup_policy::Member;
 use slot_core::{DerivationStore, MakeStore};
 use std::alloc::{AllocError, Global};
 

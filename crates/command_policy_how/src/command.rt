@@ -8,14 +8,14 @@ ghost use Rattle.command_policy_how.specs.Told as spec;
 use crate::asking::ask;
 use crate::breach::{asked_breaches, told_by};
 use cap_core::Profile;
-use command_check::Command;
+use command_check::{Behind, Command};
 use command_core::{Answer, Verdict};
-use command_how::{Behind, NoWitness, Outcome, STATES};
+use command_how::{NoWitness, Outcome, STATES};
 use command_policy::{HeldTo, Judged, Judging};
 use command_policy_text::Told;
 use ipc_core::MakeWaiters;
 use setup_format::{ReadSetup, Setup};
-use setup_report::kernel_after;
+use setup_report::{count_refused, kernel_after};
 use slot_core::{DerivationStore, MakeStore};
 use std::alloc::{AllocError, Global};
 
@@ -134,13 +134,13 @@ impl Command for BreachHow<'_> {
     fn answer<P: Profile, S: MakeStore<P> + DerivationStore<P>, W: MakeWaiters<P>>(
         &self,
         alloc: Global,
-        read: ReadSetup,
+        read: &ReadSetup,
     ) -> Result<Answer, AllocError> {
         let held = HeldTo {
             policy: self.policy,
             after: self.after,
         };
-        match held.judged::<P, S, W>(alloc, &read)? {
+        match held.judged::<P, S, W>(alloc, read)? {
             Judging::Answered(answer) => Ok(answer),
             Judging::Done { judged, made, .. } => {
                 let behind = Behind {
@@ -148,6 +148,7 @@ impl Command for BreachHow<'_> {
                     setup: &read.setup,
                     table: &read.table,
                     made,
+                    refused: count_refused(judged.replies.as_slice()),
                 };
                 self.answer_of::<P, S, W>(alloc, &behind, &judged)
             }

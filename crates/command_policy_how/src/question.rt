@@ -4,9 +4,10 @@ ghost use Rattle.command_policy_how.specs.Question as spec;
 
 use cap_core::Rights;
 use command_how::Happening;
-use command_policy_breaches::{Layout, Member, Policy, PolicyWay, is_way_between};
+use command_policy_breaches::{Layout, is_way_between};
 use command_policy_text::{Held, Told};
 use query_parts::{PartMemory, part_at};
+use setup_policy::{Member, Policy, PolicyWay};
 use std::alloc::{AllocError, Global};
 
 /// What is to happen.

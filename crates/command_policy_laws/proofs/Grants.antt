@@ -21,11 +21,11 @@ use Rattle.query_parts.specs.Parts.{Use, Covers, IsWithin}
 use Rattle.query_parts.specs.Listed.{parts_listed}
 use Rattle.query_parts.specs.Ever.{AreConfinedEver}
 use Rattle.setup_report.specs.State.{is_in}
-use Rattle.command_never_text.specs.Waits.{waits}
-use Rattle.command_never_text.specs.Never.{may_receive_on, endpoints_met}
+use Rattle.command_never.specs.Waits.{waits}
+use Rattle.command_never.specs.Never.{may_receive_on, endpoints_met}
 use Rattle.command_policy_laws.specs.Grants.{is_giving, may_give_by, gives_to, are_given, IsKeptIn, AreGrantsKeptEver, is_answering, may_answer_by, may_call_by, answers_to, are_answered, IsKeptFromCallers, AreAnswersKeptEver}
-use Rattle.command_never_text.proofs.Tests.{none_at}
-use Rattle.command_never_text.proofs.Had.{bytes_at, used}
+use Rattle.command_never.proofs.Tests.{none_at}
+use Rattle.command_never.proofs.Had.{bytes_at, used}
 use Rattle.command_policy_laws.proofs.Held.{weaker}
 use Rattle.command_policy_laws.proofs.Rights.{grant_kept, read_kept, write_kept}
 

@@ -16,11 +16,11 @@ use Rattle.setup_report.specs.State.{is_in, rising}
 use Rattle.setup_report.proofs.Addresses.Rising.{any_rising}
 use Rattle.command_parts.specs.Text.{parts_of}
 use Rattle.command_policy_breaches.specs.declared.joining.Join.{Join}
-use Rattle.command_policy_breaches.specs.declared.policy.Block.{Block}
-use Rattle.command_policy_breaches.specs.declared.policy.Home.{Home}
-use Rattle.command_policy_breaches.specs.declared.policy.Layout.{Layout}
-use Rattle.command_policy_breaches.specs.declared.policy.Member.{Member}
-use Rattle.command_policy_breaches.specs.declared.policy.Policy.{Policy}
+use Rattle.command_policy_breaches.specs.declared.held.Block.{Block}
+use Rattle.command_policy_breaches.specs.declared.held.Home.{Home}
+use Rattle.command_policy_breaches.specs.declared.held.Layout.{Layout}
+use Rattle.setup_policy.specs.declared.policy.Member.{Member}
+use Rattle.setup_policy.specs.declared.policy.Policy.{Policy}
 use Rattle.command_policy_breaches.specs.Joins.{single_block, all_joined, block_of_part, blocks, given, answer_joins, has_another, have_one_group, have_two_groups, homes_joined, homes_joined_of, is_in_either, is_other_caller, is_other_hearer, is_theirs, join_from, joined, joins, joins_from, joins_on, number_at, block_number, renumbered}
 use Rattle.command_policy_breaches.specs.Layouts.{IsLayoutOf, home, homes_of, part_of_member}
 use Rattle.command_policy_breaches.specs.Sides.{is_at_home, is_home, may_answer, may_give}

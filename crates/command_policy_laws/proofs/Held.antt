@@ -32,13 +32,13 @@ use Rattle.kernel_abstract.specs.Decode.{has_right}
 use Rattle.setup_report.specs.State.{is_in}
 use Rattle.command_parts.specs.declared.ways.Way.{Way}
 use Rattle.command_parts.specs.Text.{is_part, is_use}
-use Rattle.command_never_text.specs.declared.waits.Wait.{Wait}
-use Rattle.command_never_text.specs.Waits.{waits}
-use Rattle.command_never_text.specs.Never.{has_bytes, is_waiting_sender, is_waiting_receiver, may_receive_on, endpoints_met}
+use Rattle.command_never.specs.declared.parts_kept.waits.Wait.{Wait}
+use Rattle.command_never.specs.Waits.{waits}
+use Rattle.command_never.specs.Never.{has_bytes, is_waiting_sender, is_waiting_receiver, may_receive_on, endpoints_met}
 use Rattle.command_policy_laws.specs.Held.{is_way, lets, use_let, waiter_let, are_sends_let, is_passage_let, are_passages_let, TellsLet, AreWaysHeldEver}
-use Rattle.command_never_text.proofs.Had.{bytes_at, used, may_use, write_kept, read_kept}
-use Rattle.command_never_text.proofs.Waiting.{sender_waits, receiver_waits}
-use Rattle.command_never_text.proofs.Kept.{used_met, waited_met, use_at, sender_at, receiver_at, part_is, now_closed}
+use Rattle.command_never.proofs.Had.{bytes_at, used, may_use, write_kept, read_kept}
+use Rattle.command_never.proofs.Waiting.{sender_waits, receiver_waits}
+use Rattle.command_never.proofs.Kept.{used_met, waited_met, use_at, sender_at, receiver_at, part_is, now_closed}
 
 -- ---- lists
 

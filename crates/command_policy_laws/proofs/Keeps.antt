@@ -24,7 +24,7 @@ use Rattle.query_parts.specs.Least.{LieIn}
 use Rattle.command_policy_laws.specs.Larger.{HoldsNoLess}
 use Rattle.command_policy_laws.specs.Keeps.{WaitsOrPartSends, WaitsOrPartHears, KeepPolicy, LeastKeepMost, IsHeld, TellsPassed, WhatIsKeptIsHeld}
 use Rattle.command_policy_laws.proofs.Larger.{hold_no_less}
-use Rattle.command_never_text.proofs.Kept.{now_closed}
+use Rattle.command_never.proofs.Kept.{now_closed}
 
 module _ (p : ProfileName) (v : Shown) (parts others : Parts) (lie : LieIn p parts others) where
   larger : ℕ → ℕ

@@ -23,10 +23,10 @@ use Rattle.query_parts.proofs.Closed.{shown_derivations}
 use Rattle.query_parts.proofs.Lists.{in_mapped}
 use Rattle.query_parts.proofs.Regions.{regions_stay}
 use Rattle.setup_report.specs.State.{Derived, rising, slot_of, found, by_address, slot_rows}
-use Rattle.command_never_text.proofs.Kept.{now_closed}
-use Rattle.command_policy_breaches.specs.declared.policy.HeldRegion.{HeldRegion}
-use Rattle.command_policy_breaches.specs.declared.policy.Layout.{Layout}
-use Rattle.command_policy_breaches.specs.declared.policy.Policy.{Policy}
+use Rattle.command_never.proofs.Kept.{now_closed}
+use Rattle.command_policy_breaches.specs.declared.held.HeldRegion.{HeldRegion}
+use Rattle.command_policy_breaches.specs.declared.held.Layout.{Layout}
+use Rattle.setup_policy.specs.declared.policy.Policy.{Policy}
 use Rattle.command_policy_breaches.specs.Breaches.{ends_within, range_lies_within, is_in_larger, is_region_amiss, is_region_own}
 use Rattle.command_policy_breaches.specs.Joins.{blocks, homes_joined, joins}
 use Rattle.command_policy_breaches.specs.Layouts.{IsLayoutOf, region_at, region_of}

@@ -6,8 +6,8 @@ use Rattle.std.proofs.lemmas.Nat.Bits.{and_pow}
 use Rattle.cap_core.specs.declared.rights.Rights.{Rights}
 use Rattle.cap_core.specs.Rights.{grant_bit, grant_reply_bit}
 use Rattle.kernel_abstract.specs.Decode.{has_right}
-use Rattle.command_never_text.proofs.Had.{IsKeptRight}
-pub use Rattle.command_never_text.proofs.Had.{read_kept, write_kept}
+use Rattle.command_never.proofs.Had.{IsKeptRight}
+pub use Rattle.command_never.proofs.Had.{read_kept, write_kept}
 
 pub grant_kept : IsKeptRight grant_bit
 grant_kept few many among has =

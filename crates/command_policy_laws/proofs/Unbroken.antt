@@ -37,15 +37,15 @@ use Rattle.query_parts.proofs.Lists.{in_mapped, from_mapped}
 use Rattle.setup_report.specs.State.{rising, threads}
 use Rattle.command_parts.specs.Text.{is_part}
 use Rattle.command_policy_breaches.specs.declared.joining.Join.{Join}
-use Rattle.command_policy_breaches.specs.declared.policy.Allowance.{Allowance}
-use Rattle.command_policy_breaches.specs.declared.policy.Block.{Block}
-use Rattle.command_policy_breaches.specs.declared.policy.Home.{Home}
-use Rattle.command_policy_breaches.specs.declared.policy.Labels.{Labels}
-use Rattle.command_policy_breaches.specs.declared.policy.Layout.{Layout}
-use Rattle.command_policy_breaches.specs.declared.policy.OwnRegion.{OwnRegion}
-use Rattle.command_policy_breaches.specs.declared.policy.Policy.{Policy}
-use Rattle.command_policy_breaches.specs.declared.policy.PolicyWay.{PolicyWay}
-use Rattle.command_policy_breaches.specs.declared.policy.Waiting.{Waiting}
+use Rattle.setup_policy.specs.declared.policy.Allowance.{Allowance}
+use Rattle.command_policy_breaches.specs.declared.held.Block.{Block}
+use Rattle.command_policy_breaches.specs.declared.held.Home.{Home}
+use Rattle.setup_policy.specs.declared.policy.Labels.{Labels}
+use Rattle.command_policy_breaches.specs.declared.held.Layout.{Layout}
+use Rattle.setup_policy.specs.declared.policy.OwnRegion.{OwnRegion}
+use Rattle.setup_policy.specs.declared.policy.Policy.{Policy}
+use Rattle.setup_policy.specs.declared.policy.PolicyWay.{PolicyWay}
+use Rattle.command_policy_breaches.specs.declared.held.Waiting.{Waiting}
 use Rattle.command_policy_breaches.specs.declared.ways.End.{End}
 use Rattle.command_policy_breaches.specs.declared.ways.Passage.{Passage}
 use Rattle.command_policy_breaches.specs.declared.ways.Sending.{Sending as Sends}

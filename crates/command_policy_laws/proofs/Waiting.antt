@@ -29,7 +29,7 @@ use Rattle.query_parts.proofs.Lists.{in_mapped}
 use Rattle.setup_report.specs.declared.live.NamedObject.{NamedObject}
 use Rattle.setup_report.specs.State.{is_in, named, named_by, threads}
 use Rattle.setup_report.proofs.Addresses.Rising.{any_rising}
-use Rattle.command_policy_breaches.specs.declared.policy.Waiting.{Waiting}
+use Rattle.command_policy_breaches.specs.declared.held.Waiting.{Waiting}
 use Rattle.command_policy_laws.proofs.Groups.{in_found}
 use Rattle.command_policy_breaches.specs.Layouts.{offered_badge, waiting_in, waiting_of}
 

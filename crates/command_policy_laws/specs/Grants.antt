@@ -18,8 +18,8 @@ use Rattle.query_parts.specs.Listed.{part_at, parts_listed}
 use Rattle.query_parts.specs.Laws.{IsAllowed}
 use Rattle.setup_report.specs.State.{is_in}
 use Rattle.command_parts.specs.Text.{is_use}
-use Rattle.command_never_text.specs.Waits.{waits}
-use Rattle.command_never_text.specs.Never.{has_bytes, may_receive_on, endpoints_met}
+use Rattle.command_never.specs.Waits.{waits}
+use Rattle.command_never.specs.Never.{has_bytes, may_receive_on, endpoints_met}
 
 -- a use with Write and Grant
 abbrev pub is_giving : ℕ → ℕ → PartUse → Bool

@@ -19,8 +19,8 @@ use Rattle.query_parts.specs.Listed.{part_at, parts_listed}
 use Rattle.query_parts.specs.Laws.{IsAllowed}
 use Rattle.command_parts.specs.declared.ways.Way.{Way}
 use Rattle.command_parts.specs.Text.{is_part, is_use}
-use Rattle.command_never_text.specs.Waits.{waits}
-use Rattle.command_never_text.specs.Never.{has_bytes, may_receive_on, endpoints_met}
+use Rattle.command_never.specs.Waits.{waits}
+use Rattle.command_never.specs.Never.{has_bytes, may_receive_on, endpoints_met}
 
 -- a way is from the one part to the other, by the endpoint, and with this badge, or with any where its badge is 0
 abbrev pub is_way : ℕ → ℕ → ℕ → ℕ → Way → Bool

@@ -9,10 +9,10 @@ use Rattle.setup_format.specs.Views.{SetupView}
 use Rattle.setup_report.specs.Report.{terminated}
 use Rattle.command_core.specs.declared.fault.Verdict.{Verdict}
 use Rattle.command_policy_breaches.specs.declared.joining.Join.{Join}
-use Rattle.command_policy_breaches.specs.declared.policy.Home.{Home}
-use Rattle.command_policy_breaches.specs.declared.policy.Labels.{Labels}
-use Rattle.command_policy_breaches.specs.declared.policy.Layout.{Layout}
-use Rattle.command_policy_breaches.specs.declared.policy.Policy.{Policy}
+use Rattle.command_policy_breaches.specs.declared.held.Home.{Home}
+use Rattle.setup_policy.specs.declared.policy.Labels.{Labels}
+use Rattle.command_policy_breaches.specs.declared.held.Layout.{Layout}
+use Rattle.setup_policy.specs.declared.policy.Policy.{Policy}
 use Rattle.command_policy_text.specs.declared.text.Counts.{Counts}
 use Rattle.command_policy_breaches.specs.declared.ways.Passage.{Passage}
 use Rattle.command_policy_text.specs.Texts.{text, text_and_verdict, verdict_by_count, policy_head_line, last_line, all_lines_text, first_lines, calls_breached, breaches, unused, breach_count, counts}

@@ -4,15 +4,15 @@ use Rattle.std.specs.List.{filter_map}
 use Rattle.query_parts.specs.declared.listed.PartUse.{PartUse}
 use Rattle.command_policy_breaches.specs.declared.breaches.Hold.{Hold}
 use Rattle.command_policy_breaches.specs.declared.joining.Join.{Join}
-use Rattle.command_policy_breaches.specs.declared.policy.Allowance.{Allowance}
-use Rattle.command_policy_breaches.specs.declared.policy.Home.{Home}
-use Rattle.command_policy_breaches.specs.declared.policy.HeldRegion.{HeldRegion}
-use Rattle.command_policy_breaches.specs.declared.policy.Layout.{Layout}
-use Rattle.command_policy_breaches.specs.declared.policy.Member.{Member}
-use Rattle.command_policy_breaches.specs.declared.policy.OwnRegion.{OwnRegion}
-use Rattle.command_policy_breaches.specs.declared.policy.Policy.{Policy}
-use Rattle.command_policy_breaches.specs.declared.policy.PolicyWay.{PolicyWay}
-use Rattle.command_policy_breaches.specs.declared.policy.Waiting.{Waiting}
+use Rattle.setup_policy.specs.declared.policy.Allowance.{Allowance}
+use Rattle.command_policy_breaches.specs.declared.held.Home.{Home}
+use Rattle.command_policy_breaches.specs.declared.held.HeldRegion.{HeldRegion}
+use Rattle.command_policy_breaches.specs.declared.held.Layout.{Layout}
+use Rattle.setup_policy.specs.declared.policy.Member.{Member}
+use Rattle.setup_policy.specs.declared.policy.OwnRegion.{OwnRegion}
+use Rattle.setup_policy.specs.declared.policy.Policy.{Policy}
+use Rattle.setup_policy.specs.declared.policy.PolicyWay.{PolicyWay}
+use Rattle.command_policy_breaches.specs.declared.held.Waiting.{Waiting}
 use Rattle.command_policy_text.specs.declared.told.Told.{Told}
 use Rattle.command_policy_text.specs.declared.told.Told.TheVariants.{Silent, Messages, Group, Joined, Grant, Thread, Region, Use, Badge, Right, Way, Waits, UnusedWay, UnusedUse, IdleInWay, IdleInUse, UnusedRegion, UnusedGroup}
 use Rattle.command_policy_breaches.specs.declared.ways.Passage.{Passage}

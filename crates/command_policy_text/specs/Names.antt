@@ -4,9 +4,9 @@ use Rattle.std.specs.List.{flat_map}
 use Rattle.std.specs.Fmt.{decimal}
 use Rattle.std.specs.declared.string.String.{String}
 use Rattle.command_policy_text.specs.declared.names.Letters.{Letters}
-use Rattle.command_policy_breaches.specs.declared.policy.Label.{Label}
-use Rattle.command_policy_breaches.specs.declared.policy.Layout.{Layout}
-use Rattle.command_policy_breaches.specs.declared.policy.Policy.{Policy}
+use Rattle.setup_policy.specs.declared.policy.Label.{Label}
+use Rattle.command_policy_breaches.specs.declared.held.Layout.{Layout}
+use Rattle.setup_policy.specs.declared.policy.Policy.{Policy}
 use Rattle.command_policy_breaches.specs.Sides.{groups_at}
 
 -- an object by its name, behind a `@`, or by its address

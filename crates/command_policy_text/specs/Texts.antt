@@ -9,10 +9,10 @@ use Rattle.setup_report.specs.Report.{terminated}
 use Rattle.command_core.specs.declared.fault.Verdict.{Verdict}
 use Rattle.command_core.specs.declared.fault.Verdict.TheVariants.{AllMet, NotMet}
 use Rattle.command_policy_breaches.specs.declared.joining.Join.{Join}
-use Rattle.command_policy_breaches.specs.declared.policy.Home.{Home}
-use Rattle.command_policy_breaches.specs.declared.policy.Labels.{Labels}
-use Rattle.command_policy_breaches.specs.declared.policy.Layout.{Layout}
-use Rattle.command_policy_breaches.specs.declared.policy.Policy.{Policy}
+use Rattle.command_policy_breaches.specs.declared.held.Home.{Home}
+use Rattle.setup_policy.specs.declared.policy.Labels.{Labels}
+use Rattle.command_policy_breaches.specs.declared.held.Layout.{Layout}
+use Rattle.setup_policy.specs.declared.policy.Policy.{Policy}
 use Rattle.command_policy_text.specs.declared.text.Counts.{Counts}
 use Rattle.command_policy_text.specs.declared.told.Told.{Told}
 use Rattle.command_policy_breaches.specs.declared.ways.Passage.{Passage}

@@ -11,16 +11,16 @@ use Rattle.command_parts.specs.Text.{any_badge_text as badge_told}
 use Rattle.command_policy_breaches.specs.declared.breaches.Hold.{Hold}
 use Rattle.command_policy_breaches.specs.declared.joining.Join.{Join}
 use Rattle.command_policy_text.specs.declared.names.Letters.{Letters}
-use Rattle.command_policy_breaches.specs.declared.policy.Allowance.{Allowance}
-use Rattle.command_policy_breaches.specs.declared.policy.Home.{Home}
-use Rattle.command_policy_breaches.specs.declared.policy.HeldRegion.{HeldRegion}
-use Rattle.command_policy_breaches.specs.declared.policy.Labels.{Labels}
-use Rattle.command_policy_breaches.specs.declared.policy.Layout.{Layout}
-use Rattle.command_policy_breaches.specs.declared.policy.Member.{Member}
-use Rattle.command_policy_breaches.specs.declared.policy.OwnRegion.{OwnRegion}
-use Rattle.command_policy_breaches.specs.declared.policy.Policy.{Policy}
-use Rattle.command_policy_breaches.specs.declared.policy.PolicyWay.{PolicyWay}
-use Rattle.command_policy_breaches.specs.declared.policy.Waiting.{Waiting}
+use Rattle.setup_policy.specs.declared.policy.Allowance.{Allowance}
+use Rattle.command_policy_breaches.specs.declared.held.Home.{Home}
+use Rattle.command_policy_breaches.specs.declared.held.HeldRegion.{HeldRegion}
+use Rattle.setup_policy.specs.declared.policy.Labels.{Labels}
+use Rattle.command_policy_breaches.specs.declared.held.Layout.{Layout}
+use Rattle.setup_policy.specs.declared.policy.Member.{Member}
+use Rattle.setup_policy.specs.declared.policy.OwnRegion.{OwnRegion}
+use Rattle.setup_policy.specs.declared.policy.Policy.{Policy}
+use Rattle.setup_policy.specs.declared.policy.PolicyWay.{PolicyWay}
+use Rattle.command_policy_breaches.specs.declared.held.Waiting.{Waiting}
 use Rattle.command_policy_text.specs.declared.told.Told.{Told}
 use Rattle.command_policy_text.specs.declared.told.Told.TheVariants.{Silent, Messages, Group, Joined, Grant, Thread, Region, Use, Badge, Right, Way, Waits, UnusedWay, UnusedUse, IdleInWay, IdleInUse, UnusedRegion, UnusedGroup}
 use Rattle.command_policy_breaches.specs.declared.ways.End.{End}
@@ -30,7 +30,8 @@ pub use Rattle.command_policy_text.specs.Names.{actor_name}
 use Rattle.command_policy_text.specs.Names.{joined_names, letters_text, numbers_with_commas, labelled_text, part_label}
 use Rattle.command_policy_text.specs.Order.{in_order}
 use Rattle.command_policy_breaches.specs.Sides.{groups_at}
-use Rattle.command_policy_breaches.specs.Unused.{count_of_parts, is_idle, sender_entry}
+use Rattle.command_policy_breaches.specs.Unused.{count_of_parts, is_idle}
+use Rattle.setup_policy.specs.Entries.{sender_entry}
 
 -- ---- who there is
 

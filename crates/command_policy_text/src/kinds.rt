@@ -4,10 +4,11 @@ ghost use Rattle.command_policy_text.specs.Kinds as spec;
 
 use crate::told::{Held, Told};
 use command_policy_breaches::{
-    Join, Passage, Policy, badges_amiss, count_of_parts, holds, joins_amiss, parts_of_several,
+    Join, Passage, badges_amiss, count_of_parts, holds, joins_amiss, parts_of_several,
     passages_amiss, regions_amiss, rights_amiss, unlisted, unused_regions, unused_uses,
     unused_ways, uses_with_idle_rights, waits_amiss, ways_with_idle_rights,
 };
+use setup_policy::Policy;
 use std::alloc::{AllocError, Global};
 
 /// The threads that are trusted to make no more calls.

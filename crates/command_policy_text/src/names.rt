@@ -3,7 +3,8 @@ ghost use Rattle.std.specs.Prelude.{◌≡◌, ◌++◌, ◌==◌, Some, IfOk, O
 ghost use Rattle.std.specs.List.{flat_map};
 ghost use Rattle.command_policy_text.specs.Names as spec;
 
-use command_policy_breaches::{Label, Layout, Policy, groups_at};
+use command_policy_breaches::{Layout, groups_at};
+use setup_policy::{Label, Policy};
 use std::alloc::{AllocError, Global};
 use std::fmt;
 use std::fmt::Write;

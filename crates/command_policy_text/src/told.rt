@@ -10,11 +10,11 @@ use bitflags::Flags;
 use cap_core::Rights;
 use command_parts::{BadgeText, rising};
 use command_policy_breaches::{
-    Allowance, End, HeldRegion, Hold, Home, Join, Labels, Layout, Member, OwnRegion, Passage,
-    Policy, PolicyWay, Waiting, count_of_parts, groups_at, is_entry, is_idle, lets_ever,
-    sender_entry, strays,
+    End, HeldRegion, Hold, Home, Join, Layout, Passage, Waiting, count_of_parts, groups_at,
+    is_entry, is_idle, lets_ever, strays,
 };
 use query_parts::PartUse;
+use setup_policy::{Allowance, Labels, Member, OwnRegion, Policy, PolicyWay, sender_entry};
 use setup_report::RightsText;
 use std::alloc::{AllocError, Global};
 use std::collections::BTreeSet;

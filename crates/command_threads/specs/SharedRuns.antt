@@ -13,7 +13,7 @@ use Rattle.setup_format.specs.Faults.{Fault}
 use Rattle.setup_format.specs.Setups.{read_of_bytes}
 use Rattle.setup_format.specs.Refusal.{refusal_line}
 use Rattle.setup_report.specs.Naming.{Texts, report_texts}
-use Rattle.setup_threads.specs.SharedReport.{shared_report_told}
+use Rattle.setup_read.specs.SharedReport.{shared_report_told}
 use Rattle.command_check.specs.Notes.{noted, unmet_at}
 use Rattle.command_check.specs.Program.{verdict_on}
 use Rattle.command_core.specs.Devices.{Gave, Took}
@@ -22,7 +22,7 @@ use Rattle.command_core.specs.declared.fault.Verdict.{Verdict}
 use Rattle.command_core.specs.declared.fault.Verdict.TheVariants.{Refused}
 use Rattle.command_core.specs.declared.sink.Sink.{Ghosts as SinkGhosts}
 use Rattle.command_core.specs.declared.source.Source.{Ghosts as SourceGhosts}
-use Rattle.command_explore_text.specs.Numbers.{call_number_at, client_numbers_of, expectation_of}
+use Rattle.command_explore.specs.Numbers.{call_number_at, client_numbers_of, expectation_of}
 
 -- the calls of a client in a set-up, in order
 abbrev pub client_calls : ℕ → List CallView → List Call

@@ -25,8 +25,8 @@ use command_core::{
 use ipc_core::{LinkedWaiters, MakeWaiters};
 use kernel_shared::{Gate, Naming};
 use setup_format::{ReadSetup, SetupFault, read};
+use setup_read::history_report;
 use setup_report::Naming as ObjectNaming;
-use setup_threads::history_report;
 use slot_core::{DerivationStore, LinkedStore, MakeStore};
 use std::alloc::Global;
 use std::marker::Brand;

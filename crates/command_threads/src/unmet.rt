@@ -5,7 +5,7 @@ ghost use Rattle.command_threads.specs.SharedRuns.{unmet_in};
 
 use command_check::add_unmet;
 use command_core::CallNote;
-use command_explore_text::{expected_of, number_at, numbers_of_clients};
+use command_explore::{expected_of, number_at, numbers_of_clients};
 use kernel_shared::Entry;
 use setup_format::Setup;
 use std::alloc::{AllocError, Global};

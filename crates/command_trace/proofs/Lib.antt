@@ -1,3 +1,14 @@
-pub mod Steps
+pub mod TextSteps
 pub mod Replays
 pub mod Refused
+pub mod Differences
+pub mod Listed
+pub mod Views
+pub mod Alike
+pub mod Ends
+pub mod Kept
+pub mod Steps
+pub mod Put
+pub mod Added
+pub mod Derives
+pub mod Walks

@@ -12,7 +12,7 @@ use Rattle.kernel_abstract.specs.Step.{refusal_in}
 use Rattle.kernel_abstract.specs.Reasons.{refusal_of}
 use Rattle.kernel_checks.proofs.Calls.{reason_is}
 use Rattle.setup_report.specs.Naming.{Texts}
-use Rattle.command_why_words.specs.Reasons.{reason_lines}
+use Rattle.command_why.specs.Reasons.{reason_lines}
 use Rattle.command_why.specs.Tables.{call_table}
 use Rattle.command_why.specs.Why.{is_refused}
 use Rattle.command_trace.specs.Trace.{why_at}

@@ -9,7 +9,7 @@ use Rattle.kernel_abstract.specs.Step.{step}
 use Rattle.setup_format.specs.Views.{CallView}
 use Rattle.setup_report.specs.Naming.{Texts}
 use Rattle.setup_report.specs.Report.{terminated, call_text}
-use Rattle.command_trace_lines.specs.Told.{told_lines, told_changes}
+use Rattle.command_trace.specs.Told.{told_lines, told_changes}
 use Rattle.command_trace.specs.Trace.{words_line, why_text, why_at}
 
 -- the report's line of each call

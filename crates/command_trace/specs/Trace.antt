@@ -16,8 +16,8 @@ use Rattle.setup_format.specs.Views.{SetupView, CallView}
 use Rattle.setup_report.specs.Naming.{Texts}
 pub use Rattle.setup_report.specs.Report.{count_line}
 use Rattle.setup_report.specs.Report.{terminated, call_text, met_count, expectation_count}
-use Rattle.command_trace_lines.specs.Names.{name_lines}
-use Rattle.command_trace_lines.specs.Told.{ToldLines, told_lines, nothing_told, told_changes}
+use Rattle.command_trace.specs.Names.{name_lines}
+use Rattle.command_trace.specs.Told.{ToldLines, told_lines, nothing_told, told_changes}
 use Rattle.command_why.specs.Tables.{call_table}
 pub use Rattle.command_check.specs.Program.{replies_to}
 use Rattle.command_check.specs.Program.{texts_after}

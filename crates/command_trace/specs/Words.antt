@@ -4,7 +4,7 @@ use Rattle.std.specs.Fmt.{decimal}
 use Rattle.cap_core.specs.declared.message.Message.{Message}
 use Rattle.kernel_abstract.specs.declared.call.Op.{Op}
 use Rattle.setup_report.specs.Text.{message_text}
-use Rattle.command_why_words.specs.Keys.{KeyWords, key_words, sent_message}
+use Rattle.command_why.specs.Keys.{KeyWords, key_words, sent_message}
 
 -- each key with its word, both after a space
 abbrev pub keys_text : KeyWords → List ℕ

@@ -45,8 +45,8 @@ impl Command for Trace {
     fn answer<P: Profile, S: MakeStore<P> + DerivationStore<P>, W: MakeWaiters<P>>(
         &self,
         alloc: Global,
-        read: ReadSetup,
+        read: &ReadSetup,
     ) -> Result<Answer, AllocError> {
-        trace_setup::<P, S, W>(alloc, self.names, &read)
+        trace_setup::<P, S, W>(alloc, self.names, read)
     }
 }

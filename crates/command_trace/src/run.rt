@@ -10,10 +10,10 @@ ghost use Rattle.command_trace.specs.Trace as spec;
 
 use crate::calls::add_calls;
 use crate::head::add_head;
+use crate::lines::{add_names, tell};
 use cap_core::Profile;
 use command_check::unmet_calls;
 use command_core::CallNote;
-use command_trace_lines::{add_names, tell};
 use ipc_core::MakeWaiters;
 use kernel_core::Kernel;
 use setup_format::Setup;

@@ -1,10 +1,10 @@
 //! The words of a call.
 ghost use Rattle.std.specs.Prelude.{Some, map};
-ghost use Rattle.command_why_words.specs.Keys.{key_word};
+ghost use Rattle.command_why.specs.Keys.{key_word};
 ghost use Rattle.command_trace.specs.Words as spec;
 
 use cap_core::Message;
-use command_why_words::{KeyWord, key_words, sent};
+use command_why::{KeyWord, key_words, sent};
 use kernel_core::Op;
 use setup_report::MessageText;
 use std::fmt;

@@ -10,10 +10,10 @@ use Rattle.std.proofs.lemmas.Bool.{ne_eqb}
 use Rattle.std.proofs.lemmas.Slice.Eq.{bytes_eq-Decides}
 use lib.Pointwise.{pointwise}
 use Rattle.setup_report.specs.State.{rising}
-use Rattle.command_trace_lines.specs.Lines.{Lines}
-use Rattle.command_trace_lines.specs.Changes.{text_at, removed_line, added, change, change_at, line_addresses, line_changes}
+use Rattle.command_trace.specs.Lines.{Lines}
+use Rattle.command_trace.specs.Changes.{text_at, removed_line, added, change, change_at, line_addresses, line_changes}
 use Rattle.command_trace_laws.specs.Laws.{Difference, difference_at, is_difference, differences, difference_text, lines_without, with_line, apply, applied, Rise}
-use Rattle.command_trace_lines.proofs.Differences.{Below, below_both, below_rising, below_trans, least_left, least_right, least_twice, equal_self, greater_than, reversed, different, found_here, found_past, not_found}
+use Rattle.command_trace.proofs.Differences.{Below, below_both, below_rising, below_trans, least_left, least_right, least_twice, equal_self, greater_than, reversed, different, found_here, found_past, not_found}
 
 -- ---- their text is what is told
 

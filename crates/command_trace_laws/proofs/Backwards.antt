@@ -14,10 +14,10 @@ use Rattle.kernel_abstract.specs.Step.{step, state_after}
 use Rattle.setup_report.specs.State.{is_in, rising}
 use Rattle.setup_report.specs.Naming.{Texts}
 use Rattle.setup_report.proofs.Addresses.Rising.{rising_same}
-use Rattle.command_trace_lines.specs.Lines.{Lines}
-use Rattle.command_trace_lines.specs.Changes.{StateLines, line_addresses, text_at, lines_of_state, no_lines}
+use Rattle.command_trace.specs.Lines.{Lines}
+use Rattle.command_trace.specs.Changes.{StateLines, line_addresses, text_at, lines_of_state, no_lines}
 use Rattle.command_trace_laws.specs.Laws.{Difference, StateDifferences, difference_at, is_same_line, is_difference, differences, applied, Rise, state_differences, state_applied, call_differences, boot_differences, run_differences, replayed, flipped, state_flipped, backwards}
-use Rattle.command_trace_lines.specs.Calls.{lines_in}
+use Rattle.command_trace.specs.Calls.{lines_in}
 use Rattle.command_trace_laws.proofs.Applied.{all_applied}
 use Rattle.command_trace_laws.proofs.Replays.{AllRise, lines_rise, none_rise, rising_applied}
 

@@ -11,8 +11,8 @@ use Rattle.setup_report.specs.Text.{cap_text}
 use Rattle.setup_report_laws.specs.Laws.{Stops, is_digit}
 use Rattle.setup_report_laws.proofs.Parts.{numbers_apart}
 use Rattle.setup_report_laws.proofs.Capabilities.{capabilities_apart}
-use Rattle.command_trace_lines.specs.Lines.{parent_text, traced_slot_text}
-use Rattle.command_trace_lines.specs.Siblings.{sibling_text}
+use Rattle.command_trace.specs.Lines.{parent_text, traced_slot_text}
+use Rattle.command_trace.specs.Siblings.{sibling_text}
 
 -- what is told of a full slot: its address, its capability, and whether it is original
 abbrev pub ToldSlot : Type 0

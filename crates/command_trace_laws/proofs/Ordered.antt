@@ -12,9 +12,9 @@ use Rattle.kernel_forest.proofs.Slots.Distinct.{once_at}
 use Rattle.kernel_abstract.specs.Reached.{IsReached}
 use Rattle.kernel_abstract.specs.State.{State, shown}
 use Rattle.kernel_abstract.proofs.Reached.Simulation.{reached_is}
-use Rattle.command_trace_lines.specs.Siblings.{Sibling, siblings, in_front}
+use Rattle.command_trace.specs.Siblings.{Sibling, siblings, in_front}
 use Rattle.command_trace_laws.specs.Laws.{in_a_row, TellsTheOrder}
-use Rattle.command_trace_lines.proofs.Walks.Walked.{slots_are}
+use Rattle.command_trace.proofs.Walks.Walked.{slots_are}
 
 -- ---- in front of each stands what the list has there
 

@@ -9,14 +9,14 @@ use Rattle.kernel_abstract.specs.Plan.{Plan}
 use Rattle.kernel_abstract.specs.State.{State, shown}
 use Rattle.kernel_abstract.specs.Step.{step, state_after}
 use Rattle.setup_report.specs.Naming.{Texts}
-use Rattle.command_trace_lines.specs.Lines.{Lines}
-use Rattle.command_trace_lines.specs.Siblings.{siblings, sibling_at, sibling_lines}
-use Rattle.command_trace_lines.specs.Told.{told_lines}
+use Rattle.command_trace.specs.Lines.{Lines}
+use Rattle.command_trace.specs.Siblings.{siblings, sibling_at, sibling_lines}
+use Rattle.command_trace.specs.Told.{told_lines}
 use Rattle.command_trace_laws.specs.Laws.{Difference, Rise, apply, applied, differences, flipped, order_in, run_order, order_differences, all_changes}
 use Rattle.command_trace_laws.proofs.Applied.{all_applied}
 use Rattle.command_trace_laws.proofs.Backwards.{lead_back}
 use Rattle.command_trace_laws.proofs.Replays.{none_rise}
-use Rattle.command_trace_lines.proofs.Views.{rises_at, nothing_differs}
+use Rattle.command_trace.proofs.Views.{rises_at, nothing_differs}
 
 pub order_rises : (texts : Texts) (f : Forest Entry) → Rise (sibling_lines texts f)
 order_rises texts f = rises_at (sibling_at texts (siblings None f)) (slots f) _ refl

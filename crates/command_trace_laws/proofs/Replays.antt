@@ -13,14 +13,14 @@ use Rattle.kernel_abstract.specs.Step.{step, state_after}
 use Rattle.setup_report.specs.declared.live.NamedObject.{NamedObject}
 use Rattle.setup_report.specs.State.{slot_of, named, holding_themselves}
 use Rattle.setup_report.specs.Naming.{Texts}
-use Rattle.command_trace_lines.specs.Lines.{thread_text_at, inbox_line_at, endpoint_text_at, slot_at, selfheld_at}
-use Rattle.command_trace_lines.specs.Changes.{StateLines, lines_of_state, no_lines, changes}
+use Rattle.command_trace.specs.Lines.{thread_text_at, inbox_line_at, endpoint_text_at, slot_at, selfheld_at}
+use Rattle.command_trace.specs.Changes.{StateLines, lines_of_state, no_lines, changes}
 use Rattle.command_trace_laws.specs.Laws.{Rise, state_differences, state_told, state_applied, boot_differences, run_differences, replayed}
-use Rattle.command_trace_lines.specs.Calls.{lines_in, call_changes}
-use Rattle.command_trace_lines.specs.Views.{FollowsReply}
+use Rattle.command_trace.specs.Calls.{lines_in, call_changes}
+use Rattle.command_trace.specs.Views.{FollowsReply}
 use Rattle.command_trace_laws.proofs.Applied.{all_told, all_applied}
-use Rattle.command_trace_lines.proofs.Views.{rises_at, nothing_changes}
-use Rattle.command_trace_lines.proofs.Steps.{step_follows}
+use Rattle.command_trace.proofs.Views.{rises_at, nothing_changes}
+use Rattle.command_trace.proofs.Steps.{step_follows}
 
 -- ---- states
 

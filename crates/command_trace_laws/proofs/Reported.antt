@@ -21,11 +21,11 @@ use Rattle.setup_report.specs.Naming.{Texts}
 use Rattle.setup_report.specs.Report.{thread_line, thread_line_with, endpoint_line, slot_line, slot_text as report_slot_text, terminated, selfheld_line}
 use Rattle.setup_report.proofs.Addresses.Rising.{all_rising}
 use Rattle.setup_report.proofs.Addresses.Slots.{slots_are}
-use Rattle.command_trace_lines.specs.Lines.{traced_slot_text, slot_at, traced_slot_lines, address_line, line_at, thread_text_at, traced_thread_text, endpoint_text_at, selfheld_at}
-use Rattle.command_trace_lines.specs.Changes.{line_addresses}
+use Rattle.command_trace.specs.Lines.{traced_slot_text, slot_at, traced_slot_lines, address_line, line_at, thread_text_at, traced_thread_text, endpoint_text_at, selfheld_at}
+use Rattle.command_trace.specs.Changes.{line_addresses}
 use Rattle.command_trace_laws.specs.Laws.{lines_text, TellsTheThreads, TellsTheEndpoints, TellsTheSlots, TellsTheSlotLines, TellsTheCapabilities, TellsTheSelfheld, slot_line_of, report_slot_line, held_slot_line}
 use Rattle.command_trace_laws.proofs.Children.{child_is_under, held_there}
-use Rattle.command_trace_lines.proofs.Listed.{found_is}
+use Rattle.command_trace.proofs.Listed.{found_is}
 
 -- ---- the entries of the derivations are those of the forest
 

@@ -24,12 +24,12 @@ use Rattle.kernel_abstract.proofs.Reached.Simulation.{reached_is}
 use Rattle.setup_report.specs.State.{Derived, slot_of, found, is_in}
 use Rattle.setup_report.proofs.Addresses.Slots.{slots_are}
 use Rattle.setup_report.specs.Naming.{plain as by_address}
-use Rattle.command_trace_lines.specs.Lines.{Lines, slot_at, traced_slot_text, traced_slot_lines}
-use Rattle.command_trace_lines.specs.Siblings.{Sibling, siblings, in_front, sibling_at, sibling_text, sibling_lines}
-use Rattle.command_trace_lines.specs.Changes.{StateLines, text_at, no_lines}
-use Rattle.command_trace_lines.specs.Calls.{lines_in}
-use Rattle.command_trace_lines.proofs.Listed.{found_is}
-use Rattle.command_trace_lines.proofs.Walks.Walked.{slots_are as siblings_slots_are}
+use Rattle.command_trace.specs.Lines.{Lines, slot_at, traced_slot_text, traced_slot_lines}
+use Rattle.command_trace.specs.Siblings.{Sibling, siblings, in_front, sibling_at, sibling_text, sibling_lines}
+use Rattle.command_trace.specs.Changes.{StateLines, text_at, no_lines}
+use Rattle.command_trace.specs.Calls.{lines_in}
+use Rattle.command_trace.proofs.Listed.{found_is}
+use Rattle.command_trace.proofs.Walks.Walked.{slots_are as siblings_slots_are}
 use Rattle.setup_report_laws.specs.Laws.{IsWithinWords}
 use Rattle.setup_report_laws.proofs.Measured.{reached_words}
 use Rattle.setup_report_laws.proofs.Renamed.{same_renamed, renamed_as_it_is}

@@ -4,8 +4,8 @@ use Rattle.std.specs.List.{AllByRecursion as Each, find, flat_map}
 use Rattle.std.proofs.lemmas.Bool.Decides.{eqb_tells}
 use Rattle.setup_report.specs.State.{is_in, rising}
 use Rattle.setup_report.proofs.Addresses.Rising.{any_rising}
-use Rattle.command_trace_lines.specs.Lines.{Lines, address_line, line_at, lines_at}
-use Rattle.command_trace_lines.specs.Changes.{text_at}
+use Rattle.command_trace.specs.Lines.{Lines, address_line, line_at, lines_at}
+use Rattle.command_trace.specs.Changes.{text_at}
 
 other_way : (a b : ℕ) → (a == b) ≡ (b == a)
 other_way a b =

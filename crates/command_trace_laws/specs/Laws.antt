@@ -19,11 +19,11 @@ use Rattle.setup_report.specs.State.{Derived, found, rising}
 use Rattle.setup_report.specs.Naming.{Texts}
 use Rattle.setup_report.specs.Report.{terminated, thread_line}
 use Rattle.setup_report.specs.Report as report
-use Rattle.command_trace_lines.specs.Lines.{Lines, traced_thread_lines, traced_endpoint_lines, traced_slot_lines, traced_selfheld_lines}
-use Rattle.command_trace_lines.specs.Siblings.{Sibling, siblings, in_front, sibling_lines}
-use Rattle.command_trace_lines.specs.Changes.{StateLines, no_lines, line_addresses, text_at, removed_line, added}
-use Rattle.command_trace_lines.specs.Told.{told_lines, told_changes}
-use Rattle.command_trace_lines.specs.Calls.{lines_in, lines_after}
+use Rattle.command_trace.specs.Lines.{Lines, traced_thread_lines, traced_endpoint_lines, traced_slot_lines, traced_selfheld_lines}
+use Rattle.command_trace.specs.Siblings.{Sibling, siblings, in_front, sibling_lines}
+use Rattle.command_trace.specs.Changes.{StateLines, no_lines, line_addresses, text_at, removed_line, added}
+use Rattle.command_trace.specs.Told.{told_lines, told_changes}
+use Rattle.command_trace.specs.Calls.{lines_in, lines_after}
 
 -- ---- how lines differ
 

@@ -14,11 +14,11 @@ ghost use Rattle.kernel_abstract.specs.Step.{state_after, step};
 ghost use Rattle.kernel_forest.specs.Forest.{Forest, children, tops};
 ghost use Rattle.kernel_forest.specs.Entries.{Entry, is_at, slot_of};
 ghost use Rattle.setup_report.specs.Naming.{Texts, plain};
-ghost use Rattle.command_trace_lines.specs.Lines.{Lines};
-ghost use Rattle.command_trace_lines.specs.Siblings.{sibling_lines};
-ghost use Rattle.command_trace_lines.specs.Changes.{StateLines, changes, line_changes, no_lines, lines_of_state};
+ghost use Rattle.command_trace.specs.Lines.{Lines};
+ghost use Rattle.command_trace.specs.Siblings.{sibling_lines};
+ghost use Rattle.command_trace.specs.Changes.{StateLines, changes, line_changes, no_lines, lines_of_state};
 ghost use Rattle.command_trace_laws.specs.Laws.{Rise, all_changes, applied, backwards, boot_differences, differences, flipped, of_slots, order_differences, order_in, replayed, run_differences, state_applied, state_differences, state_flipped, state_told, difference_text, TellsTheOrder, TellsTheThreads, TellsTheEndpoints, TellsTheSlots, TellsTheSlotLines, TellsTheCapabilities, TellsTheSelfheld};
-ghost use Rattle.command_trace_lines.specs.Calls.{call_changes, lines_in};
+ghost use Rattle.command_trace.specs.Calls.{call_changes, lines_in};
 
 /// The changes that are told of lines, applied to the old ones, give the new ones; and so with all lines of two states.
 /// The changes of boot and of any calls behind it, applied one after another to nothing, give the lines of the state

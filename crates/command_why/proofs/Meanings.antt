@@ -32,10 +32,10 @@ use Rattle.setup_format.specs.Setups.{call_at, laid_out, limit_of, names_of, pla
 use Rattle.setup_format.specs.Tables.{at_key, given_or, known_only, needed, optional, required}
 use Rattle.setup_format.specs.Views.{CallView, ReadView, SetupView}
 use Rattle.setup_format.proofs.Grammar.Parts.{parts}
-use Rattle.command_why_words.specs.Names.{name_in, spelt_name}
-use Rattle.command_why_words.specs.Keys.{KeyWords, key_words, transfer_words, slot_key_words}
+use Rattle.command_why.specs.Names.{name_in, spelt_name}
+use Rattle.command_why.specs.Keys.{KeyWords, key_words, transfer_words, slot_key_words}
 use Rattle.command_why.specs.Tables.{call_table, table_of_call}
-use Rattle.command_why.specs.Laws.{MeansWord, MeanTheirWords, said_words}
+use Rattle.command_why.specs.Meanings.{MeansWord, MeanTheirWords, said_words}
 
 -- ---- what was read, piece by piece
 

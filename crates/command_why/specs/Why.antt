@@ -15,9 +15,9 @@ use Rattle.setup_report.specs.Naming.{Texts}
 use Rattle.setup_report.specs.Report.{terminated, call_text, met_count, expectation_count, count_line}
 pub use Rattle.command_check.specs.Program.{replies_to}
 use Rattle.kernel_abstract.specs.Decode.{reason_of}
-use Rattle.command_why_words.specs.Text.{reason_line}
-use Rattle.command_why_words.specs.Asked.{AskedView}
-use Rattle.command_why_words.specs.Reasons.{reason_lines}
+use Rattle.command_why.specs.Text.{reason_line}
+use Rattle.command_why.specs.Asked.{AskedView}
+use Rattle.command_why.specs.Reasons.{reason_lines}
 use Rattle.command_why.specs.Tables.{call_table}
 
 -- the lines of the reason for which a call is refused, in what is shown before it; None where it is not refused

@@ -7,14 +7,14 @@ ghost use Rattle.kernel_abstract.specs.Step.{replies_of};
 ghost use Rattle.setup_format.specs.Views.{CallView};
 ghost use Rattle.setup_report.specs.Naming.{naming_view};
 ghost use Rattle.setup_report.specs.Report.{call_text};
-ghost use Rattle.command_why_words.specs.Asked.{asked_texts};
+ghost use Rattle.command_why.specs.Asked.{asked_texts};
 ghost use Rattle.command_why.specs.Tables.{call_table as call_table_of};
 ghost use Rattle.command_why.specs.Why as spec;
 
 use crate::explaining::explain;
+use crate::reasons::Asked;
 use crate::tables::call_table;
 use cap_core::Profile;
-use command_why_words::Asked;
 use ipc_core::Waiters;
 use kernel_core::{Kernel, Reply};
 use setup_format::Setup;

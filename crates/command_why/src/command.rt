@@ -57,7 +57,7 @@ impl Command for Why {
     fn answer<P: Profile, S: MakeStore<P> + DerivationStore<P>, W: MakeWaiters<P>>(
         &self,
         alloc: Global,
-        read: ReadSetup,
+        read: &ReadSetup,
     ) -> Result<Answer, AllocError> {
         let calls = read.setup.calls().len();
         if is_absent(self.call, calls) {
@@ -65,6 +65,6 @@ impl Command for Why {
             let absent = format!(in alloc; "--call {asked}: the set-up has {calls} calls")?;
             return Ok(Answer::absent(alloc, absent));
         }
-        explain_setup::<P, S, W>(alloc, self.names, self.call, &read)
+        explain_setup::<P, S, W>(alloc, self.names, self.call, read)
     }
 }

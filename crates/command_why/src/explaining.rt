@@ -1,12 +1,12 @@
 //! The lines of a reason.
 ghost use Rattle.std.specs.Prelude.{◌≡◌, ◌++◌, IfOk, OnOk, option_map, string_bytes};
-ghost use Rattle.command_why_words.specs.Asked.{asked_texts, asked_view};
-ghost use Rattle.command_why_words.specs.Reasons.{reason_lines};
+ghost use Rattle.command_why.specs.Asked.{asked_texts, asked_view};
+ghost use Rattle.command_why.specs.Reasons.{reason_lines};
 ghost use Rattle.command_why.specs.Why.{reason_lines_of};
 
+use crate::reasons::{Asked, add_capability, add_no_depth, add_not_found, add_not_ready};
 use crate::threads::add_no_thread;
 use cap_core::Profile;
-use command_why_words::{Asked, add_capability, add_no_depth, add_not_found, add_not_ready};
 use ipc_core::Waiters;
 use kernel_core::{Kernel, Reason};
 use slot_core::DerivationStore;

@@ -4,7 +4,7 @@ ghost use Rattle.toml.specs.Data.{Members};
 ghost use Rattle.setup_format.specs.Setups.{read_of};
 ghost use Rattle.setup_format.specs.Views.{CallView, ReadView};
 ghost use Rattle.command_why.specs.Tables.{call_table};
-ghost use Rattle.command_why.specs.Laws.{MeanTheirWords};
+ghost use Rattle.command_why.specs.Meanings.{MeanTheirWords};
 
 /// Of a set-up that is read, each name that the text has beside a value of a call is one of the set-up's names, and stands
 /// for that value: so of the thread, and of each key.

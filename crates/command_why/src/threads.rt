@@ -2,11 +2,11 @@
 ghost use Rattle.std.specs.Prelude.{◌≡◌, ◌++◌, IfOk, OnOk, string_bytes};
 ghost use Rattle.setup_report.specs.Naming.{naming_view};
 ghost use Rattle.setup_report.specs.State.{threads};
-ghost use Rattle.command_why_words.specs.Asked.{asked_texts, asked_view};
-ghost use Rattle.command_why_words.specs.Reasons as spec;
+ghost use Rattle.command_why.specs.Asked.{asked_texts, asked_view};
+ghost use Rattle.command_why.specs.Reasons as spec;
 
+use crate::reasons::{Asked, add_address, add_live};
 use cap_core::Profile;
-use command_why_words::{Asked, add_address, add_live};
 use ipc_core::Waiters;
 use kernel_core::Kernel;
 use setup_report::{Naming, state_rows};

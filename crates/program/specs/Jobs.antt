@@ -14,7 +14,7 @@ use Rattle.command_policy.specs.Policies.{IsPolicyOf}
 use Rattle.command_policy_draft.specs.Drafts.{IsDraft}
 use Rattle.command_policy_how.specs.Told.{IsBreachHow}
 use Rattle.command_import.specs.Import.{IsImported}
-use Rattle.command_never.specs.Never.{Asked, IsNever}
+use Rattle.command_never.specs.Question.{Asked, IsNever}
 use Rattle.command_explore.specs.Explorations.{IsExploration, IsGroupsExploration}
 use Rattle.command_how_witness.specs.declared.asked.Happening.{Happening}
 use Rattle.command_how_witness.specs.declared.asked.Happening.TheVariants.{Message, Hold, Loss}

@@ -5,8 +5,8 @@ use Rattle.command_line.specs.CommandLine.{Says}
 use Rattle.command_core.specs.declared.fault.Verdict.{Verdict}
 use Rattle.command_check.specs.Commands.{IsAnswerTo}
 use Rattle.command_explore.specs.Witnessed.{IsExploreWitness}
-use Rattle.command_explore_text.specs.declared.witness.Witness.{Witness}
-use Rattle.command_explore_text.specs.declared.witness.Witness.TheVariants.{Answer, Stuck}
+use Rattle.command_explore.specs.declared.report.witness.Witness.{Witness}
+use Rattle.command_explore.specs.declared.report.witness.Witness.TheVariants.{Answer, Stuck}
 use Rattle.program.specs.Texts.{before_mark, behind_mark}
 
 -- the texts before and behind the first dot (46)

@@ -88,33 +88,6 @@ fn run_new<'a, S, F, E, K: Sink>(alloc: Global, line: Line<'a>, sink: &mut K) ->
     }
 }
 
-/// Does the job of a line that reads a set-up.
-fn run_setup<'a, R: Threads + Wait + Sync, I: Inputs, K: Sink>(
-    rt: &R,
-    alloc: Global,
-    inputs: &I,
-    line: Line<'a>,
-    policy: &[u8],
-    sink: &mut K,
-) -> Done<'a, I::Standard, I::File, I::Fault>
-    requires sink { K.failed sink.old ≡ false }
-    ensures line { result.line ≡ line.entry }
-    ensures done { IsDone (I.is_standard inputs.now) (I.is_file inputs.now) (I.is_fault inputs.now)
-        I.Standard.Source I.File.Source K.Sink
-        line.entry.job line.entry.options (named_input (option_map (λ s. s.now) line.entry.file)) result.input result.answer sink.old sink.new }
-{
-    match line.file {
-        None => run_standard(rt, alloc, inputs, line, policy, sink),
-        Some(name) => {
-            if name == "-" {
-                run_standard(rt, alloc, inputs, line, policy, sink)
-            } else {
-                run_file(rt, alloc, inputs, line, policy, name, sink)
-            }
-        }
-    }
-}
-
 /// Does what a line asks for.
 fn run_line<'a, R: Threads + Wait + Sync, I: Inputs, K: Sink>(
     rt: &R,
@@ -132,7 +105,10 @@ fn run_line<'a, R: Threads + Wait + Sync, I: Inputs, K: Sink>(
 {
     match line.job {
         Job::New => run_new(alloc, line, sink),
-        _ => run_setup(rt, alloc, inputs, line, policy, sink),
+        _ => match line.file {
+            Some(name) if name != "-" => run_file(rt, alloc, inputs, line, policy, name, sink),
+            _ => run_standard(rt, alloc, inputs, line, policy, sink),
+        },
     }
 }
 

@@ -2,7 +2,7 @@
 ghost use Rattle.program.specs.WitnessWords.{NamesWitness, Numbers};
 
 use crate::marks::{around, number_said};
-use command_explore_text::Witness;
+use command_explore::Witness;
 
 /// The number that a text says; 0, the number of none, where it says none.
 fn number_in(text: &str) -> usize

@@ -5,16 +5,15 @@ ghost use Rattle.command_check.specs.Commands.{IsAnswerTo, IsStateAnswer};
 ghost use Rattle.program.specs.Jobs.{IsAudit, IsAuditByHow, IsAuditNow, IsAuditOfEver, IsAuditOfParts, IsAuditOfState, IsCheck, IsExplorationBy, IsHeld, IsOrdersAnswer, by_of, form_of as form_of_options, happening_in, how_of, messages_of, question_of, trust_of, without_of};
 ghost use Rattle.program.specs.NewWords.{IsNewOf};
 ghost use Rattle.program.specs.WitnessWords.{IsNamedWitness};
-ghost use Rattle.command_never.specs.Never.{IsNever};
+ghost use Rattle.command_never.specs.Question.{IsNever};
 ghost use Rattle.command_how.specs.How.{IsHow};
-ghost use Rattle.command_audit.specs.Audits.{IsStateAudited};
 
 use crate::commas::words_in;
 use crate::marks::around;
 use crate::new_setup::asked_by;
 use crate::witness::witness_named;
 use command_audit::{SlotAudit, StateAudit};
-use command_check::{Command, Migrator, OnSetup};
+use command_check::{Command, Migrator, OnSetup, OnState, StateCommand};
 use command_core::{Answer, Engine, RunFault};
 use command_explore::{Explore, ExploreGroups, ExploreOptions, WriteWitness};
 use command_files::{FileCheck, NamedCheck};
@@ -31,7 +30,7 @@ use command_policy_how::BreachHow;
 use command_trace::Trace;
 use command_tree::{Form, Tree};
 use command_why::Why;
-use std::alloc::Global;
+use std::alloc::{AllocError, Global};
 
 /// How many states are kept at the most, where no number is given.
 const MOST_STATES: u64 = 100_000;
@@ -44,95 +43,84 @@ fn on_setup<C: Command + Drop>(alloc: Global, command: C, input: &[u8]) -> Resul
     OnSetup { command }.make(alloc, input)
 }
 
+/// What a command makes of an input by the state after the first `after` calls, or after all.
+fn on_state<C: StateCommand + Drop>(
+    alloc: Global,
+    command: C,
+    after: Option<u64>,
+    input: &[u8],
+) -> Result<Answer, RunFault>
+    ensures made { IfOk result (λ made. IsAnswerTo (IsStateAnswer (C.answers command) after) input.now made.text.items made.verdict) }
+    ensures memory { IfErr result (λ fault. fault ≡ RunFault.Memory) }
+{
+    on_setup(alloc, OnState { command, after }, input)
+}
+
+/// The words of the options that name objects.
+#[derive(Drop)]
+struct Words<'a> {
+    without: Vec<&'a str>,
+    messages: Vec<&'a str>,
+    by: Vec<&'a str>,
+}
+
+impl<'a> Words<'a> {
+    fn of(alloc: Global, options: Options<'a>) -> Result<Words<'a>, AllocError>
+        ensures without { IfOk result (λ words. map (λ w. w.now) words.without.items ≡ without_of options.entry) }
+        ensures messages { IfOk result (λ words. map (λ w. w.now) words.messages.items ≡ messages_of options.entry) }
+        ensures by { IfOk result (λ words. map (λ w. w.now) words.by.items ≡ by_of options.entry) }
+    {
+        Ok(Words {
+            without: words_in(alloc, options.without)?,
+            messages: words_in(alloc, options.messages)?,
+            by: words_in(alloc, options.by)?,
+        })
+    }
+
+    /// The words for the threads that are trusted.
+    fn trust(&self) -> Trust<'_>
+        ensures without { result.without.now ≡ self.now.without.items }
+        ensures messages { result.messages.now ≡ self.now.messages.items }
+    {
+        Trust {
+            without: self.without.as_slice(),
+            messages: self.messages.as_slice(),
+        }
+    }
+}
+
 /// What threads can never get, or, with `--draft`, a policy that the layout keeps, where the threads of `--without` and of
 /// `--messages` are trusted.
 fn make_ever(alloc: Global, options: Options<'_>, input: &[u8]) -> Result<Answer, RunFault>
     ensures made { IfOk result (λ made. IsAuditOfEver options.entry input.now made.text.items made.verdict) }
     ensures memory { IfErr result (λ fault. fault ≡ RunFault.Memory) }
 {
-    let Ok(without) = words_in(alloc, options.without) else {
+    let Ok(words) = Words::of(alloc, options) else {
         return Err(RunFault::Memory);
     };
-    let Ok(messages) = words_in(alloc, options.messages) else {
-        return Err(RunFault::Memory);
-    };
-    make_ever_trusting(
-        alloc,
-        options,
-        without.as_slice(),
-        messages.as_slice(),
-        input,
-    )
-}
-
-/// The same, by the words.
-fn make_ever_trusting(
-    alloc: Global,
-    options: Options<'_>,
-    without: &[&str],
-    messages: &[&str],
-    input: &[u8],
-) -> Result<Answer, RunFault>
-    requires without { map (λ w. w.now) without.now ≡ without_of options }
-    requires messages { map (λ w. w.now) messages.now ≡ messages_of options }
-    ensures made { IfOk result (λ made. IsAuditOfEver options.entry input.now made.text.items made.verdict) }
-    ensures memory { IfErr result (λ fault. fault ≡ RunFault.Memory) }
-{
-    let trust = Trust { without, messages };
+    let trust = words.trust();
     let Options { names, after, .. } = options;
     if options.draft {
-        on_setup(alloc, Draft { trust, after }, input)
+        on_state(alloc, Draft { trust, after }, after, input)
     } else {
-        let ever = Ever {
-            trust,
-            names,
-            after,
-        };
-        on_setup(alloc, ever, input)
+        on_state(alloc, Ever { trust, names }, after, input)
     }
 }
 
-/// The audit of a state without the threads of `--without`.
-fn make_others_audit(
-    alloc: Global,
-    options: Options<'_>,
-    without: &[&str],
-    input: &[u8],
-) -> Result<Answer, RunFault>
-    requires { map (λ w. w.now) without.now ≡ without_of options }
-    ensures made { IfOk result (λ made. IsAnswerTo (IsStateAnswer (IsStateAudited (without_of options.entry) options.entry.names) options.entry.after) input.now made.text.items made.verdict) }
-    ensures memory { IfErr result (λ fault. fault ≡ RunFault.Memory) }
-{
-    let Options { names, after, .. } = options;
-    let audit = StateAudit {
-        without,
-        names,
-        after,
-    };
-    on_setup(alloc, audit, input)
-}
-
-/// The audit of a state or of one slot.
+/// The audit of a state without the threads of `--without`, or of one slot.
 fn make_audit_now(alloc: Global, options: Options<'_>, input: &[u8]) -> Result<Answer, RunFault>
     ensures made { IfOk result (λ made. IsAuditNow options.entry input.now made.text.items made.verdict) }
     ensures memory { IfErr result (λ fault. fault ≡ RunFault.Memory) }
 {
-    let Options {
-        names,
-        after,
-        slot,
-        ..
-    } = options;
-    match slot {
-        None => match words_in(alloc, options.without) {
-            Ok(without) => make_others_audit(alloc, options, without.as_slice(), input),
-            Err(_) => Err(RunFault::Memory),
-        },
-        Some(slot) => {
-            let audit = SlotAudit { slot, names, after };
-            on_setup(alloc, audit, input)
-        }
+    let Options { names, after, .. } = options;
+    if let Some(slot) = options.slot {
+        return on_setup(alloc, SlotAudit { slot, names, after }, input);
     }
+    let Ok(words) = words_in(alloc, options.without) else {
+        return Err(RunFault::Memory);
+    };
+    let without = words.as_slice();
+    on_state(alloc, StateAudit { without, names }, after, input)
 }
 
 /// The audit of a state or of one slot, or, with `--ever`, what threads can never get.
@@ -171,9 +159,8 @@ fn make_never_between(
         to,
         by,
         names: options.names,
-        after: options.after,
     };
-    on_setup(alloc, question, input)
+    on_state(alloc, question, options.after, input)
 }
 
 /// The same, by the options.
@@ -186,22 +173,16 @@ fn make_never(
     ensures made { IfOk result (λ made. IsAnswerTo (IsStateAnswer (IsNever (question_of options.entry threads.now)) options.entry.after) input.now made.text.items made.verdict) }
     ensures memory { IfErr result (λ fault. fault ≡ RunFault.Memory) }
 {
-    let Ok(without) = words_in(alloc, options.without) else {
-        return Err(RunFault::Memory);
-    };
-    let Ok(messages) = words_in(alloc, options.messages) else {
-        return Err(RunFault::Memory);
-    };
-    let Ok(by) = words_in(alloc, options.by) else {
+    let Ok(words) = Words::of(alloc, options) else {
         return Err(RunFault::Memory);
     };
     make_never_between(
         alloc,
         options,
         threads,
-        without.as_slice(),
-        messages.as_slice(),
-        by.as_slice(),
+        words.without.as_slice(),
+        words.messages.as_slice(),
+        words.by.as_slice(),
         input,
     )
 }
@@ -219,35 +200,7 @@ fn happening_of(options: &Options<'_>) -> Happening
     }
 }
 
-/// How it could happen between two threads, but by the endpoints `by`, where those of `without` make no more calls.
-fn make_how_between(
-    alloc: Global,
-    options: Options<'_>,
-    threads: &str,
-    without: &[&str],
-    by: &[&str],
-    input: &[u8],
-) -> Result<Answer, RunFault>
-    requires without { map (λ w. w.now) without.now ≡ without_of options }
-    requires by { map (λ w. w.now) by.now ≡ by_of options }
-    ensures made { IfOk result (λ made. IsAnswerTo (IsStateAnswer (IsHow (how_of options.entry threads.now)) options.entry.after) input.now made.text.items made.verdict) }
-    ensures memory { IfErr result (λ fault. fault ≡ RunFault.Memory) }
-{
-    let ends = around(threads, ',');
-    let how = How {
-        what: happening_of(&options),
-        from: ends.0,
-        to: ends.1,
-        by,
-        badge: options.badge,
-        without,
-        after: options.after,
-        states: options.states,
-    };
-    on_setup(alloc, how, input)
-}
-
-/// The same, by the options.
+/// How it could happen between two threads, but by the endpoints of `--by`, where those of `--without` make no more calls.
 fn make_how(
     alloc: Global,
     options: Options<'_>,
@@ -257,20 +210,20 @@ fn make_how(
     ensures made { IfOk result (λ made. IsAnswerTo (IsStateAnswer (IsHow (how_of options.entry threads.now)) options.entry.after) input.now made.text.items made.verdict) }
     ensures memory { IfErr result (λ fault. fault ≡ RunFault.Memory) }
 {
-    let Ok(without) = words_in(alloc, options.without) else {
+    let Ok(words) = Words::of(alloc, options) else {
         return Err(RunFault::Memory);
     };
-    let Ok(allowed) = words_in(alloc, options.by) else {
-        return Err(RunFault::Memory);
+    let ends = around(threads, ',');
+    let how = How {
+        what: happening_of(&options),
+        from: ends.0,
+        to: ends.1,
+        by: words.by.as_slice(),
+        badge: options.badge,
+        without: words.without.as_slice(),
+        states: options.states,
     };
-    make_how_between(
-        alloc,
-        options,
-        threads,
-        without.as_slice(),
-        allowed.as_slice(),
-        input,
-    )
+    on_state(alloc, how, options.after, input)
 }
 
 /// The audit where nothing is asked with `--never`.
@@ -464,8 +417,7 @@ impl Engine for Work<'_> {
             Job::Tree => {
                 let form = form_of(options);
                 let Options { names, after, .. } = options;
-                let tree = Tree { form, names, after };
-                on_setup(alloc, tree, input)
+                on_state(alloc, Tree { form, names }, after, input)
             }
             Job::New => make_new(alloc, options, input),
             Job::Marks => on_setup(alloc, Marks, input),

@@ -1,14 +1,20 @@
-//! The file of a policy: what it says, why it is refused, and where in its text an entry stands. What it reads is tested, and no clause
-//! says what it is.
+//! The file of a policy: what it says, why it is refused, where in its text an entry stands, and what its words mean in a set-up's
+//! state. What it reads is tested, and no clause says what it is.
 #![tactic(auto)]
 
 mod fault;
 mod file;
 mod near;
+mod objects;
+mod policy;
 mod reading;
+mod resolve;
 mod values;
 
 pub use fault::{Fault, Place, Refusal, Spot, line_and_column};
 pub use file::{GroupEntry, PolicyFile, UseEntry, WayEntry, Word};
 pub use near::{did_you_mean, nearest};
+pub use objects::{Meaning, Object, Objects, object_of, root_slots};
+pub use policy::{Allowance, Label, Labels, Member, OwnRegion, Policy, PolicyWay, sender_entry};
 pub use reading::read_policy;
+pub use resolve::{Resolver, table_spot};

@@ -3,3 +3,5 @@ pub mod Sequences
 pub mod Runs
 pub mod Joined
 pub mod ByNames
+pub mod Digits
+pub mod Seen

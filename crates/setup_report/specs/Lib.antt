@@ -6,3 +6,6 @@ pub mod State
 pub mod Behind
 pub mod Report
 pub mod Private
+pub mod Words
+pub mod Meant
+pub mod Slots

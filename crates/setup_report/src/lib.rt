@@ -1,5 +1,6 @@
 //! The report of a run: each call with its reply, what the kernel shows at the end, and how many expectations are met; and how
-//! texts tell objects, slots and threads, by addresses or by the names that a set-up gives.
+//! texts tell objects, slots and threads, by addresses or by the names that a set-up gives. And what a word of a command line or of
+//! a policy stands for (`meanings`).
 #![tactic(auto)]
 
 ghost use Rattle.std.specs.Prelude.{◌≡◌, length, IfOk};
@@ -11,13 +12,14 @@ mod calls;
 mod known;
 mod lines;
 mod live;
+mod meanings;
 mod memory;
 mod naming;
 mod objects;
 mod state;
 mod text;
 
-pub use behind::{calls_made, kernel_after};
+pub use behind::{calls_made, count_refused, kernel_after, run_first};
 pub use calls::{ExpectationCount, add_call, expectations};
 use cap_core::Profile;
 use ipc_core::Waiters;
@@ -87,3 +89,8 @@ pub fn counted_report<P: Profile, S: DerivationStore<P> + Drop, W: Waiters<P> + 
     writeln!(out, "expected {met} of {expected}")?;
     Ok((out.into_bytes(), count))
 }
+
+pub use meanings::{
+    ObjectKind, absent_object, absent_slot, are_meant, number_meant, object_meant, objects_meant,
+    slot_meant,
+};

@@ -3,7 +3,7 @@ use Rattle.std.specs.BTreeSet.{insert_key}
 use Rattle.cap_core.specs.declared.capability.Cap.{Cap}
 use Rattle.setup_report.specs.State.{rising}
 use Rattle.setup_report.proofs.Addresses.Named.{named_some, named_none}
-use Rattle.command_trace_lines.proofs.Steps.{take_whole}
+use Rattle.command_trace.proofs.Steps.{take_whole}
 use Rattle.command_audit.specs.Ends.{all_asked, asked_object}
 use Rattle.command_audit.proofs.ends.numbers_asked.Goals.{in-Some+in_ok-insert, in_default}
 use Rattle.command_audit.proofs.ends.numbers_asked.Goals as goal

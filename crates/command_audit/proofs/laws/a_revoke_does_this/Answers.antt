@@ -3,7 +3,7 @@ use Rattle.cap_core.specs.declared.refusal.Refusal.{Refusal}
 use Rattle.kernel_abstract.specs.declared.invocation.Invocation.{Invocation}
 use Rattle.kernel_abstract.specs.State.{shown}
 use Rattle.kernel_abstract.specs.Step.{outcome, step}
-use Rattle.command_trace_lines.specs.Changes.{changes, lines_of_state}
+use Rattle.command_trace.specs.Changes.{changes, lines_of_state}
 use Rattle.command_audit.proofs.laws.a_revoke_does_this.Goals as goal
 
 pub returns : goal.returns

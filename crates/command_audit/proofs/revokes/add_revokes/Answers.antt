@@ -3,7 +3,7 @@ use Rattle.std.specs.List.{flat_map}
 use Rattle.slot_core.specs.declared.derivations.Derivation.{Derivation}
 use Rattle.slot_core.specs.Calls.{derivation_view}
 use Rattle.setup_report.specs.Naming.{naming_view}
-use Rattle.command_trace_lines.proofs.Steps.{take_whole}
+use Rattle.command_trace.proofs.Steps.{take_whole}
 use Rattle.command_audit.specs.Revokes.{revoke_lines_at, revoke_lines_of}
 use Rattle.setup_report.proofs.Joined.{flat_next}
 use Rattle.command_audit.proofs.revokes.add_revokes.Goals as goal

@@ -1,5 +1,5 @@
 use Rattle.std.proofs.Common.{◌≡◌, ◌++◌, Some, string_bytes, ap, ◌∙◌}
-use Rattle.command_trace_lines.specs.Changes.{changes, lines_of_state}
+use Rattle.command_trace.specs.Changes.{changes, lines_of_state}
 use Rattle.setup_report.specs.Naming.{naming_view}
 use Rattle.command_audit.specs.Text.{audit_head_line}
 use Rattle.command_audit.specs.Revokes.{shown_after_revoke, revoke_lines}

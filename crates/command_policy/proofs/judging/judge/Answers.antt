@@ -2,7 +2,8 @@
 use Rattle.std.proofs.Common.{List, subst}
 use Rattle.kernel_abstract.specs.declared.call.Reply.{Reply}
 use Rattle.kernel_abstract.specs.Shown.{Shown}
-use Rattle.command_policy.specs.Policies.{IsJudgedOf, replies_behind}
+use Rattle.setup_report.specs.Behind.{replies_behind}
+use Rattle.command_policy.specs.Policies.{IsJudgedOf}
 use Rattle.command_policy.proofs.judging.judge.Goals as goal
 
 pub unreachable-requires : goal.unreachable-requires

@@ -1,7 +1,7 @@
 -- The policy trusts whom it is to trust.
 use Rattle.std.proofs.Common.{map, ap, sym, ◌∙◌}
 use Rattle.query_parts.proofs.Results.{where_ok}
-use Rattle.command_policy_breaches.specs.declared.policy.Member.{Member}
+use Rattle.setup_policy.specs.declared.policy.Member.{Member}
 use Rattle.command_policy_draft.proofs.judged.is_kept.Goals as goal
 
 pub returns : goal.returns

@@ -1,5 +1,5 @@
 -- The proof of `threads_text`: the goals that a search leaves open.
-use Rattle.command_policy_breaches.specs.declared.policy.Member.{Member}
+use Rattle.setup_policy.specs.declared.policy.Member.{Member}
 use Rattle.command_policy_text.specs.Told.{labelled_thread}
 use Rattle.command_policy_text.proofs.Ordered.{put_one}
 use Rattle.command_policy_text.proofs.told.threads_text.Goals as goal

@@ -1,6 +1,6 @@
 use Rattle.std.proofs.Common.{◌≡◌, take, map, string_bytes}
 use Rattle.command_policy_text.specs.Order.{in_order}
-use Rattle.command_policy_breaches.specs.declared.policy.Member.{Member}
+use Rattle.setup_policy.specs.declared.policy.Member.{Member}
 use Rattle.command_policy_text.specs.Told.{labelled_thread}
 use Rattle.command_policy_text.proofs.told.threads_text.Given as goal
 

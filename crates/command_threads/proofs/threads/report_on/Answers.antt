@@ -9,7 +9,7 @@ use Rattle.kernel_abstract.specs.Shown.{Shown}
 use Rattle.kernel_shared.specs.declared.entry.Entry.{Entry}
 use Rattle.setup_values.specs.Names.{names_view}
 use Rattle.setup_report.specs.Naming.{naming_view, report_texts}
-use Rattle.setup_threads.specs.SharedReport.{shared_report_told}
+use Rattle.setup_read.specs.SharedReport.{shared_report_told}
 use Rattle.command_check.specs.Notes.{noted}
 use Rattle.command_check.specs.Program.{verdict_on}
 use Rattle.setup_report.proofs.Runs.{boot_reached}

@@ -5,13 +5,13 @@ use Rattle.kernel_abstract.specs.State.{shown}
 use Rattle.kernel_abstract.specs.Step.{step, replies_of, state_after}
 use Rattle.setup_format.specs.Views.{CallView}
 use Rattle.setup_report.specs.Naming.{naming_view}
-use Rattle.command_trace_lines.specs.Told.{told_lines}
+use Rattle.command_trace.specs.Told.{told_lines}
 use Rattle.command_why.specs.Tables.{call_table}
 use Rattle.command_why.specs.Why.{reason_lines_of}
 use Rattle.command_trace.specs.Trace.{traced_call_lines, traced_calls_lines, why_at}
-use Rattle.command_trace_lines.proofs.Differences.{written}
-use Rattle.command_trace_lines.proofs.Steps.{reached_after, after_one, replies_one, take_next, there_is, take_whole, start_of_run, no_replies}
-use Rattle.command_trace.proofs.Steps.{call_next, none_left}
+use Rattle.command_trace.proofs.Differences.{written}
+use Rattle.command_trace.proofs.Steps.{reached_after, after_one, replies_one, take_next, there_is, take_whole, start_of_run, no_replies}
+use Rattle.command_trace.proofs.TextSteps.{call_next, none_left}
 use Rattle.command_trace.proofs.calls.add_calls.Goals as goal
 
 pub loop-i-init : goal.loop-i-init

@@ -6,7 +6,7 @@ use Rattle.kernel_abstract.specs.Reached.{IsReached}
 use Rattle.setup_format.specs.Views.{CallView}
 use Rattle.setup_report.specs.Naming.{naming_view}
 use Rattle.command_trace.specs.Trace.{traced_calls_lines}
-use Rattle.command_trace_lines.specs.Foreseen.{IsKept}
+use Rattle.command_trace.specs.Foreseen.{IsKept}
 use Rattle.command_trace.proofs.calls.add_calls.Given as goal
 
 abbrev pub invariant-loop-i : goal.invariant-loop-i

@@ -2,12 +2,12 @@ use Rattle.std.proofs.Common.{◌+◌, ◌++◌, sym, ap, subst, ◌∙◌, stri
 use Rattle.kernel_abstract.specs.Reached.{StepsTo}
 use Rattle.setup_report.specs.Naming.{naming_view}
 use Rattle.setup_report.specs.Report.{terminated, call_text}
-use Rattle.command_trace_lines.specs.Told.{told_lines, told_changes}
+use Rattle.command_trace.specs.Told.{told_lines, told_changes}
 use Rattle.command_why.specs.Why.{reason_lines_of}
 use Rattle.command_trace.specs.Trace.{words_line, why_text}
-use Rattle.command_trace_lines.proofs.Derives.{made}
-use Rattle.command_trace_lines.proofs.Steps.{call_is, expected_is}
-use Rattle.command_trace.proofs.Steps.{four_parts}
+use Rattle.command_trace.proofs.Derives.{made}
+use Rattle.command_trace.proofs.Steps.{call_is, expected_is}
+use Rattle.command_trace.proofs.TextSteps.{four_parts}
 use Rattle.command_trace.proofs.calls.make_call.Goals as goal
 
 pub tell_made-requires : goal.tell_made-requires

@@ -7,12 +7,12 @@ use Rattle.setup_format.specs.Views.{CallView}
 use Rattle.setup_values.specs.Names.{names_view}
 use Rattle.setup_report.specs.Naming.{naming_view}
 use Rattle.setup_report.specs.Report.{terminated, met_count, expectation_count}
-use Rattle.command_trace_lines.specs.Names.{name_lines}
-use Rattle.command_trace_lines.specs.Told.{told_changes, told_lines, nothing_told}
+use Rattle.command_trace.specs.Names.{name_lines}
+use Rattle.command_trace.specs.Told.{told_changes, told_lines, nothing_told}
 use Rattle.command_check.specs.Program.{replies_to}
 use Rattle.command_trace.specs.Trace.{trace_head_line, traced_calls_lines, count_line, trace_told}
 use Rattle.setup_report.proofs.Runs.{boot_reached, replies_length}
-use Rattle.command_trace.proofs.Steps.{whole_text}
+use Rattle.command_trace.proofs.TextSteps.{whole_text}
 use Rattle.command_trace.proofs.run.trace.Goals as goal
 
 pub add_calls-requires-clause-reached : goal.add_calls-requires-clause-reached

@@ -2,8 +2,8 @@
 use Rattle.std.proofs.Common.{◌≡◌, ℕ, Bool, true, false, List, [], map, Bor, ap, sym, subst, ◌∙◌}
 use Rattle.std.specs.Prelude.{MatchBool}
 use Rattle.setup_values.specs.Names.{names_view}
-use Rattle.setup_objects.specs.declared.meant.ObjectKind.TheVariants.{Thread}
-use Rattle.setup_objects.specs.Meant.{are_meant, objects_meant}
+use Rattle.setup_report.specs.declared.meanings.meant.ObjectKind.TheVariants.{Thread}
+use Rattle.setup_report.specs.Meant.{are_meant, objects_meant}
 use Rattle.kernel_abstract.specs.Shown.{Shown}
 use Rattle.kernel_abstract.specs.State.{shown}
 use Rattle.command_core.specs.declared.fault.Verdict.TheVariants.{AllMet, Absent}

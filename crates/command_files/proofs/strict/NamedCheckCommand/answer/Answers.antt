@@ -9,7 +9,7 @@ use Rattle.command_files.proofs.strict.NamedCheckCommand.answer.Goals as goal
 pub returns : goal.returns
 returns g c =
     let p = g.P.Profile.profile in
-    let setup = c.args.read.setup in
+    let setup = c.args.read.now.setup in
     let made = c.in_ok-made.ensures in
     let told = made.text in (
       ap (λ t. t.items) (c.judged.ensures.text ∙ c.answer.ensures.text)

@@ -9,6 +9,6 @@ use Rattle.command_how.proofs.asking.HowStateCommand.answer.Goals as goal
 pub returns : goal.returns
 returns g c =
     let p = g.P.Profile.profile in
-    let first = c.args.first.now in
-    subst (λ (s : Shown). IfOk c.answer_by.result (λ answer. IsHowBy (how_words c.args.self.now) p (names_view first.names.now) first.setup.now first.made s answer.text.items answer.verdict)) c.requires.shows
+    let behind = c.args.behind.now in
+    subst (λ (s : Shown). IfOk c.answer_by.result (λ answer. IsHowBy (how_words c.args.self.now) p (names_view behind.names.now) behind.setup.now behind.made s answer.text.items answer.verdict)) c.requires.shows
     c.answer_by.ensures

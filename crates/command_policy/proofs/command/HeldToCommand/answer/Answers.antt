@@ -18,20 +18,20 @@ fit p setup after made j first =
 pub told-requires : goal.told-requires
 told-requires g c =
     let p = g.P.Profile.profile in
-    fit p c.args.read.setup c.args.self.now.after c.in-Done.made c.in-Done.judged
-    (subst (λ (o : Judging). IsJudging c.args.self.now.after p c.args.read.setup o) c.in-Done.is c.in_ok-judged.ensures)
+    fit p c.args.read.now.setup c.args.self.now.after c.in-Done.made c.in-Done.judged
+    (subst (λ (o : Judging). IsJudging c.args.self.now.after p c.args.read.now.setup o) c.in-Done.is c.in_ok-judged.ensures)
 
 pub notes_on-requires : goal.notes_on-requires
 notes_on-requires g c =
     let p = g.P.Profile.profile in
-    fit p c.args.read.setup c.args.self.now.after c.in-Done.made c.in-Done.judged
-    (subst (λ (o : Judging). IsJudging c.args.self.now.after p c.args.read.setup o) c.in-Done.is c.in_ok-judged.ensures)
+    fit p c.args.read.now.setup c.args.self.now.after c.in-Done.made c.in-Done.judged
+    (subst (λ (o : Judging). IsJudging c.args.self.now.after p c.args.read.now.setup o) c.in-Done.is c.in_ok-judged.ensures)
 
-pub returns-in-Done : goal.returns-in-Done
-returns-in-Done g c =
+pub returns-in_ok-notes-in-Done : goal.returns-in_ok-notes-in-Done
+returns-in_ok-notes-in-Done g c =
     let p = g.P.Profile.profile in
-    let first : IsJudgedFirst p c.args.read.setup c.args.self.now.after c.in-Done.made c.in-Done.judged =
-    subst (λ (o : Judging). IsJudging c.args.self.now.after p c.args.read.setup o) c.in-Done.is c.in_ok-judged.ensures in
+    let first : IsJudgedFirst p c.args.read.now.setup c.args.self.now.after c.in-Done.made c.in-Done.judged =
+    subst (λ (o : Judging). IsJudging c.args.self.now.after p c.args.read.now.setup o) c.in-Done.is c.in_ok-judged.ensures in
     inr (inr record {
       asked = first.asked;
       made = c.in-Done.made;

@@ -1,7 +1,7 @@
 -- Each thread from which it is asked is one more of which the answer speaks.
 use Rattle.std.proofs.Common.{◌≡◌, ℕ, get_or, arith, subst}
 use Rattle.std.proofs.lemmas.Option.{slice_get-get_or, slice_get_within}
-use Rattle.command_policy_breaches.specs.declared.policy.Member.{Member}
+use Rattle.setup_policy.specs.declared.policy.Member.{Member}
 use Rattle.command_how.specs.declared.telling.Outcome.{Outcome}
 use Rattle.command_policy_how.specs.Asked.{IsAskedFrom}
 use Rattle.command_policy_how.proofs.Merged.{excluded_all, from_one_more, witness_of}

@@ -2,7 +2,7 @@
 use Rattle.std.proofs.Common.{◌≡◌, ℕ, ◌<◌, Some, true}
 use Rattle.std.specs.Prelude.{slice_get}
 use Rattle.command_how.specs.Line.{says_excluded}
-use Rattle.command_policy_breaches.specs.declared.policy.Member.{Member}
+use Rattle.setup_policy.specs.declared.policy.Member.{Member}
 use Rattle.command_policy_how.specs.Asked.{AreExcludedFrom}
 use Rattle.command_policy_how.proofs.asking.Asking.ask_each.Given as goal
 

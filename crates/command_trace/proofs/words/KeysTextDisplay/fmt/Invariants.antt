@@ -1,6 +1,6 @@
 use Rattle.std.proofs.Common.{map, take}
 use Rattle.std.specs.Fmt.{HasWritten, IsPlainFormatter}
-use Rattle.command_why_words.specs.Keys.{key_word}
+use Rattle.command_why.specs.Keys.{key_word}
 use Rattle.command_trace.specs.Words.{keys_text}
 use Rattle.command_trace.proofs.words.KeysTextDisplay.fmt.Given as goal
 

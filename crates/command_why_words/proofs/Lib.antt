@@ -1,5 +1,0 @@
-mod Counted
-mod Keyed
-mod Spelt
-mod Texts
-mod Told

@@ -1,6 +1,0 @@
-use Rattle.std.proofs.Common.{◌≡◌, drop}
-use Rattle.setup_objects.specs.Words.{number_after}
-use Rattle.setup_objects.proofs.words.digits.Given as goal
-
-abbrev pub invariant-loop-byte : goal.invariant-loop-byte
-invariant-loop-byte l = number_after l.number (drop l.byte-index l.text) ≡ number_after 0 l.text

@@ -1,2 +1,0 @@
--- The text of the report of a kernel that clients shared.
-pub mod SharedReport
