@@ -218,20 +218,6 @@ fn caller_put<P: Profile>(
     Ok(caller)
 }
 
-fn callers_put<P: Profile>(
-    alloc: Global,
-    memory: &[PartMemory],
-    all: &mut Vec<MayStand>,
-    sets: &[u64],
-) -> Result<Vec<Caller>, AllocError> {
-    let mut callers = Vec::new(alloc);
-    for set in sets {
-        let caller = caller_put::<P>(alloc, memory, all, *set)?;
-        callers.push(caller)?;
-    }
-    Ok(callers)
-}
-
 /// Whether a stretch has a whole range, or the range no last address.
 fn is_in_one(memory: &[PartMemory], range: Range) -> bool {
     match last_of(range) {
@@ -251,6 +237,24 @@ fn region_outside(memory: &[PartMemory], all: &[MayStand]) -> Option<Range> {
         }
     }
     None
+}
+
+/// Adds what the callers of some sets put, or of the first of them till there is a region that lies in no stretch.
+fn callers_put<P: Profile>(
+    alloc: Global,
+    memory: &[PartMemory],
+    all: &mut Vec<MayStand>,
+    sets: &[u64],
+) -> Result<Vec<Caller>, AllocError> {
+    let mut callers = Vec::new(alloc);
+    for set in sets {
+        let caller = caller_put::<P>(alloc, memory, all, *set)?;
+        callers.push(caller)?;
+        if region_outside(memory, all.as_slice()).is_some() {
+            break;
+        }
+    }
+    Ok(callers)
 }
 
 /// The callers, with all that may stand: from what stands on, what they put is added, on and on, or till there is a region that lies in
