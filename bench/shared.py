@@ -33,7 +33,8 @@ LOOK_SECONDS = 2.0
 
 
 def build():
-    subprocess.run(["rt", "run"], cwd=CRATE, check=True, stdout=subprocess.DEVNULL, stderr=subprocess.DEVNULL)
+    command = ["python3", "tools/prove.py", CRATE.name]
+    subprocess.run(command, cwd=HERE.parent, check=True, stdout=subprocess.DEVNULL, stderr=subprocess.DEVNULL)
     command = ["env", "CARGO_TARGET_DIR=out/target", "cargo", "build", "--release", "--quiet"]
     subprocess.run(command, cwd=HERE / "shared_cycle", check=True)
 
