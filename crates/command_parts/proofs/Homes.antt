@@ -1,6 +1,6 @@
 -- The threads at home in a part are those that lie in its memory.
-use Rattle.std.proofs.Common.{◌≡◌, ℕ, Bool, true, false, cond, ◌==◌, List, [], ◌∷◌, map, filter, Option, Some, None, option_map, refl, ap, ◌∙◌}
-use Rattle.std.specs.List.{cons_option, filter_map}
+use Rattle.std.proofs.Common.{◌≡◌, ℕ, Bool, true, false, cond, ◌==◌, List, [], ◌∷◌, ◌++◌, map, filter, Option, Some, None, option_map, refl, ap, ◌∙◌}
+use Rattle.std.specs.List.{cons_option, filter_map, flat_map}
 use Rattle.query_parts.specs.declared.listed.PartMemory.{PartMemory}
 use Rattle.query_parts.specs.Listed.{part_at}
 use Rattle.setup_report.specs.Naming.{Texts}
@@ -36,3 +36,20 @@ told_at_home texts memory threads homes is =
       texts = texts;
       part = λ (part : ℕ). threads_or_number texts part ((ap (λ (l : List Home). threads_at_home l part) is ∙ chosen texts.by_name memory threads part) i);
     }
+
+-- the lines of the threads at home in a part are those of the threads that lie in its memory
+line_if : {X : Type 0} (line : ℕ → List X) (thread : ℕ) (is : Bool) (here : List ℕ) (lines : List X) → flat_map line here ≡ lines →
+    flat_map line (cond is (thread ∷ here) here) ≡ cond is (line thread) [] ++ lines
+line_if line thread true here lines same = ap (λ l. line thread ++ l) same
+line_if line thread false here lines same = same
+
+lines_in : {X : Type 0} (line : ℕ → List X) (memory : List PartMemory) (part : ℕ) (threads : List ℕ) →
+    flat_map line (threads_in memory threads part) ≡ flat_map (λ thread. cond (is_part part (part_at memory thread)) (line thread) []) threads
+lines_in line memory part [] = refl
+lines_in line memory part (thread ∷ threads) =
+    line_if line thread (is_part part (part_at memory thread)) (threads_in memory threads part) _ (lines_in line memory part threads)
+
+pub lines_at_home : {X : Type 0} (line : ℕ → List X) (memory : List PartMemory) (part : ℕ) (threads : List ℕ) →
+    flat_map line (threads_at_home (filter_map (home_of memory) threads) part)
+    ≡ flat_map (λ thread. cond (is_part part (part_at memory thread)) (line thread) []) threads
+lines_at_home line memory part threads = ap (flat_map line) (at_home memory threads part) ∙ lines_in line memory part threads

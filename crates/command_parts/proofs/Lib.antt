@@ -1,6 +1,8 @@
 pub mod Pushed
 pub mod Right
 pub mod Callers
+pub mod Kept
+pub mod Owned
 pub mod Receiving
 pub mod Beneath
 pub mod Walked

@@ -1,17 +1,17 @@
 //! The lines of a part: its live threads, its memory, and the endpoints that it may use.
 ghost use Rattle.std.specs.Prelude.{◌≡◌, ◌++◌, OnOk, Some, codes, string_bytes};
-ghost use Rattle.std.specs.List.{flat_map};
+ghost use Rattle.std.specs.List.{flat_map, filter_map};
 ghost use Rattle.kernel_abstract.specs.Shown.{state_at};
 ghost use Rattle.query_parts.specs.Listed as listed;
 ghost use Rattle.setup_report.specs.Report.{terminated};
-ghost use Rattle.setup_report.specs.State.{threads as threads_of};
-ghost use Rattle.command_parts.specs.Telling.{part_naming_view};
+ghost use Rattle.setup_report.specs.State.{threads as live_threads};
+ghost use Rattle.command_parts.specs.Telling.{home_of, part_naming_view};
 ghost use Rattle.command_parts.specs.Text as spec;
 
 use crate::messages::uses_held;
 use crate::sets::is_in;
 use crate::takes::PartSlot;
-use crate::telling::PartNaming;
+use crate::telling::{Home, PartNaming, homes, threads_of};
 use cap_core::Profile;
 use ipc_core::Waiters;
 use kernel_core::{Kernel, ThreadState};
@@ -79,37 +79,17 @@ pub fn is_of_part(memory: &[PartMemory], part: u64, address: u64) -> bool
     }
 }
 
-fn add_thread<P: Profile, S: CapStore<P> + Drop, W: Waiters<P> + Drop>(
-    out: &mut String,
-    told: &PartNaming<'_>,
-    kernel: &Kernel<P, S, W>,
-    memory: &[PartMemory],
-    part: u64,
-    thread: u64,
-) -> Result<(), AllocError>
-    ensures { OnOk result (string_bytes out.new ≡ string_bytes out.old
-        ++ spec.part_thread_line (part_naming_view told.now) memory.now part kernel.now thread) }
-{
-    if is_of_part(memory, part, thread) {
-        add_state::<P, S, W>(out, told, kernel, thread)
-    } else {
-        Ok(())
-    }
-}
-
 fn add_threads<P: Profile, S: CapStore<P> + Drop, W: Waiters<P> + Drop>(
     out: &mut String,
     told: &PartNaming<'_>,
     kernel: &Kernel<P, S, W>,
-    memory: &[PartMemory],
-    part: u64,
     threads: &[u64],
 ) -> Result<(), AllocError>
     ensures { OnOk result (string_bytes out.new ≡ string_bytes out.old
-        ++ flat_map (spec.part_thread_line (part_naming_view told.now) memory.now part kernel.now) threads.now) }
+        ++ flat_map (λ thread. spec.state_line ((part_naming_view told.now).texts.about thread) (state_at kernel.now thread)) threads.now) }
 {
     for thread in threads {
-        add_thread::<P, S, W>(out, told, kernel, memory, part, *thread)?;
+        add_state::<P, S, W>(out, told, kernel, *thread)?;
     }
     Ok(())
 }
@@ -230,23 +210,25 @@ fn add_number(out: &mut String, told: &PartNaming<'_>, part: u64) -> Result<(), 
     writeln!(out, "part {part}")
 }
 
+/// Adds the lines of a part, by where the live threads lie.
 fn add_part<P: Profile, S: CapStore<P> + Drop, W: Waiters<P> + Drop>(
     alloc: Global,
     out: &mut String,
     told: &PartNaming<'_>,
     kernel: &Kernel<P, S, W>,
-    threads: &[u64],
+    homes: &[Home],
     parts: &Parts,
     part_slots: &[PartSlot],
     alone: &[u64],
     part: u64,
 ) -> Result<(), AllocError>
-    requires { threads.now ≡ threads_of P.profile kernel.now }
+    requires { homes.now ≡ filter_map (home_of parts.now.memory.items) (live_threads P.profile kernel.now) }
     ensures { OnOk result (string_bytes out.new ≡ string_bytes out.old
         ++ spec.part_lines P.profile (part_naming_view told.now) parts.now.memory.items parts.now.uses.items kernel.now part_slots.now alone.now part) }
 {
     add_number(out, told, part)?;
-    add_threads::<P, S, W>(out, told, kernel, parts.memory.as_slice(), part, threads)?;
+    let threads = threads_of(alloc, homes, part)?;
+    add_threads::<P, S, W>(out, told, kernel, threads.as_slice())?;
     add_memory(out, part, parts.memory.as_slice())?;
     add_uses_told(
         alloc,
@@ -275,13 +257,15 @@ pub fn add_parts<P: Profile, S: CapStore<P> + Drop, W: Waiters<P> + Drop>(
     alone: &[u64],
     numbers: &[u64],
 ) -> Result<(), AllocError>
-    requires { threads.now ≡ threads_of P.profile kernel.now }
+    requires { threads.now ≡ live_threads P.profile kernel.now }
     ensures { OnOk result (string_bytes out.new ≡ string_bytes out.old
         ++ flat_map (spec.part_lines P.profile (part_naming_view told.now) parts.now.memory.items parts.now.uses.items kernel.now part_slots.now alone.now) numbers.now) }
 {
+    let homes = homes(alloc, parts.memory.as_slice(), threads)?;
+    let homes = homes.as_slice();
     for part in numbers {
         add_part::<P, S, W>(
-            alloc, out, told, kernel, threads, parts, part_slots, alone, *part,
+            alloc, out, told, kernel, homes, parts, part_slots, alone, *part,
         )?;
     }
     Ok(())

@@ -59,7 +59,11 @@ fn home_of(memory: &[PartMemory], thread: u64) -> Option<Home>
 }
 
 /// Where some threads lie, each in a part's memory.
-fn homes(alloc: Global, memory: &[PartMemory], threads: &[u64]) -> Result<Vec<Home>, AllocError>
+///
+/// # Errors
+///
+/// Memory was refused.
+pub fn homes(alloc: Global, memory: &[PartMemory], threads: &[u64]) -> Result<Vec<Home>, AllocError>
     ensures { IfOk result (λ homes. homes.items ≡ filter_map (spec.home_of memory.now) threads.now) }
 {
     threads
@@ -85,7 +89,11 @@ fn homes_told(
 }
 
 /// The threads of a part.
-fn threads_of(alloc: Global, homes: &[Home], part: u64) -> Result<Vec<u64>, AllocError>
+///
+/// # Errors
+///
+/// Memory was refused.
+pub fn threads_of(alloc: Global, homes: &[Home], part: u64) -> Result<Vec<u64>, AllocError>
     ensures { IfOk result (λ threads. threads.items ≡ spec.threads_at_home homes.now part) }
 {
     homes

@@ -6,6 +6,7 @@ ghost use Rattle.query_parts.specs.Keyed.{AreByKey};
 ghost use Rattle.query_parts.specs.declared.keyed.UseKey.TheVariants.{Endpoint};
 ghost use Rattle.command_parts.specs.Telling.{part_naming_view};
 ghost use Rattle.command_parts.specs.Text as spec;
+ghost use Rattle.command_parts.specs.Private.Used.{all_used, meets_endpoint, memory_on as memory_of, used_on, used_view};
 
 use crate::messages::uses_held;
 use crate::parts::BadgeText;
@@ -25,6 +26,14 @@ pub struct Way {
     pub endpoint: u64,
     pub badge: u64,
     pub to: u64,
+}
+
+/// An endpoint that is used: the stretches of memory that have an address of it, and the parts that may receive on it.
+#[derive(Drop)]
+struct UsedEndpoint {
+    address: u64,
+    memory: Vec<PartMemory>,
+    receivers: Vec<u64>,
 }
 
 /// What passes by a way.
@@ -256,36 +265,65 @@ fn parts_that_receive<P: Profile>(
         .collect(alloc)
 }
 
-/// The parts that may receive on an endpoint, by uses by rising endpoint.
-fn receivers_on<P: Profile>(
-    alloc: Global,
-    memory: &[PartMemory],
-    uses: &[PartUse],
-    parts: &[u64],
-    endpoint: u64,
-) -> Result<Vec<u64>, AllocError>
-    requires order { AreByKey Endpoint uses.now }
-    requires parts { parts.now ≡ spec.parts_of memory.now }
-    ensures { IfOk result (λ v. v.items ≡ spec.receivers_on P.profile memory.now uses.now endpoint) }
+/// Whether a stretch of memory has an address of an endpoint.
+fn meets<P: Profile>(stretch: &PartMemory, endpoint: u64) -> bool
+    ensures { result ≡ meets_endpoint P.profile endpoint stretch.now }
 {
-    parts_that_receive::<P>(alloc, memory, uses_on(uses, endpoint), parts, endpoint)
+    endpoint <= stretch.last && stretch.first.saturating_sub(endpoint) < 1 << P::ENDPOINT_BITS
 }
 
-/// The parts that may receive on each of some endpoints.
-fn all_receivers<P: Profile>(
+/// The stretches of memory that have an address of an endpoint. They tell who owns it as all stretches do.
+fn memory_on<P: Profile>(
+    alloc: Global,
+    memory: &[PartMemory],
+    endpoint: u64,
+) -> Result<Vec<PartMemory>, AllocError>
+    ensures { IfOk result (λ v. v.items ≡ memory_of P.profile memory.now endpoint) }
+{
+    memory
+        .iter()
+        .filter(|stretch| meets::<P>(stretch, endpoint))
+        .copied()
+        .collect(alloc)
+}
+
+/// What is known of an endpoint, by uses by rising endpoint.
+fn used_endpoint<P: Profile>(
     alloc: Global,
     memory: &[PartMemory],
     uses: &[PartUse],
     parts: &[u64],
-    endpoints: &[u64],
-) -> Result<Vec<Vec<u64>>, AllocError>
-    requires { parts.now ≡ spec.parts_of memory.now }
-    ensures { IfOk result (λ all. map (λ v. v.items) all.items ≡ map (spec.receivers_on P.profile memory.now uses.now) endpoints.now) }
+    address: u64,
+) -> Result<UsedEndpoint, AllocError>
+    requires order { AreByKey Endpoint uses.now }
+    requires parts { parts.now ≡ spec.parts_of memory.now }
+    ensures { IfOk result (λ used. used_view used ≡ used_on P.profile memory.now uses.now address) }
 {
+    let memory = memory_on::<P>(alloc, memory, address)?;
+    let here = uses_on(uses, address);
+    let receivers = parts_that_receive::<P>(alloc, memory.as_slice(), here, parts, address)?;
+    Ok(UsedEndpoint {
+        address,
+        memory,
+        receivers,
+    })
+}
+
+/// The endpoints that are used, rising.
+fn used_endpoints<P: Profile>(
+    alloc: Global,
+    memory: &[PartMemory],
+    uses: &[PartUse],
+    parts: &[u64],
+) -> Result<Vec<UsedEndpoint>, AllocError>
+    requires { parts.now ≡ spec.parts_of memory.now }
+    ensures { IfOk result (λ all. map used_view all.items ≡ all_used P.profile memory.now uses.now) }
+{
+    let endpoints = endpoints_used(alloc, uses)?;
     let list = uses_by_key(alloc, uses, UseKey::Endpoint)?;
     let mut all = Vec::new(alloc);
-    for endpoint in endpoints {
-        all.push(receivers_on::<P>(alloc, memory, list.as_slice(), parts, *endpoint)?)?;
+    for endpoint in &endpoints {
+        all.push(used_endpoint::<P>(alloc, memory, list.as_slice(), parts, *endpoint)?)?;
     }
     Ok(all)
 }
@@ -341,26 +379,25 @@ fn add_ways_with(
     Ok(())
 }
 
-/// Adds the ways from a part by an endpoint, by the uses that the part has of it and the parts that may receive there.
+/// Adds the ways from a part by an endpoint, by the uses that the part has of it.
 fn add_ways_on<P: Profile>(
     alloc: Global,
     ways: &mut Vec<Way>,
-    memory: &[PartMemory],
     own: &[PartUse],
-    receivers: &[u64],
+    used: &UsedEndpoint,
     passing: Passing,
     from: u64,
-    endpoint: u64,
 ) -> Result<(), AllocError>
     ensures { OnOk result (ways.new.items ≡ ways.old.items
-        ++ flat_map (λ badge. map (spec.way from endpoint badge) (filter (λ other. not (other == from)) receivers.now))
-        (spec.badges_by passing P.profile memory.now own.now from endpoint)) }
+        ++ flat_map (λ badge. map (spec.way from used.now.address badge) (filter (λ other. not (other == from)) used.now.receivers.items))
+        (spec.badges_by passing P.profile used.now.memory.items own.now from used.now.address)) }
 {
-    let badges = badges_by::<P>(alloc, memory, own, passing, from, endpoint)?;
+    let endpoint = used.address;
+    let badges = badges_by::<P>(alloc, used.memory.as_slice(), own, passing, from, endpoint)?;
     if badges.is_empty() {
         return Ok(());
     }
-    let receivers = others(alloc, receivers, from)?;
+    let receivers = others(alloc, used.receivers.as_slice(), from)?;
     add_ways_with(
         ways,
         badges.as_slice(),
@@ -370,26 +407,24 @@ fn add_ways_on<P: Profile>(
     )
 }
 
+/// Adds the ways from a part, by the endpoints that are used. Only the clauses speak of `_memory`.
 fn add_ways_from<P: Profile>(
     alloc: Global,
     ways: &mut Vec<Way>,
-    memory: &[PartMemory],
+    _memory: &[PartMemory],
     uses: &[PartUse],
-    endpoints: &[u64],
-    receivers: &[Vec<u64>],
+    used: &[UsedEndpoint],
     passing: Passing,
     from: u64,
 ) -> Result<(), AllocError>
-    requires endpoints { endpoints.now ≡ spec.endpoints_used uses.now }
-    requires receivers { map (λ v. v.items) receivers.now ≡ map (spec.receivers_on P.profile memory.now uses.now) endpoints.now }
-    ensures { OnOk result (ways.new.items ≡ ways.old.items ++ spec.ways_from passing P.profile memory.now uses.now from) }
+    requires { map used_view used.now ≡ all_used P.profile _memory.now uses.now }
+    ensures { OnOk result (ways.new.items ≡ ways.old.items ++ spec.ways_from passing P.profile _memory.now uses.now from) }
 {
     let own = uses_of(alloc, uses, from)?;
     let by_endpoint = uses_by_key(alloc, own.as_slice(), UseKey::Endpoint)?;
-    for (place, endpoint) in endpoints.iter().enumerate() {
-        let here = uses_on(by_endpoint.as_slice(), *endpoint);
-        let heard = receivers[place].as_slice();
-        add_ways_on::<P>(alloc, ways, memory, here, heard, passing, from, *endpoint)?;
+    for endpoint in used {
+        let here = uses_on(by_endpoint.as_slice(), endpoint.address);
+        add_ways_on::<P>(alloc, ways, here, endpoint, passing, from)?;
     }
     Ok(())
 }
@@ -401,19 +436,15 @@ fn add_ways_between<P: Profile>(
     memory: &[PartMemory],
     uses: &[PartUse],
     parts: &[u64],
-    endpoints: &[u64],
-    receivers: &[Vec<u64>],
+    used: &[UsedEndpoint],
     passing: Passing,
 ) -> Result<(), AllocError>
     requires parts { parts.now ≡ spec.parts_of memory.now }
-    requires endpoints { endpoints.now ≡ spec.endpoints_used uses.now }
-    requires receivers { map (λ v. v.items) receivers.now ≡ map (spec.receivers_on P.profile memory.now uses.now) endpoints.now }
+    requires used { map used_view used.now ≡ all_used P.profile memory.now uses.now }
     ensures { OnOk result (ways.new.items ≡ ways.old.items ++ spec.ways passing P.profile memory.now uses.now) }
 {
     for from in parts {
-        add_ways_from::<P>(
-            alloc, ways, memory, uses, endpoints, receivers, passing, *from,
-        )?;
+        add_ways_from::<P>(alloc, ways, memory, uses, used, passing, *from)?;
     }
     Ok(())
 }
@@ -434,13 +465,9 @@ pub fn ways_by<P: Profile>(
     ensures { IfOk result (λ v. v.items ≡ spec.ways passing P.profile memory.now uses.now) }
 {
     let mut ways = Vec::new(alloc);
-    let endpoints = endpoints_used(alloc, uses)?;
-    let endpoints = endpoints.as_slice();
-    let receivers = all_receivers::<P>(alloc, memory, uses, parts, endpoints)?;
-    let receivers = receivers.as_slice();
-    add_ways_between::<P>(
-        alloc, &mut ways, memory, uses, parts, endpoints, receivers, passing,
-    )?;
+    let used = used_endpoints::<P>(alloc, memory, uses, parts)?;
+    let used = used.as_slice();
+    add_ways_between::<P>(alloc, &mut ways, memory, uses, parts, used, passing)?;
     Ok(ways)
 }
 
@@ -480,7 +507,7 @@ fn add_held_ways_on(
     )
 }
 
-/// Adds the ways of messages from a part that has only these uses, by the parts that may receive on each endpoint that is used.
+/// Adds the ways of messages from a part that has only these uses, by the endpoints that are used.
 /// Only the clauses speak of `_memory` and `_uses`.
 fn add_held_ways<P: Profile>(
     alloc: Global,
@@ -488,19 +515,17 @@ fn add_held_ways<P: Profile>(
     _memory: &[PartMemory],
     _uses: &[PartUse],
     held: &[PartUse],
-    endpoints: &[u64],
-    receivers: &[Vec<u64>],
+    used: &[UsedEndpoint],
     from: u64,
 ) -> Result<(), AllocError>
-    requires endpoints { endpoints.now ≡ spec.endpoints_used _uses.now }
-    requires receivers { map (λ v. v.items) receivers.now ≡ map (spec.receivers_on P.profile _memory.now _uses.now) endpoints.now }
+    requires { map used_view used.now ≡ all_used P.profile _memory.now _uses.now }
     ensures { OnOk result (ways.new.items ≡ ways.old.items ++ spec.held_ways_from P.profile _memory.now _uses.now held.now from) }
 {
     let by_endpoint = uses_by_key(alloc, held, UseKey::Endpoint)?;
-    for (place, endpoint) in endpoints.iter().enumerate() {
-        let here = uses_on(by_endpoint.as_slice(), *endpoint);
-        let heard = receivers[place].as_slice();
-        add_held_ways_on(alloc, ways, here, heard, from, *endpoint)?;
+    for endpoint in used {
+        let here = uses_on(by_endpoint.as_slice(), endpoint.address);
+        let heard = endpoint.receivers.as_slice();
+        add_held_ways_on(alloc, ways, here, heard, from, endpoint.address)?;
     }
     Ok(())
 }
@@ -510,26 +535,22 @@ fn add_message_ways_from<P: Profile>(
     ways: &mut Vec<Way>,
     memory: &[PartMemory],
     uses: &[PartUse],
-    endpoints: &[u64],
-    receivers: &[Vec<u64>],
+    used: &[UsedEndpoint],
     part_slots: &[PartSlot],
     alone: &[u64],
     from: u64,
 ) -> Result<(), AllocError>
-    requires endpoints { endpoints.now ≡ spec.endpoints_used uses.now }
-    requires receivers { map (λ v. v.items) receivers.now ≡ map (spec.receivers_on P.profile memory.now uses.now) endpoints.now }
+    requires { map used_view used.now ≡ all_used P.profile memory.now uses.now }
     ensures { OnOk result (ways.new.items ≡ ways.old.items
         ++ spec.message_ways_from P.profile memory.now uses.now part_slots.now alone.now from) }
 {
     if is_in(alone, from) {
         let held = uses_held(alloc, part_slots, from)?;
         let held = held.as_slice();
-        return add_held_ways::<P>(alloc, ways, memory, uses, held, endpoints, receivers, from);
+        return add_held_ways::<P>(alloc, ways, memory, uses, held, used, from);
     }
     let passing = Passing::Message;
-    add_ways_from::<P>(
-        alloc, ways, memory, uses, endpoints, receivers, passing, from,
-    )
+    add_ways_from::<P>(alloc, ways, memory, uses, used, passing, from)
 }
 
 fn add_message_ways<P: Profile>(
@@ -538,21 +559,17 @@ fn add_message_ways<P: Profile>(
     memory: &[PartMemory],
     uses: &[PartUse],
     parts: &[u64],
-    endpoints: &[u64],
-    receivers: &[Vec<u64>],
+    used: &[UsedEndpoint],
     part_slots: &[PartSlot],
     alone: &[u64],
 ) -> Result<(), AllocError>
     requires parts { parts.now ≡ spec.parts_of memory.now }
-    requires endpoints { endpoints.now ≡ spec.endpoints_used uses.now }
-    requires receivers { map (λ v. v.items) receivers.now ≡ map (spec.receivers_on P.profile memory.now uses.now) endpoints.now }
+    requires used { map used_view used.now ≡ all_used P.profile memory.now uses.now }
     ensures { OnOk result (ways.new.items ≡ ways.old.items
         ++ spec.message_ways P.profile memory.now uses.now part_slots.now alone.now) }
 {
     for from in parts {
-        add_message_ways_from::<P>(
-            alloc, ways, memory, uses, endpoints, receivers, part_slots, alone, *from,
-        )?;
+        add_message_ways_from::<P>(alloc, ways, memory, uses, used, part_slots, alone, *from)?;
     }
     Ok(())
 }
@@ -574,12 +591,10 @@ pub fn message_ways<P: Profile>(
     ensures { IfOk result (λ v. v.items ≡ spec.message_ways P.profile memory.now uses.now part_slots.now alone.now) }
 {
     let mut ways = Vec::new(alloc);
-    let endpoints = endpoints_used(alloc, uses)?;
-    let endpoints = endpoints.as_slice();
-    let receivers = all_receivers::<P>(alloc, memory, uses, parts, endpoints)?;
-    let receivers = receivers.as_slice();
+    let used = used_endpoints::<P>(alloc, memory, uses, parts)?;
+    let used = used.as_slice();
     add_message_ways::<P>(
-        alloc, &mut ways, memory, uses, parts, endpoints, receivers, part_slots, alone,
+        alloc, &mut ways, memory, uses, parts, used, part_slots, alone,
     )?;
     Ok(ways)
 }

@@ -1,14 +1,17 @@
 -- The proof of `add_part`: the goals that a search leaves open.
 use Rattle.std.proofs.Common.{◌≡◌, ◌∙◌, ◌++◌, ℕ, List, ap, codes, string_bytes}
 use Rattle.std.specs.List.{flat_map}
+use Rattle.kernel_abstract.specs.Shown.{state_at}
 use Rattle.query_parts.specs.declared.listed.PartMemory.{PartMemory}
 use Rattle.query_parts.specs.declared.listed.PartUse.{PartUse}
 use Rattle.setup_report.specs.Report.{terminated}
 use Rattle.setup_report.specs.State.{threads}
 use Rattle.setup_report.proofs.Addresses.Rising.{four_parts}
-use Rattle.command_parts.specs.Telling.{part_naming_view}
+use Rattle.command_parts.specs.declared.telling.Home.{Home}
+use Rattle.command_parts.specs.Telling.{part_naming_view, threads_at_home}
 use Rattle.command_parts.specs.Text as spec
 use Rattle.command_parts.proofs.Given.{on_ok}
+use Rattle.command_parts.proofs.Homes.{lines_at_home}
 use Rattle.command_parts.proofs.parts.add_part.Goals as goal
 
 pub returns : goal.returns
@@ -33,8 +36,9 @@ returns g c =
     (λ is. four_parts start one two three all number of_threads of_memory of_uses
     c.in_ok-add_number.ensures
     (c.in_ok-add_threads.ensures
-    ∙ ap (λ (m : List PartMemory). one ++ flat_map (spec.part_thread_line told m part v) c.args.threads.now) c.as_slice.ensures.value
-    ∙ ap (λ (ts : List ℕ). one ++ flat_map (spec.part_thread_line told memory part v) ts) c.requires)
+    ∙ ap (λ (ts : List ℕ). one ++ flat_map (λ thread. spec.state_line (told.texts.about thread) (state_at v thread)) ts)
+    (c.as_slice.ensures.value ∙ c.in_ok-threads.ensures ∙ ap (λ (homes : List Home). threads_at_home homes part) c.requires)
+    ∙ ap (λ (l : List ℕ). one ++ l) (lines_at_home (λ thread. spec.state_line (told.texts.about thread) (state_at v thread)) memory part (threads g.P.Profile.profile v)))
     (c.in_ok-add_memory.ensures ∙ ap (λ (m : List PartMemory). two ++ flat_map (spec.memory_line part) m) c.as_slice-2.ensures.value)
     (is ∙ ap (λ (us : List PartUse). three ++ spec.use_lines told slots alone us part) c.as_slice-3.ensures.value))
     c.add_uses_told.result c.add_uses_told.ensures

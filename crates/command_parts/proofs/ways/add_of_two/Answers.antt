@@ -1,5 +1,5 @@
 -- The proof of `add_of_two`: the goals that a search leaves open.
-use Rattle.std.proofs.Common.{◌≡◌, ◌∙◌, ◌<◌, ◌++◌, List, ℕ, filter, length, get_or, ap, arith, string_bytes}
+use Rattle.std.proofs.Common.{◌∙◌, ◌<◌, ◌++◌, List, ℕ, filter, length, get_or, ap, arith, string_bytes}
 use Rattle.command_parts.specs.Telling.{part_naming_view}
 use Rattle.command_parts.specs.Text as spec
 use Rattle.command_parts.proofs.Receiving.{between_here, one_more}
