@@ -6,6 +6,7 @@ pub mod Runs
 pub mod Idle
 pub mod Told
 pub mod Settled
+pub mod Verdicts
 pub mod Apart
 pub mod Quiet
 pub mod Ruled

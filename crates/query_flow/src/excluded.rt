@@ -17,7 +17,8 @@ use kernel_core::{Kernel, ThreadState};
 use slot_core::DerivationStore;
 use std::alloc::{AllocError, Global};
 
-/// The most full slots of a kernel whose flows are looked for. The test of flows looks at each thread with each CNode for each thread.
+/// The most full slots of a kernel whose flows are looked for. The test of flows looks at each thread with each CNode, for each kind of
+/// thread: those that name and fill the same sets are one kind.
 const MOST_SLOTS: usize = 512;
 
 /// Where endpoints lie that a thread may use: from an address to another.

@@ -1,11 +1,12 @@
 //! Flows as lists, and the tests that one is settled.
-ghost use Rattle.std.specs.Prelude.{◌≡◌, ◌==◌, ◌||◌, ◌&&◌, not, true, option_copied, IfOk};
-ghost use Rattle.std.specs.List.{list_any, list_all};
+ghost use Rattle.std.specs.Prelude.{◌≡◌, ◌==◌, ◌||◌, ◌&&◌, ℕ, not, true, map, take, option_copied, IfOk};
+ghost use Rattle.std.specs.List.{list_any, list_all, position};
 ghost use Rattle.slot_core.specs.Calls.{derivation_view};
 ghost use Rattle.cap_core.specs.Objects.{is_null as null};
 ghost use Rattle.query_parts.specs.Listed.{last_in};
 ghost use Rattle.query_flow.specs.Laws.{IsFlowEver};
 ghost use Rattle.query_flow.specs.Listed as spec;
+ghost use Rattle.query_flow.specs.Private as private;
 
 use cap_core::{Badge, Cap, Profile, Range, Rights, range_of};
 use ipc_core::Waiters;
@@ -60,6 +61,13 @@ pub struct Caller {
     pub names: Vec<u64>,
     pub nodes: Vec<u64>,
     pub fills: Vec<u64>,
+}
+
+/// What the tests say of a caller that look at what it names and fills alone, and not at its set.
+#[derive(Clone, Copy)]
+pub struct Verdict {
+    pub goes_on: bool,
+    pub puts_told: bool,
 }
 
 /// A flow: which set each address lies in, what may stand in the slots of each set, what callers name and fill, and who is trusted to
@@ -382,19 +390,94 @@ fn roots_set(memory: &[PartMemory], all: &[MayStand], caller: &Caller) -> bool
     all.iter().all(|s| !names.contains(&s.set) || threads_get(memory, all, caller, s.what))
 }
 
-/// Whether the threads of a caller's set do nothing that is not told.
-fn is_caller_settled<P: Profile>(memory: &[PartMemory], all: &[MayStand], caller: &Caller) -> bool
-    ensures { result ≡ spec.is_caller_settled P.profile memory.now all.now caller.now }
+/// Whether a caller fills no sets but those that it is said to, and what it puts anywhere is told.
+fn puts_told<P: Profile>(memory: &[PartMemory], all: &[MayStand], caller: &Caller) -> bool
+    ensures { result ≡ private.puts_told P.profile memory.now all.now caller.now }
 {
     let (nodes, fills) = (caller.nodes.as_slice(), caller.fills.as_slice());
-    begins::<P>(memory, all, caller)
-        && ends_at_once::<P>(memory, all, caller)
-        && (are_ending::<P>(all, caller.set) || goes_on::<P>(memory, all, caller))
-        && lead_to::<P>(memory, all, nodes, fills)
+    lead_to::<P>(memory, all, nodes, fills)
         && lead_to::<P>(memory, all, fills, fills)
         && are_put(all, caller)
         && are_made(all, caller)
         && roots_set(memory, all, caller)
+}
+
+fn verdict_on<P: Profile>(memory: &[PartMemory], all: &[MayStand], caller: &Caller) -> Verdict
+    ensures { result ≡ private.verdict_on P.profile memory.now all.now caller.now }
+{
+    Verdict {
+        goes_on: goes_on::<P>(memory, all, caller),
+        puts_told: puts_told::<P>(memory, all, caller),
+    }
+}
+
+/// Whether the threads of a caller's set do nothing that is not told.
+fn is_caller_settled<P: Profile>(
+    memory: &[PartMemory],
+    all: &[MayStand],
+    caller: &Caller,
+    verdict: Verdict,
+) -> bool
+    requires { verdict ≡ private.verdict_on P.profile memory.now all.now caller.now }
+    ensures { result ≡ spec.is_caller_settled P.profile memory.now all.now caller.now }
+{
+    begins::<P>(memory, all, caller)
+        && ends_at_once::<P>(memory, all, caller)
+        && (are_ending::<P>(all, caller.set) || verdict.goes_on)
+        && verdict.puts_told
+}
+
+/// Whether another caller names and fills the same sets.
+fn is_alike(one: &Caller, other: &Caller) -> bool
+    ensures { result ≡ private.is_alike one.now other.now }
+{
+    one.names.as_slice() == other.names.as_slice()
+        && one.nodes.as_slice() == other.nodes.as_slice()
+        && one.fills.as_slice() == other.fills.as_slice()
+}
+
+fn first_alike(callers: &[Caller], caller: &Caller) -> Option<usize>
+    ensures { result ≡ position (private.is_alike caller.now) callers.now }
+{
+    callers.iter().position(|k| is_alike(caller, k))
+}
+
+/// What is said of a caller: what is known of the first one that is alike, if that was looked at.
+fn verdict_by<P: Profile>(
+    memory: &[PartMemory],
+    all: &[MayStand],
+    callers: &[Caller],
+    known: &[Verdict],
+    caller: &Caller,
+) -> Verdict
+    requires { (n : ℕ) × (known.now ≡ map (private.verdict_on P.profile memory.now all.now) (take n callers.now)) }
+    ensures { result ≡ private.verdict_on P.profile memory.now all.now caller.now }
+{
+    if let Some(place) = first_alike(callers, caller) {
+        if let Some(verdict) = known.get(place) {
+            return *verdict;
+        }
+    }
+    verdict_on::<P>(memory, all, caller)
+}
+
+/// Whether each caller is settled, in their order. Those that name and fill the same sets differ by their roots alone.
+fn settled_callers<P: Profile>(
+    alloc: Global,
+    memory: &[PartMemory],
+    all: &[MayStand],
+    callers: &[Caller],
+) -> Result<Vec<bool>, AllocError>
+    ensures { IfOk result (λ settled. settled.items ≡ map (spec.is_caller_settled P.profile memory.now all.now) callers.now) }
+{
+    let mut known = Vec::new(alloc);
+    let mut settled = Vec::new(alloc);
+    for caller in callers {
+        let verdict = verdict_by::<P>(memory, all, callers, known.as_slice(), caller);
+        known.push(verdict)?;
+        settled.push(is_caller_settled::<P>(memory, all, caller, verdict))?;
+    }
+    Ok(settled)
 }
 
 pub fn caller_of(callers: &[Caller], set: u64) -> Option<&Caller>
@@ -413,22 +496,11 @@ fn is_set_settled<P: Profile>(
 {
     match caller_of(callers, set) {
         None => false,
-        Some(caller) => is_caller_settled::<P>(memory, all, caller),
+        Some(caller) => {
+            let verdict = verdict_on::<P>(memory, all, caller);
+            is_caller_settled::<P>(memory, all, caller, verdict)
+        }
     }
-}
-
-fn are_all_settled<P: Profile>(
-    memory: &[PartMemory],
-    all: &[MayStand],
-    callers: &[Caller],
-    first: u64,
-    last: u64,
-) -> bool
-    ensures { result ≡ list_all (λ m. spec.misses_range first last m || spec.is_set_settled P.profile memory.now all.now (spec.caller_of callers.now m.part)) memory.now }
-{
-    memory.iter().all(|m| {
-        misses(m, first, last) || is_set_settled::<P>(memory, all, callers, m.part)
-    })
 }
 
 pub fn is_thread_settled<P: Profile>(flows: &Flows, thread: u64) -> bool
@@ -439,33 +511,77 @@ pub fn is_thread_settled<P: Profile>(flows: &Flows, thread: u64) -> bool
     is_set_settled::<P>(memory, all, flows.callers.as_slice(), set)
 }
 
-/// Whether the threads that something stands for are trusted, or do nothing that is not told.
-fn are_threads_settled<P: Profile>(flows: &Flows, what: Standing) -> bool
-    ensures { result ≡ spec.are_threads_settled P.profile flows.now.memory.items flows.now.standing.items flows.now.callers.items flows.now.trusted.items what }
+fn place_of(callers: &[Caller], set: u64) -> Option<usize>
+    ensures { result ≡ position (λ k. k.set == set) callers.now }
 {
-    let (memory, all) = (flows.memory.as_slice(), flows.standing.as_slice());
-    let callers = flows.callers.as_slice();
+    callers.iter().position(|k| k.set == set)
+}
+
+/// Whether the caller of a set is settled, by what is known of each caller.
+fn is_known_settled(callers: &[Caller], settled: &[bool], set: u64) -> bool
+    ensures { result ≡ private.is_known_settled callers.now settled.now set }
+{
+    match place_of(callers, set) {
+        None => false,
+        Some(place) => settled.get(place).copied().unwrap_or(false),
+    }
+}
+
+fn are_all_settled(
+    memory: &[PartMemory],
+    callers: &[Caller],
+    settled: &[bool],
+    first: u64,
+    last: u64,
+) -> bool
+    ensures { result ≡ list_all (λ m. spec.misses_range first last m || private.is_known_settled callers.now settled.now m.part) memory.now }
+{
+    memory.iter().all(|m| misses(m, first, last) || is_known_settled(callers, settled, m.part))
+}
+
+/// Whether the threads that something stands for are trusted, or do nothing that is not told.
+fn are_threads_settled(
+    memory: &[PartMemory],
+    callers: &[Caller],
+    settled: &[bool],
+    trusted: &[u64],
+    what: Standing,
+) -> bool
+    ensures { result ≡ private.are_threads_settled memory.now callers.now settled.now trusted.now what }
+{
     match what {
         Standing::Thread { base } => {
-            flows.trusted.as_slice().contains(&base) || is_thread_settled::<P>(flows, base)
+            trusted.contains(&base) || is_known_settled(callers, settled, set_at(memory, base))
         }
         Standing::Region { base, bits } => match last_of(Range { first: base, bits }) {
             None => false,
-            Some(last) => are_all_settled::<P>(memory, all, callers, base, last)
+            Some(last) => are_all_settled(memory, callers, settled, base, last)
                 && are_in_one(memory, base, last),
         },
         _ => true,
     }
 }
 
-fn is_settled<P: Profile>(flows: &Flows) -> bool
-    ensures { result ≡ spec.is_settled P.profile flows.now.memory.items flows.now.standing.items flows.now.callers.items flows.now.trusted.items }
+fn stand_settled(
+    memory: &[PartMemory],
+    callers: &[Caller],
+    settled: &[bool],
+    trusted: &[u64],
+    all: &[MayStand],
+) -> bool
+    ensures { result ≡ list_all (λ s. private.are_threads_settled memory.now callers.now settled.now trusted.now s.what) all.now }
 {
-    flows
-        .standing
-        .as_slice()
-        .iter()
-        .all(|s| are_threads_settled::<P>(flows, s.what))
+    all.iter().all(|s| are_threads_settled(memory, callers, settled, trusted, s.what))
+}
+
+/// Whether the threads that may stand anywhere are trusted, or do nothing that is not told. Each caller is tested once.
+fn is_settled<P: Profile>(alloc: Global, flows: &Flows) -> Result<bool, AllocError>
+    ensures { IfOk result (λ is. is ≡ spec.is_settled P.profile flows.now.memory.items flows.now.standing.items flows.now.callers.items flows.now.trusted.items) }
+{
+    let (memory, all) = (flows.memory.as_slice(), flows.standing.as_slice());
+    let (callers, trusted) = (flows.callers.as_slice(), flows.trusted.as_slice());
+    let settled = settled_callers::<P>(alloc, memory, all, callers)?;
+    Ok(stand_settled(memory, callers, settled.as_slice(), trusted, all))
 }
 
 /// Whether something stands for a capability.
@@ -576,5 +692,6 @@ pub fn is_flow<P: Profile, S: DerivationStore<P> + Drop, W: Waiters<P> + Drop>(
     ensures ever { IfOk result (λ is. is ≡ true → IsFlowEver P.profile (spec.flow_of_lists P.profile flows.now) kernel.now) }
 {
     let derivations = kernel.derivations(alloc)?;
-    Ok(is_settled::<P>(flows) && are_told::<P>(flows, derivations.as_slice()))
+    let settled = is_settled::<P>(alloc, flows)?;
+    Ok(settled && are_told::<P>(flows, derivations.as_slice()))
 }

@@ -7,7 +7,7 @@ use Rattle.slot_core.specs.Calls.{derivation_view}
 use Rattle.query_parts.proofs.Closed.{all_told}
 use Rattle.query_flow.specs.Listed as spec
 use Rattle.query_flow.proofs.Settled.{flow_ever}
-use Rattle.query_flow.proofs.listed.is_flow.Goals.{then-is_settled, else-is_settled}
+use Rattle.query_flow.proofs.listed.is_flow.Goals.{then-settled, else-settled}
 use Rattle.query_flow.proofs.listed.is_flow.Goals as goal
 
 pub returns : goal.returns
@@ -15,9 +15,9 @@ returns g c =
     let p = g.P.Profile.profile in
     let flows = c.args.flows.now in
     let v = c.args.kernel.now in
-    elim c.if-is_settled.branch [
-      | then-is_settled w ↦
-          let settled = sym c.is_settled.ensures ∙ w.if-is_settled.true in
+    elim c.if-settled.branch [
+      | then-settled w ↦
+          let settled = sym c.in_ok-settled.ensures ∙ w.if-settled.true in
           let told = sym (
           w.are_told.ensures
           ∙ ap (list_all (λ (d : Derivation). spec.is_entry_told p flows.memory.items flows.standing.items (derivation_view p d).0)) w.as_slice.ensures.value
@@ -27,8 +27,8 @@ returns g c =
             test = λ is. record { settled = settled; told = told ∙ is };
             ever = λ is. flow_ever p flows v settled (told ∙ is);
           }
-      | else-is_settled w ↦ record {
-        test = λ is. absurd (false≢true (sym w.if-is_settled.false ∙ sym w.result-is ∙ is));
-        ever = λ is. absurd (false≢true (sym w.if-is_settled.false ∙ sym w.result-is ∙ is));
+      | else-settled w ↦ record {
+        test = λ is. absurd (false≢true (sym w.if-settled.false ∙ sym w.result-is ∙ is));
+        ever = λ is. absurd (false≢true (sym w.if-settled.false ∙ sym w.result-is ∙ is));
       }
     ]
