@@ -1,11 +1,12 @@
 #!/usr/bin/env python3
 """groups_of_clients.py PROGRAM COUNT [SEED]: what `explore --ends` tells of COUNT random set-ups, beside what `explore` tells of them.
 
-A set-up has five threads, four clients and four endpoints, and its calls send and receive, in either profile; some words lead to no
-endpoint, and of some set-ups calls are made first. Which clients form a group is worked out here, from the calls, and from the threads
-that wait behind the first calls, as `check` tells them. Each call has the same answers by both reports, the same expectations are met,
-the ends of the groups make the ends of all, and some order of all clients ends stuck just where one of a group does. Where a call of
-another operation is left, all clients are one group, and both tell the same states.
+A set-up has five threads, four clients and four endpoints, of which two also have a capability with a badge, in either profile. Its
+calls send and receive, suspend and resume threads and cancel badged sends; some words lead to none of these objects, and of some
+set-ups calls are made first. Which clients form a group is worked out here, from the calls, and from the threads that wait behind the
+first calls, as `check` tells them. Each call has the same answers by both reports, the same expectations are met, the ends of the
+groups make the ends of all, and some order of all clients ends stuck just where one of a group does. Where a call of another operation
+is left, all clients are one group, and both tell the same states.
 
 In the end two set-ups whose clients form more than one group are compared with each other, and have to differ.
 """
@@ -23,7 +24,13 @@ from orders_one_by_one import run
 THREADS, ENDPOINTS, CLIENTS, MOST_CALLS = 5, 4, 4, 3
 FIRST_TCB = {"wide": 2048, "narrow": 1024}
 MESSAGES = ["send", "nbsend", "recv", "nbrecv"]
-EXPECTATIONS = ["waiting", "delivered", "dropped", "empty"]
+STOPS = ["suspend", "resume"]
+KEEPS = [*MESSAGES, *STOPS, "cancel_badged"]
+WEIGHTS = [4, 4, 4, 4, 1, 1, 2]
+EXPECTATIONS = ["done", "waiting", "delivered", "dropped", "empty"]
+ROOT, FIRST_THREAD, FIRST_ENDPOINT = 1, 2, 2 + THREADS
+# Copies with a badge, each by its slot, of the endpoints with these slots.
+BADGED = {FIRST_ENDPOINT + ENDPOINTS + n: FIRST_ENDPOINT + n for n in range(2)}
 GROUP = re.compile(r"(?m)^clients((?: \d+)+) states (\d+) ends (\d+) orders (\d+) stuck (\d+)$")
 WAITS = re.compile(r"(?m)^thread (\d+) (?:sending|receiving) (\d+)")
 
@@ -36,6 +43,21 @@ def text_of(profile, calls):
     return "".join(f"{line}\n" for line in lines)
 
 
+def call_drawn(draw, client, threads, endpoint):
+    """A call of a client, by the number of one of its threads, that mostly invokes an endpoint or one of these threads."""
+    op = draw.choices(KEEPS, WEIGHTS)[0]
+    slot = FIRST_ENDPOINT + endpoint
+    slot = draw.choice([slot, *(badged for badged, copied in BADGED.items() if copied == slot)])
+    call = {"client": client, "thread": draw.choice(threads), "op": op, "cap": slot}
+    if op in STOPS:
+        call["cap"] = FIRST_THREAD + draw.choice(threads)
+    if op == "cancel_badged":
+        call |= {"cap": ROOT, "index": slot}
+    if draw.random() < 0.1:
+        call["cap"] = draw.choice([FIRST_THREAD, FIRST_ENDPOINT, 14])
+    return call | ({"label": draw.randrange(4)} if "send" in op else {})
+
+
 def drawn(draw):
     """Calls of clients that mostly keep to an endpoint or two each, and how many of them are made first."""
     profile = draw.choice(["wide", "narrow"])
@@ -44,16 +66,16 @@ def drawn(draw):
         own = [draw.randrange(THREADS), *([draw.randrange(THREADS)] if draw.random() < 0.2 else [])]
         used = [draw.randrange(ENDPOINTS), *([draw.randrange(ENDPOINTS)] if draw.random() < 0.3 else [])]
         for _ in range(draw.randint(1, MOST_CALLS)):
-            op = draw.choice(MESSAGES)
-            slot = 2 + THREADS + draw.choice(used) if draw.random() < 0.9 else draw.choice([2, 14])
-            call = {"client": client, "thread": FIRST_TCB[profile] * (1 + draw.choice(own)), "op": op, "cap": slot}
-            call |= {"label": draw.randrange(4)} if "send" in op else {}
+            call = call_drawn(draw, client, own, draw.choice(used))
+            call["thread"] = FIRST_TCB[profile] * (1 + call["thread"])
             call |= {"expect": draw.choice(EXPECTATIONS)} if draw.random() < 0.4 else {}
             calls.append(call)
     draw.shuffle(calls)
     if draw.random() < 0.1:
-        calls.append({"client": 0, "thread": FIRST_TCB[profile], "op": "suspend", "cap": 3})
-    return profile, calls, draw.choice([0, 0, 0, 1, 2, 4])
+        calls.append({"client": 0, "thread": FIRST_TCB[profile], "op": "delete", "cap": ROOT, "index": 15})
+    mints = [{"thread": FIRST_TCB[profile], "op": "mint", "cap": ROOT, "index": slot, "src_index": copied, "word": slot}
+             for slot, copied in BADGED.items()]
+    return profile, mints + calls, len(mints) + draw.choice([0, 0, 0, 1, 2, 4])
 
 
 def joined(touched):
@@ -69,17 +91,21 @@ def joined(touched):
 def groups_of(program, profile, calls, first):
     """Which clients form a group, worked out from the calls that are left, and from who waits behind the first ones."""
     left = calls[first:]
-    if any(call["op"] not in MESSAGES for call in left):
+    if any(call["op"] not in KEEPS for call in left):
         return {tuple(range(CLIENTS))}
-    _, report = run(program, ["check", "-"], text_of(profile, calls[:first]) if first else text_of(profile, []))
+    _, report = run(program, ["check", "-"], text_of(profile, calls[:first]))
     waits = {int(thread): int(endpoint) for thread, endpoint in WAITS.findall(report)}
-    endpoints = [2 + THREADS + n for n in range(ENDPOINTS)]
+    endpoints = [FIRST_ENDPOINT + n for n in range(ENDPOINTS)]
     bases = {slot: base for slot, base in zip(endpoints, sorted({int(it) for it in re.findall(r"(?m)^endpoint (\d+)", report)}))}
+    bases |= {slot: bases[copied] for slot, copied in BADGED.items()}
+    tcbs = {FIRST_THREAD + n: FIRST_TCB[profile] * (1 + n) for n in range(THREADS)}
     touched = [set() for _ in range(CLIENTS)]
     for call in left:
-        thread = call["thread"]
-        touched[call["client"]] |= {("endpoint", waits[thread]) if thread in waits else ("thread", thread)}
-        touched[call["client"]] |= {("endpoint", bases[call["cap"]])} if call["cap"] in bases else set()
+        # An index names a slot where the word leads to the root CNode.
+        slots = [call["cap"], *([call["index"]] if call["op"] == "cancel_badged" and call["cap"] == ROOT else [])]
+        threads = [call["thread"], *([tcbs[call["cap"]]] if call["op"] in STOPS and call["cap"] in tcbs else [])]
+        touched[call["client"]] |= {("endpoint", waits[it]) if it in waits else ("thread", it) for it in threads}
+        touched[call["client"]] |= {("endpoint", bases[slot]) for slot in slots if slot in bases}
     replies = re.findall(r"(?m)^\d+ \d+ \w+: (\w+)", report)
     # The last call of a thread that was answered that it waits is the one that does.
     waiting = {call["thread"]: call["client"] for call, reply in zip(calls, replies) if reply == "waiting" and call["thread"] in waits}

@@ -1,9 +1,11 @@
 pub mod Lists
 pub mod Waits
 pub mod Alone
+pub mod Shown
+pub mod Live
 pub mod Fitting
 pub mod Sides
-pub mod Messages
+pub mod Effects
 pub mod Waiting
 pub mod Views
 pub mod Held
@@ -11,7 +13,6 @@ pub mod Agreement
 pub mod Unseen
 pub mod Parts
 pub mod Alike
-pub mod Shown
 pub mod Contents
 pub mod Touched
 pub mod Clients

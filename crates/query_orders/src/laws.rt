@@ -57,7 +57,7 @@ pub fn answers_that_compare_equal_are_the_same()
     ensures left { (a b : LeftCallOf) → ⟦<LeftCall as PartialEq>⟧.eq a b ≡ true → a ≡ b }
 {}
 
-/// Clients of different groups share no thread and no endpoint, and only send and receive. Of each order the part that the clients
+/// Clients of different groups share no thread and no endpoint, and change no capability. Of each order the part that the clients
 /// of one group make is an order of these clients by themselves: each of them can go on alike behind both, and is told the same.
 /// And orders of several groups can be made one behind the other.
 pub fn groups_do_not_see_each_other()

@@ -15,13 +15,14 @@ use Rattle.kernel_abstract.specs.Shown.{Shown, ThreadView}
 use Rattle.kernel_abstract.specs.Private.Effects.{Effect, effect_of, decoded_effect}
 use Rattle.query_orders.specs.declared.answer.WaitingCall.{WaitingCall}
 use Rattle.query_orders.specs.World.{call_of_client_at, next_client_call, one_more, next_place, is_wait, is_waiting, still_waits, waiting_call, waits_with, waits_after}
-use Rattle.query_orders.specs.Groups.{is_send_or_receive, endpoint_invoked}
+use Rattle.query_orders.specs.Groups.{keeps_capabilities, endpoint_invoked, endpoint_cancelled, thread_invoked}
 use Rattle.query_orders.proofs.NoLonger.{get-set_same, get-set_apart}
 use Rattle.query_orders.proofs.Apart.Lists.{filters_swap, filter_alike, each_both, each_weaker, each_filter, each_passes}
 use Rattle.query_orders.proofs.Apart.Waits.{put, waits_with_is, AreOrdered, ordered_filter, put_among, put_unseen}
+use Rattle.query_orders.proofs.Apart.Live.{IsOfReached, reached_with, tidy}
 use Rattle.query_orders.proofs.Apart.Fitting.{Fits, decoded_fits}
 use Rattle.query_orders.proofs.Apart.Sides.{SameOn, Stands, same_state}
-use Rattle.query_orders.proofs.Apart.Messages.{AlikeEffects, effects_alike, effects_kept}
+use Rattle.query_orders.proofs.Apart.Effects.{AlikeEffects, effects_alike, effects_kept}
 use Rattle.query_orders.proofs.Apart.Views.{View, view_with}
 use Rattle.query_orders.proofs.Apart.Held.{WaitsHold, each_after, with_waits}
 
@@ -54,11 +55,13 @@ more_grown before made client (Some m) e h c n is = elim (eqb_tells c client) as
 ]
 
 module _ (p : ProfileName) (own : List (List Call)) (f : Forest Entry) (before : List ℕ) (has on_thread on_endpoint : ℕ → Bool) where
-  -- a call of a client sends or receives, and what it touches stands on the client's side
+  -- a call of a client changes no capability, and what it touches stands on the client's side
   pub record IsOnSide (client : ℕ) (call : Call) : Type 0 where
-    pub message : is_send_or_receive call.op ≡ true
+    pub keeps : keeps_capabilities call.op ≡ true
     pub thread : on_thread call.thread ≡ has client
     pub endpoint : (e : ℕ) → endpoint_invoked p f call ≡ Some e → on_endpoint e ≡ has client
+    pub invoked : (t : ℕ) → thread_invoked p f call ≡ Some t → on_thread t ≡ has client
+    pub cancelled : (e : ℕ) → endpoint_cancelled p f call.thread call.op ≡ Some e → on_endpoint e ≡ has client
 
   -- so do all calls that are left
   abbrev pub AreOnSides : Type 0
@@ -67,6 +70,7 @@ module _ (p : ProfileName) (own : List (List Call)) (f : Forest Entry) (before :
   -- what holds of each world on the way
   pub record Holds (v : View) : Type 0 where
     pub forest : v.shows.derivations ≡ f
+    pub reached : IsOfReached p v.shows
     pub grown : (c n : ℕ) → slice_get v.made c ≡ Some n → next_place before c ≤ n
     pub stands : Stands on_thread on_endpoint v.shows
     pub sides : Each (λ (call : WaitingCall). on_thread call.thread ≡ has call.client) v.waits
@@ -88,8 +92,11 @@ module _ (p : ProfileName) (own : List (List Call)) (f : Forest Entry) (before :
       by None e is = absurd (let no : ◌≡◌ {A = Option Call} None (Some call) = is in cc)
       by (Some n) e is = on client n call (h.grown client n e) is
 
-  pub fits : (x : Shown) → x.derivations ≡ f → (client : ℕ) (call : Call) → IsOnSide client call → Fits on_endpoint (has client) (decoded_call p x call)
-  fits x forest client call on = decoded_fits on_endpoint (has client) p x call on.message (λ e is. on.endpoint e (ap (λ (g : Forest Entry). endpoint_invoked p g call) (sym forest) ∙ is))
+  pub fits : (x : Shown) → x.derivations ≡ f → (client : ℕ) (call : Call) → IsOnSide client call → Fits on_thread on_endpoint (has client) (decoded_call p x call)
+  fits x forest client call on =
+      decoded_fits on_thread on_endpoint (has client) p x call on.keeps (λ e is. on.endpoint e (ap (λ (g : Forest Entry). endpoint_invoked p g call) (sym forest) ∙ is))
+      (λ t is. on.invoked t (ap (λ (g : Forest Entry). thread_invoked p g call) (sym forest) ∙ is))
+      (λ e is. on.cancelled e (ap (λ (g : Forest Entry). endpoint_cancelled p g call.thread call.op) (sym forest) ∙ is))
 
   pub holds_with : AreOnSides → (v : View) → Holds v → (client : ℕ) (c : Option Call) → next_client_call own v.made client ≡ c → Holds (view_with p v client c)
   holds_with on v h client None is = h
@@ -97,9 +104,10 @@ module _ (p : ProfileName) (own : List (List Call)) (f : Forest Entry) (before :
       let s = next_on_side on v h client call is in
       let e = effect_of p v.shows call in
       let new = waiting_call call.thread client (next_place v.made client) in
-      let kept = effects_kept on_thread on_endpoint (has client) call.thread s.thread v.shows h.stands p (decoded_call p v.shows call) (fits v.shows h.forest client call s) in
+      let kept = effects_kept on_thread on_endpoint (has client) call.thread s.thread v.shows h.stands p (decoded_call p v.shows call) (fits v.shows h.forest client call s) (tidy p v.shows h.reached) in
       record {
         forest = kept.0 ∙ h.forest;
+        reached = reached_with p v.shows h.reached call;
         grown = more_grown (next_place before) v.made client (slice_get v.made client) refl h.grown;
         stands = kept.1;
         sides = each_after e.after v.waits new (λ (call : WaitingCall). on_thread call.thread ≡ has call.client) e.reply (λ _. s.thread)
@@ -157,7 +165,7 @@ module _ (p : ProfileName) (own : List (List Call)) (f : Forest Entry) (before :
     both =
         let r = decoded_call p v.shows call in
         let same = subst (λ b. SameOn on_thread on_endpoint b v.shows u.shows) (sym is) a.shows in
-        let alike = effects_alike on_thread on_endpoint (has client) call.thread on.thread v.shows u.shows same p r (fits v.shows hv.forest client call on) hv.stands in
+        let alike = effects_alike on_thread on_endpoint (has client) call.thread on.thread v.shows u.shows same p r (fits v.shows hv.forest client call on) hv.stands (tidy p v.shows hv.reached) (tidy p u.shows hu.reached) in
         let there = subst (λ q. AlikeEffects on_thread on_endpoint (has client) call.thread on.thread e (decoded_effect p u.shows call.thread q))
         (decoded_same v.shows u.shows call (hv.forest ∙ sym hu.forest) (a.shows.threads call.thread (on.thread ∙ is))) alike in
         (there.0, subst (λ b. SameOn on_thread on_endpoint b e.after d.after) is there.1)

@@ -6,7 +6,7 @@ use Rattle.kernel_abstract.specs.declared.call.Call.{Call}
 use Rattle.kernel_abstract.specs.State.{State, shown}
 use Rattle.kernel_abstract.specs.Reached.{IsReached}
 use Rattle.query_orders.specs.World.{World, start, world_after}
-use Rattle.query_orders.specs.Groups.{AreGroups, alone, has_other_calls, is_client_in, objects_of_client, share}
+use Rattle.query_orders.specs.Groups.{AreGroups, alone, capabilities_may_change, is_client_in, objects_of_client, share}
 use Rattle.query_orders.specs.Laws.{EachCanBeMade}
 use Rattle.query_orders.specs.Apart.{IsSeenAlike, HasPart, GoesOn}
 use Rattle.query_orders.proofs.Exploration.Steps.{world_reached}
@@ -33,31 +33,32 @@ module _ (p : ProfileName) (own : List (List Call)) (w : World) (groups : List �
   abbrev Part : List ℕ → Type 0
   Part order = EachCanBeMade p lone w (filter has order) × IsSeenAlike p own lone has (world_after p own w order) (world_after p lone w (filter has order))
 
-  -- ---- where all calls that are left send or receive
+  -- ---- where no call that is left changes a capability
 
-  module _ (messages : has_other_calls own w.made ≡ false) where
+  module _ (keep : capabilities_may_change own w.made ≡ false) where
     abbrev our_thread : ℕ → Bool
     our_thread = on_thread p own w groups group are
 
     abbrev our_endpoint : ℕ → Bool
     our_endpoint = on_endpoint p own w groups group are
 
-    hold : Hold p own (shown w.kernel).derivations w.made has our_thread our_endpoint (all_on_sides p own w groups group are messages) (view w)
+    hold : Hold p own (shown w.kernel).derivations w.made has our_thread our_endpoint (all_on_sides p own w groups group are keep) (view w)
     hold = record {
       forest = refl;
+      reached = record { state = w.kernel; reached = r; shows = refl };
       grown = λ c n is. (let at : unwrap_or (slice_get w.made c) 0 ≡ n = ap (λ (o : Option ℕ). unwrap_or o 0) is in omega (arith, at));
       stands = waiters_stand p own w groups group are r;
       sides = waits_on_sides p own w groups group are waits.1;
       waits = waits.0;
     }
 
-    agree : Agrees p own (shown w.kernel).derivations w.made has our_thread our_endpoint (all_on_sides p own w groups group are messages) (view w) (view w)
+    agree : Agrees p own (shown w.kernel).derivations w.made has our_thread our_endpoint (all_on_sides p own w groups group are keep) (view w) (view w)
     agree = record { made = λ c is. refl; waits = refl; shows = same_itself our_thread our_endpoint true (shown w.kernel) }
 
     parts_apart : (order : List ℕ) → EachCanBeMade p own w order → Part order
     parts_apart order each =
         let f = (shown w.kernel).derivations in
-        let sides = all_on_sides p own w groups group are messages in
+        let sides = all_on_sides p own w groups group are keep in
         let part = filter has order in
         let ours = each_passes has order in
         let of = part_of p own f w.made has our_thread our_endpoint sides order (view w) (view w) hold hold agree (made_from p own w order r each) in
@@ -76,7 +77,7 @@ module _ (p : ProfileName) (own : List (List Call)) (w : World) (groups : List �
     goes_apart : (order more : List ℕ) → EachCanBeMade p own w order → filter has order ≡ [] → EachCanBeMade p lone w more → Each (λ client. has client ≡ true) more → EachCanBeMade p own w (order ++ more)
     goes_apart order more each none alone_made ours =
         let f = (shown w.kernel).derivations in
-        let sides = all_on_sides p own w groups group are messages in
+        let sides = all_on_sides p own w groups group are keep in
         let made = made_from p own w order r each in
         let of = part_of p own f w.made has our_thread our_endpoint sides order (view w) (view w) hold hold agree made in
         let v = views_after p own (view w) order in
@@ -86,13 +87,13 @@ module _ (p : ProfileName) (own : List (List Call)) (w : World) (groups : List �
         let later = goes_on p own f w.made has our_thread our_endpoint sides more v (view w) (holds_through p own f w.made has our_thread our_endpoint sides (view w) order hold) hold unseen ours theirs in
         made_to p own w (order ++ more) r (made_append p own (view w) order more made later)
 
-  -- ---- where other calls are left: all clients are in one group
+  -- ---- where capabilities may change: all clients are in one group
 
-  module _ (others : has_other_calls own w.made ≡ true) where
+  module _ (change : capabilities_may_change own w.made ≡ true) where
     same_group : (client : ℕ) → client < length own → has client ≡ has 0
     same_group client lt =
         has_same p own w groups group are client 0 lt (omega (arith, lt))
-        (or_left (has_other_calls own w.made) (share (objects_of_client p own w client) (objects_of_client p own w 0)) others)
+        (or_left (capabilities_may_change own w.made) (share (objects_of_client p own w client) (objects_of_client p own w 0)) change)
 
     part_together : (order : List ℕ) → EachCanBeMade p own w order → (b : Bool) → has 0 ≡ b → Part order
     part_together order each true is =
@@ -122,23 +123,23 @@ module _ (p : ProfileName) (own : List (List Call)) (w : World) (groups : List �
         subst (λ (l : List ℕ). EachCanBeMade p own w (order ++ l)) (sym (no_order own w.made has nobody p w more alone_made ours))
         (subst (λ (l : List ℕ). EachCanBeMade p own w l) (sym (append-nil order)) each)
 
-  part_by : (b : Bool) → has_other_calls own w.made ≡ b → (order : List ℕ) → EachCanBeMade p own w order → Part order
-  part_by true others order each = part_together others order each (has 0) refl
-  part_by false messages order each = parts_apart messages order each
+  part_by : (b : Bool) → capabilities_may_change own w.made ≡ b → (order : List ℕ) → EachCanBeMade p own w order → Part order
+  part_by true change order each = part_together change order each (has 0) refl
+  part_by false keep order each = parts_apart keep order each
 
-  goes_by : (b : Bool) → has_other_calls own w.made ≡ b → (order more : List ℕ) → EachCanBeMade p own w order → filter has order ≡ [] → EachCanBeMade p lone w more → Each (λ client. has client ≡ true) more →
+  goes_by : (b : Bool) → capabilities_may_change own w.made ≡ b → (order more : List ℕ) → EachCanBeMade p own w order → filter has order ≡ [] → EachCanBeMade p lone w more → Each (λ client. has client ≡ true) more →
       EachCanBeMade p own w (order ++ more)
-  goes_by true others order more each none alone_made ours = goes_together others order more each none alone_made ours (has 0) refl
-  goes_by false messages order more each none alone_made ours = goes_apart messages order more each none alone_made ours
+  goes_by true change order more each none alone_made ours = goes_together change order more each none alone_made ours (has 0) refl
+  goes_by false keep order more each none alone_made ours = goes_apart keep order more each none alone_made ours
 
 -- ---- from the start on
 
 pub has_part : (p : ProfileName) (own : List (List Call)) (A : State) (first groups : List ℕ) (group : ℕ) (order : List ℕ) → HasPart p own A first groups group order
 has_part p own A first groups group order r are each =
     let w = world_after p own (start own A) first in
-    part_by p own w groups group are (world_reached p own (start own A) first r) (waits_of_first own p A first r) (has_other_calls own w.made) refl order each
+    part_by p own w groups group are (world_reached p own (start own A) first r) (waits_of_first own p A first r) (capabilities_may_change own w.made) refl order each
 
 pub goes_on_alone : (p : ProfileName) (own : List (List Call)) (A : State) (first groups : List ℕ) (group : ℕ) (order more : List ℕ) → GoesOn p own A first groups group order more
 goes_on_alone p own A first groups group order more r are each none alone_made ours =
     let w = world_after p own (start own A) first in
-    goes_by p own w groups group are (world_reached p own (start own A) first r) (waits_of_first own p A first r) (has_other_calls own w.made) refl order more each none alone_made ours
+    goes_by p own w groups group are (world_reached p own (start own A) first r) (waits_of_first own p A first r) (capabilities_may_change own w.made) refl order more each none alone_made ours

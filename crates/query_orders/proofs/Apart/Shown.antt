@@ -33,7 +33,7 @@ module _ (A : State) (inv : Invariant A) (e : ℕ) where
       (get_table (threads_of A.derivations) (thread_view A) thread.base ∙ ap (λ b. cond b (Some (thread_view A thread.base)) None) live)
       ∙ ap (λ (t : Instance). Some (state_of A t)) (sym same) ∙ ap (λ (s : ThreadState). Some s) is
 
-  none_waiting : list_any (λ k. e == k) (endpoints_of A.derivations) ≡ false → waiting_at (shown A) e ≡ []
+  pub none_waiting : list_any (λ k. e == k) (endpoints_of A.derivations) ≡ false → waiting_at (shown A) e ≡ []
   unfolding shown
   none_waiting dead =
       ap (λ (o : Option (List Waiter)). unwrap_or o []) (get_table (endpoints_of A.derivations) (λ base. waiters A (endpoint_at A base)) e

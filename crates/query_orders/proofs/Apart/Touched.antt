@@ -1,5 +1,5 @@
 -- What the clients of a group touch, no other client touches: it is the group's side.
-use Rattle.std.proofs.Common.{◌≡◌, ◌==◌, ◌&&◌, ℕ, ◌<◌, Bool, true, false, not, List, [], ◌∷◌, map, filter, length, drop, Option, None, Some, option_and_then, slice_get, unwrap_or, refl, ap, sym, subst, ◌∙◌, arith, eq-eqb}
+use Rattle.std.proofs.Common.{◌≡◌, ◌==◌, ◌&&◌, ℕ, ◌<◌, Bool, true, false, not, List, [], ◌∷◌, ◌++◌, map, filter, length, drop, Option, None, Some, option_and_then, slice_get, unwrap_or, refl, ap, sym, subst, ◌∙◌, arith, eq-eqb}
 use Rattle.std.specs.List.{Contains, flat_map, list_any, AllByRecursion as Each}
 use Rattle.std.proofs.lemmas.Bool.{false≢true}
 use Rattle.std.proofs.lemmas.Bool.Decides.{nat_tests}
@@ -20,7 +20,7 @@ use Rattle.query_orders.specs.declared.groups.objects.CallObject.{CallObject}
 use Rattle.query_orders.specs.declared.groups.objects.CallObject.TheVariants.{Thread, Endpoint}
 use Rattle.query_orders.specs.World.{World, next_place}
 use Rattle.query_orders.specs.Orders.{clients}
-use Rattle.query_orders.specs.Groups.{is_send_or_receive, endpoint_invoked, object_in, object_of, object_invoked, objects_of_call, calls_left, objects_of_client, is_same_object, share, has_other_calls, is_together, AreGroups, is_client_in}
+use Rattle.query_orders.specs.Groups.{keeps_capabilities, endpoint_invoked, endpoint_cancelled, thread_invoked, object_in, object_of, as_endpoint, as_thread, objects_of_call, calls_left, objects_of_client, is_same_object, share, capabilities_may_change, is_together, AreGroups, is_client_in}
 use Rattle.query_orders.proofs.Contained.{contains-below, contains-map, contains-filter, contains-flat_map, contains-head, contains-tail}
 use Rattle.query_orders.proofs.Apart.Lists.{each_weaker}
 use Rattle.query_orders.proofs.Apart.Contents.{both_true, true_parts, or_right, any_of, some_of, none_of, each_contained, contains_dropped, below_contained}
@@ -40,6 +40,9 @@ object_is (Endpoint a) (Thread b) h = absurd (false≢true h)
 object_itself : (x : CallObject) → is_same_object x x ≡ true
 object_itself (Thread a) = eq-eqb a a refl
 object_itself (Endpoint a) = eq-eqb a a refl
+
+endpoint_in : (e : ℕ) (o : Option ℕ) → o ≡ Some e → Contains (as_endpoint o) (Endpoint e)
+endpoint_in e o is = subst (λ (o : Option ℕ). Contains (as_endpoint o) (Endpoint e)) (sym is) (contains-head (Endpoint e) [] (Endpoint e) refl)
 
 module _ (p : ProfileName) (own : List (List Call)) (w : World) (groups : List ℕ) (group : ℕ) (are : AreGroups p own w groups) where
   abbrev has : ℕ → Bool
@@ -70,7 +73,7 @@ module _ (p : ProfileName) (own : List (List Call)) (w : World) (groups : List �
           let contains_there = subst (Contains (objects_of_client p own w other)) (sym (object_is x at.0 at.2)) at.1 in
           let sharing : share (objects_of_client p own w other) (objects_of_client p own w client) ≡ true =
           any_of (λ y. list_any (is_same_object y) (objects_of_client p own w client)) (objects_of_client p own w other) x contains_there there in
-          has_same other client below lt (or_right (has_other_calls own w.made) (share (objects_of_client p own w other) (objects_of_client p own w client)) sharing)
+          has_same other client below lt (or_right (capabilities_may_change own w.made) (share (objects_of_client p own w other) (objects_of_client p own w client)) sharing)
 
       none : has client ≡ false → (b : Bool) → is_ours x ≡ b → b ≡ false
       none is false e = refl
@@ -91,11 +94,11 @@ module _ (p : ProfileName) (own : List (List Call)) (w : World) (groups : List �
 
   -- ---- the calls that are left
 
-  module _ (messages : has_other_calls own w.made ≡ false) where
-    is_message_so : (client : ℕ) (call : Call) → client < length own → Contains (calls_left own w.made client) call → is_send_or_receive call.op ≡ true
-    is_message_so client call lt contains =
-        let of_client = none_of (λ client. list_any (λ (call : Call). not (is_send_or_receive call.op)) (calls_left own w.made client)) (clients own) client messages (contains-below (length own) client lt) in
-        not_false (is_send_or_receive call.op) (none_of (λ (call : Call). not (is_send_or_receive call.op)) (calls_left own w.made client) call of_client contains)
+  module _ (keep : capabilities_may_change own w.made ≡ false) where
+    keeps_so : (client : ℕ) (call : Call) → client < length own → Contains (calls_left own w.made client) call → keeps_capabilities call.op ≡ true
+    keeps_so client call lt contains =
+        let of_client = none_of (λ client. list_any (λ (call : Call). not (keeps_capabilities call.op)) (calls_left own w.made client)) (clients own) client keep (contains-below (length own) client lt) in
+        not_false (keeps_capabilities call.op) (none_of (λ (call : Call). not (keeps_capabilities call.op)) (calls_left own w.made client) call of_client contains)
       where
         not_false : (b : Bool) → not b ≡ false → b ≡ true
         not_false true h = refl
@@ -109,17 +112,31 @@ module _ (p : ProfileName) (own : List (List Call)) (w : World) (groups : List �
         (contains-flat_map (objects_of_call p (shown w.kernel)) (calls_left own w.made client) call x left at))
 
     left_on_side : (client : ℕ) (call : Call) → client < length own → Contains (calls_left own w.made client) call → IsOnSide p own (shown w.kernel).derivations w.made has on_thread on_endpoint client call
-    left_on_side client call lt left = record {
-      message = is_message_so client call lt left;
-      thread = (
-          let v = shown w.kernel in
-          call_touched client call (object_of v call.thread) lt left (contains-head (object_of v call.thread) (object_invoked (endpoint_invoked p v.derivations call)) (object_of v call.thread) refl));
-      endpoint = λ e is.
-          (let v = shown w.kernel in
-          call_touched client call (Endpoint e) lt left
-          (contains-tail (object_of v call.thread) (object_invoked (endpoint_invoked p v.derivations call)) (Endpoint e)
-          (subst (λ (o : Option ℕ). Contains (object_invoked o) (Endpoint e)) (sym is) (contains-head (Endpoint e) [] (Endpoint e) refl))));
-    }
+    left_on_side client call lt left =
+        let v = shown w.kernel in
+        let own_thread = object_of v call.thread in
+        let invoked = as_endpoint (endpoint_invoked p v.derivations call) in
+        let cancelled = as_endpoint (endpoint_cancelled p v.derivations call.thread call.op) in
+        let threads = as_thread v (thread_invoked p v.derivations call) in
+        let rest = invoked ++ (cancelled ++ threads) in
+        record {
+          keeps = keeps_so client call lt left;
+          thread = call_touched client call own_thread lt left (contains-head own_thread rest own_thread refl);
+          endpoint = λ e is.
+              (call_touched client call (Endpoint e) lt left
+              (contains-tail own_thread rest (Endpoint e) (Contains-append_left invoked (cancelled ++ threads) (Endpoint e) (endpoint_in e (endpoint_invoked p v.derivations call) is))));
+          cancelled = λ e is.
+              (call_touched client call (Endpoint e) lt left
+              (contains-tail own_thread rest (Endpoint e)
+              (Contains-append_right invoked (cancelled ++ threads) (Endpoint e)
+              (Contains-append_left cancelled threads (Endpoint e) (endpoint_in e (endpoint_cancelled p v.derivations call.thread call.op) is)))));
+          invoked = λ t is.
+              (call_touched client call (object_of v t) lt left
+              (contains-tail own_thread rest (object_of v t)
+              (Contains-append_right invoked (cancelled ++ threads) (object_of v t)
+              (Contains-append_right cancelled threads (object_of v t)
+              (subst (λ (o : Option ℕ). Contains (as_thread v o) (object_of v t)) (sym is) (contains-head (object_of v t) [] (object_of v t) refl))))));
+        }
 
     pub all_on_sides : AreOnSides p own (shown w.kernel).derivations w.made has on_thread on_endpoint
     all_on_sides client place call le at = by (slice_get own client) refl at

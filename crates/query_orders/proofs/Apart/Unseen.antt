@@ -15,8 +15,9 @@ use Rattle.query_orders.specs.declared.answer.WaitingCall.{WaitingCall}
 use Rattle.query_orders.specs.World.{next_place, is_ready, still_waits, waiting_call}
 use Rattle.query_orders.specs.Answers.{answered, replied, wait_ended}
 use Rattle.query_orders.proofs.Apart.Lists.{filters_swap, filter_alike, filter_whole, filter_only, each_both, each_weaker, each_filter}
+use Rattle.query_orders.proofs.Apart.Live.{tidy}
 use Rattle.query_orders.proofs.Apart.Sides.{SameOn, same_itself, same_state}
-use Rattle.query_orders.proofs.Apart.Messages.{effects_apart}
+use Rattle.query_orders.proofs.Apart.Effects.{effects_apart}
 use Rattle.query_orders.proofs.Apart.Views.{View, view_with, view_answers}
 use Rattle.query_orders.proofs.Apart.Agreement.{IsOnSide, Holds, Agree, fits, mine, mine_there, still_same, unseen_after, more_apart, both, place_is}
 
@@ -32,7 +33,7 @@ module _ (p : ProfileName) (own : List (List Call)) (f : Forest Entry) (before :
     -- a call leaves the other side of its client's as it is
     pub leaves : (side : Bool) → has client ≢ side → (u : Shown) → SameOn on_thread on_endpoint side v.shows u → SameOn on_thread on_endpoint side e.after u
     leaves side two u same =
-        effects_apart on_thread on_endpoint (has client) call.thread on.thread side two v.shows u same p (decoded_call p v.shows call) (fits p own f before has on_thread on_endpoint v.shows h.forest client call on) h.stands
+        effects_apart on_thread on_endpoint (has client) call.thread on.thread side two v.shows u same p (decoded_call p v.shows call) (fits p own f before has on_thread on_endpoint v.shows h.forest client call on) h.stands (tidy p v.shows h.reached)
 
     -- the calls of the other side still wait
     still_there : (side : Bool) → has client ≢ side → (c : WaitingCall) → on_thread c.thread ≡ side → still_waits v.shows c ≡ true → still_waits e.after c ≡ true

@@ -8,7 +8,7 @@ use Rattle.kernel_abstract.specs.State.{shown}
 use Rattle.query_orders.specs.declared.groups.objects.CallObject.{CallObject}
 use Rattle.query_orders.specs.World.{World}
 use Rattle.query_orders.specs.Orders.{numbers_below}
-use Rattle.query_orders.specs.Groups.{objects_of_client, share, has_other_calls, is_together, group_of_client, AreGroups}
+use Rattle.query_orders.specs.Groups.{objects_of_client, share, capabilities_may_change, is_together, group_of_client, AreGroups}
 use Rattle.query_orders.specs.Private.Grouping.{objects_by, touch_alike, AreGrouped}
 use Rattle.query_orders.proofs.Grouped.Lists.{length-below, group_below, mapped_below}
 
@@ -25,26 +25,26 @@ module _ (together : ℕ → ℕ → Bool) (n : ℕ) where
     here = λ y ly hx hy t. absurd (omega (arith, ly));
   }
 
-module _ (p : ProfileName) (own : List (List Call)) (w : World) (others : Bool) (objects : List (List CallObject)) (groups : List ℕ)
-    (others_are : others ≡ has_other_calls own w.made)
+module _ (p : ProfileName) (own : List (List Call)) (w : World) (may_change : Bool) (objects : List (List CallObject)) (groups : List ℕ)
+    (may_change_is : may_change ≡ capabilities_may_change own w.made)
     (objects_are : objects ≡ map (objects_by p own w.made w.waits (shown w.kernel)) (numbers_below (length own))) where
   told : (client : ℕ) → client < length own → unwrap_or (slice_get objects client) [] ≡ objects_of_client p own w client
   told client lt =
       ap (λ (l : List (List CallObject)). unwrap_or (slice_get l client) []) objects_are
       ∙ mapped_below (objects_by p own w.made w.waits (shown w.kernel)) (length own) client [] lt
 
-  same : (a b : ℕ) → a < length own → b < length own → touch_alike others objects a b ≡ is_together p own w a b
+  same : (a b : ℕ) → a < length own → b < length own → touch_alike may_change objects a b ≡ is_together p own w a b
   same a b ha hb =
-      ap (λ (o : Bool). o || share (unwrap_or (slice_get objects a) []) (unwrap_or (slice_get objects b) [])) others_are
-      ∙ ap (λ (l : List CallObject). has_other_calls own w.made || share l (unwrap_or (slice_get objects b) [])) (told a ha)
-      ∙ ap (λ (l : List CallObject). has_other_calls own w.made || share (objects_of_client p own w a) l) (told b hb)
+      ap (λ (o : Bool). o || share (unwrap_or (slice_get objects a) []) (unwrap_or (slice_get objects b) [])) may_change_is
+      ∙ ap (λ (l : List CallObject). capabilities_may_change own w.made || share l (unwrap_or (slice_get objects b) [])) (told a ha)
+      ∙ ap (λ (l : List CallObject). capabilities_may_change own w.made || share (objects_of_client p own w a) l) (told b hb)
 
-  pub groups_are : length groups ≡ length own → AreGrouped (touch_alike others objects) (length own) 0 groups → AreGroups p own w groups
+  pub groups_are : length groups ≡ length own → AreGrouped (touch_alike may_change objects) (length own) 0 groups → AreGroups p own w groups
   groups_are len g = record {
     each = len;
     together = λ a b ha hb t. g.before a b ha (omega (arith, len, ha)) (omega (arith, len, hb)) (same a b ha hb ∙ t);
     finest = λ other respects a b ha hb e.
-        (let h : (x y : ℕ) → x < length groups → y < length groups → touch_alike others objects x y ≡ true → other x ≡ other y = λ x y hx hy t.
+        (let h : (x y : ℕ) → x < length groups → y < length groups → touch_alike may_change objects x y ≡ true → other x ≡ other y = λ x y hx hy t.
         (let x_in : x < length own = omega (arith, len, hx) in
         let y_in : y < length own = omega (arith, len, hy) in
         respects x y x_in y_in (sym (same x y x_in y_in) ∙ t)) in

@@ -20,7 +20,7 @@ object_lists lists = map (λ (v : Vec CallObject). v.items) lists
 
 -- whether two clients touch one object, by what each touches, or capabilities may change
 abbrev pub touch_alike : Bool → List (List CallObject) → ℕ → ℕ → Bool
-touch_alike others objects a b = others || share (unwrap_or (slice_get objects a) []) (unwrap_or (slice_get objects b) [])
+touch_alike may_change objects a b = may_change || share (unwrap_or (slice_get objects a) []) (unwrap_or (slice_get objects b) [])
 
 -- the group that comes in a group's place, where all clients of one go to another
 abbrev pub regrouped : ℕ → ℕ → ℕ → ℕ

@@ -3,14 +3,16 @@ ghost use Rattle.std.specs.Prelude.{◌≡◌, ◌++◌, ◌==◌, ℕ, IfOk, On
 ghost use Rattle.std.specs.List.{flat_map, list_any};
 ghost use Rattle.kernel_abstract.specs.declared.call.Call.{Call as CallOf};
 ghost use Rattle.query_orders.specs.declared.answer.WaitingCall.{WaitingCall as WaitingCallOf};
-ghost use Rattle.query_orders.specs.Groups.{is_send_or_receive as is_message_op, object_of as object_of_thread, objects_of_call, calls_left as calls_left_of, is_same_object as are_same, share as share_one, has_other_calls as any_other_left};
+ghost use Rattle.query_orders.specs.Groups.{keeps_capabilities as op_keeps_capabilities, object_of as object_of_thread, objects_of_call, calls_left as calls_left_of, is_same_object as are_same, share as share_one, capabilities_may_change as may_change_by};
 ghost use Rattle.query_orders.specs.Nodes.{own_calls};
 ghost use Rattle.query_orders.specs.Orders.{numbers_below};
 ghost use Rattle.query_orders.specs.Private.Grouping.{objects_by, object_lists};
 
 use crate::WaitingCall;
 use crate::exploring::node::place_of;
-use crate::groups::objects::{CallObject, is_message, note_call_objects, object_of, same_object};
+use crate::groups::objects::{
+    CallObject, keeps_capabilities, note_call_objects, object_of, same_object,
+};
 use cap_core::Profile;
 use ipc_core::Waiters;
 use kernel_core::{Call, Kernel};
@@ -35,25 +37,25 @@ fn calls_left<'a>(calls: &'a [Vec<Call>], made: &[usize], client: usize) -> &'a 
     behind(own.as_slice(), place_of(made, client))
 }
 
-/// Whether some of the calls are no sends and no receives.
-fn has_other(calls: &[Call]) -> bool
-    ensures { result ≡ list_any (λ (call : CallOf). not (is_message_op call.op)) calls.now }
+/// Whether some of the calls may change a capability.
+fn some_may_change(calls: &[Call]) -> bool
+    ensures { result ≡ list_any (λ (call : CallOf). not (op_keeps_capabilities call.op)) calls.now }
 {
     for call in calls {
-        if !is_message(&call.op) {
+        if !keeps_capabilities(&call.op) {
             return true;
         }
     }
     false
 }
 
-/// Whether some call that is left is no send and no receive.
-pub fn has_other_calls(calls: &[Vec<Call>], made: &[usize]) -> bool
-    ensures { result ≡ any_other_left (own_calls calls.now) made.now }
+/// Whether some call that is left may change a capability.
+pub fn capabilities_may_change(calls: &[Vec<Call>], made: &[usize]) -> bool
+    ensures { result ≡ may_change_by (own_calls calls.now) made.now }
 {
     let mut any = false;
     for client in 0..calls.len() {
-        if has_other(calls_left(calls, made, client)) {
+        if some_may_change(calls_left(calls, made, client)) {
             any = true;
         }
     }

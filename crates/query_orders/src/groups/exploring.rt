@@ -67,7 +67,7 @@ fn explore_each<P: Profile, S: MakeStore<P> + DerivationStore<P>, W: MakeWaiters
 /// Explores the orders of each group's clients by themselves, from a kernel on. All orders begin with the next calls of the
 /// clients of `first`; behind them the clients of the group make the calls that they have left, and the others none. Two
 /// clients are of one group where calls that they have left then, or that wait, touch one thread or endpoint, and where both
-/// are of one with a third; all are of one where some call that is left is no send and no receive. For each group by itself,
+/// are of one with a third; all are of one where some call that is left may change a capability. For each group by itself,
 /// the limit is of the states, and `count` of the calls behind the first ones.
 ///
 /// # Errors

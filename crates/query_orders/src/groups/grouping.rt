@@ -8,7 +8,7 @@ ghost use Rattle.query_orders.specs.World.{World};
 ghost use Rattle.query_orders.specs.Private.Grouping.{object_lists, touch_alike, regrouped, AreGrouped};
 
 use crate::WaitingCall;
-use crate::groups::clients::{has_other_calls, objects_of_clients, share};
+use crate::groups::clients::{capabilities_may_change, objects_of_clients, share};
 use crate::groups::objects::CallObject;
 use cap_core::Profile;
 use ipc_core::Waiters;
@@ -64,39 +64,39 @@ fn join(groups: &mut [usize], a: usize, b: usize)
 }
 
 /// Whether two clients touch one object, or capabilities may change.
-fn are_together(others: bool, objects: &[Vec<CallObject>], a: usize, b: usize) -> bool
+fn are_together(may_change: bool, objects: &[Vec<CallObject>], a: usize, b: usize) -> bool
     requires a { a < length objects.now }
     requires b { b < length objects.now }
-    ensures { result ≡ touch_alike others (object_lists objects.now) a b }
+    ensures { result ≡ touch_alike may_change (object_lists objects.now) a b }
 {
-    others || share(objects[a].as_slice(), objects[b].as_slice())
+    may_change || share(objects[a].as_slice(), objects[b].as_slice())
 }
 
 /// Joins a client's group with those of all clients that touch what it does.
-fn join_client(groups: &mut [usize], others: bool, objects: &[Vec<CallObject>], a: usize)
+fn join_client(groups: &mut [usize], may_change: bool, objects: &[Vec<CallObject>], a: usize)
     requires length { length groups.old ≡ length objects.now }
     requires a { a < length objects.now }
-    ensures { AreGrouped (touch_alike others (object_lists objects.now)) a 0 groups.old → AreGrouped (touch_alike others (object_lists objects.now)) (a + 1) 0 groups.new }
+    ensures { AreGrouped (touch_alike may_change (object_lists objects.now)) a 0 groups.old → AreGrouped (touch_alike may_change (object_lists objects.now)) (a + 1) 0 groups.new }
 {
     for b in 0..objects.len() {
-        if are_together(others, objects, a, b) {
+        if are_together(may_change, objects, a, b) {
             join(groups, a, b);
         }
     }
 }
 
 /// Joins the groups of all clients that touch the same.
-fn join_all(groups: &mut [usize], others: bool, objects: &[Vec<CallObject>])
+fn join_all(groups: &mut [usize], may_change: bool, objects: &[Vec<CallObject>])
     requires { length groups.old ≡ length objects.now }
-    ensures { AreGrouped (touch_alike others (object_lists objects.now)) 0 0 groups.old → AreGrouped (touch_alike others (object_lists objects.now)) (length objects.now) 0 groups.new }
+    ensures { AreGrouped (touch_alike may_change (object_lists objects.now)) 0 0 groups.old → AreGrouped (touch_alike may_change (object_lists objects.now)) (length objects.now) 0 groups.new }
 {
     for a in 0..objects.len() {
-        join_client(groups, others, objects, a);
+        join_client(groups, may_change, objects, a);
     }
 }
 
 /// The group of each client, by its first client: the finest groups in which clients that touch one object are together, by
-/// the calls that they have left and by those that wait. Where some call that is left is no send and no receive, there is one
+/// the calls that they have left and by those that wait. Where some call that is left may change a capability, there is one
 /// group.
 pub fn groups_of<P: Profile, S: CapStore<P> + Drop, W: Waiters<P> + Drop>(
     alloc: Global,
@@ -108,9 +108,9 @@ pub fn groups_of<P: Profile, S: CapStore<P> + Drop, W: Waiters<P> + Drop>(
     ensures { IfOk result (λ groups. (w : World) → made.now ≡ w.made → waits.now ≡ w.waits → kernel.now ≡ shown w.kernel
         → AreGroups P.profile (own_calls calls.now) w groups.items) }
 {
-    let others = has_other_calls(calls, made);
+    let may_change = capabilities_may_change(calls, made);
     let objects = objects_of_clients(alloc, calls, kernel, made, waits)?;
     let mut groups = single(alloc, calls.len())?;
-    join_all(groups.as_mut_slice(), others, objects.as_slice());
+    join_all(groups.as_mut_slice(), may_change, objects.as_slice());
     Ok(groups)
 }

@@ -5,7 +5,7 @@ use Rattle.kernel_abstract.specs.Shown.{Shown}
 use Rattle.query_orders.specs.declared.answer.WaitingCall.{WaitingCall}
 use Rattle.query_orders.specs.declared.groups.objects.CallObject.{CallObject}
 use Rattle.kernel_abstract.specs.State.{shown}
-use Rattle.query_orders.specs.Groups.{has_other_calls, AreGroups}
+use Rattle.query_orders.specs.Groups.{capabilities_may_change, AreGroups}
 use Rattle.query_orders.specs.Nodes.{own_calls}
 use Rattle.query_orders.specs.Orders.{numbers_below}
 use Rattle.query_orders.specs.Private.Grouping.{objects_by, object_lists, touch_alike, AreGrouped}
@@ -18,7 +18,7 @@ returns g c w made waits kernel =
     let p = g.P.Profile.profile in
     let own = own_calls c.args.calls.now in
     let n = length c.args.calls.now in
-    let others = c.has_other_calls-others.result in
+    let may_change = c.capabilities_may_change-may_change.result in
     let lists = object_lists c.as_slice.result.now in
     let many : length own ≡ n = length-map c.args.calls.now _ in
     let objects_are : lists ≡ map (objects_by p own w.made w.waits (shown w.kernel)) (numbers_below (length own)) =
@@ -33,7 +33,7 @@ returns g c w made waits kernel =
     let begun : c.as_mut_slice.result.now ≡ numbers_below n = c.as_mut_slice.ensures.value ∙ c.in_ok-groups.ensures in
     let begun_many : length c.as_mut_slice.result.now ≡ n = ap (λ (l : List ℕ). length l) begun ∙ length-below n in
     let groups_many : length c.join_all.new.groups ≡ length own = omega (arith, begun_many, many) in
-    let done = c.join_all.ensures (subst (λ (l : List ℕ). AreGrouped (touch_alike others lists) 0 0 l) (sym begun) (single (touch_alike others lists) n)) in
+    let done = c.join_all.ensures (subst (λ (l : List ℕ). AreGrouped (touch_alike may_change lists) 0 0 l) (sym begun) (single (touch_alike may_change lists) n)) in
     subst (λ (l : List ℕ). AreGroups p own w l) (sym (with_items_is c.in_ok-groups.groups c.join_all.new.groups (omega arith)))
-    (groups_are p own w others lists c.join_all.new.groups (c.has_other_calls-others.ensures ∙ ap (has_other_calls own) made) objects_are groups_many
-    (subst (λ (k : ℕ). AreGrouped (touch_alike others lists) k 0 c.join_all.new.groups) lists_many done))
+    (groups_are p own w may_change lists c.join_all.new.groups (c.capabilities_may_change-may_change.ensures ∙ ap (capabilities_may_change own) made) objects_are groups_many
+    (subst (λ (k : ℕ). AreGrouped (touch_alike may_change lists) k 0 c.join_all.new.groups) lists_many done))

@@ -6,7 +6,7 @@ use Rattle.query_orders.proofs.groups.grouping.join_client.Goals.{then-are_toget
 
 pub loop-b-preserved : goal.loop-b-preserved
 loop-b-preserved c start =
-    let together = touch_alike c.args.others (object_lists c.args.objects.now) in
+    let together = touch_alike c.args.may_change (object_lists c.args.objects.now) in
     let a_in : c.args.a < length c.loop-b.groups = omega arith in
     let b_in : c.loop-b.b < length c.loop-b.groups = omega arith in
     let so_far = c.loop-b.invariant start in
@@ -19,6 +19,6 @@ loop-b-preserved c start =
 
 pub returns : goal.returns
 returns c start =
-    let together = touch_alike c.args.others (object_lists c.args.objects.now) in
+    let together = touch_alike c.args.may_change (object_lists c.args.objects.now) in
     let all : length c.loop-b.groups ≤ c.loop-b.b = omega arith in
     next_client together c.loop-b.groups c.args.a c.loop-b.b all (c.loop-b.invariant start)

@@ -3,5 +3,5 @@ use Rattle.query_orders.proofs.groups.grouping.join_client.Given as goal
 
 abbrev pub invariant-loop-b : goal.invariant-loop-b
 invariant-loop-b l =
-    AreGrouped (touch_alike l.others (object_lists l.objects)) l.a 0 l.fn.groups
-    → AreGrouped (touch_alike l.others (object_lists l.objects)) l.a l.b l.groups
+    AreGrouped (touch_alike l.may_change (object_lists l.objects)) l.a 0 l.fn.groups
+    → AreGrouped (touch_alike l.may_change (object_lists l.objects)) l.a l.b l.groups
