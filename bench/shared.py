@@ -29,6 +29,7 @@ READERS = [1, 2, 4, 8]
 
 REPEATS = 25
 LOOK_REPEATS = 5
+MOST_RUNS = 20
 LOOK_SECONDS = 2.0
 
 
@@ -74,12 +75,18 @@ def calls_for(program, readers):
     return calls
 
 
+def looked(program, calls, readers):
+    """A run in which a client looks. Where all calls are made before one does, there is another run."""
+    runs = (timed(program, "look", calls, readers) for _ in range(MOST_RUNS))
+    return next(run for run in runs if run[1])
+
+
 def look_rows():
     """The time of a look, of all clients together, and of the calls that are made meanwhile: the least of each."""
     for readers in READERS:
         for name, program in PROGRAMS.items():
             calls = calls_for(program, readers)
-            runs = [timed(program, "look", calls, readers) for _ in range(LOOK_REPEATS)]
+            runs = [looked(program, calls, readers) for _ in range(LOOK_REPEATS)]
             yield row("look", readers, name, min(seconds / looks for seconds, looks in runs))
             yield row("call beside looks", readers, name, min(runs)[0] / calls)
 
