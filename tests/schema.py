@@ -24,6 +24,7 @@ NAMES = "that a name is one of `names` is beyond a schema"
 BEYOND = {
     "byte_that_is_no_utf8": NO_TOML,
     "text_breaks_off": NO_TOML,
+    "no_toml.policy": NO_TOML,    # of tests/answers/policy_faults
     "boot_objects_outside": LAYOUT,
     "too_many_capabilities": LAYOUT,
     "untyped_near_the_greatest_word": LAYOUT,
