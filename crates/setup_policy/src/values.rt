@@ -1,17 +1,19 @@
 //! The values of a policy's keys.
+ghost use Rattle.std.specs.Prelude.{◌≡◌, IfOk, IsErr, Some, map, string_bytes};
+ghost use Rattle.std.specs.List.{list_all};
+ghost use Rattle.toml.specs.View.{view};
+ghost use Rattle.setup_policy.specs.Values as spec;
+
 use crate::fault::Fault;
 use crate::file::Word;
-use cap_core::Rights;
+use cap_core::{Rights, Wide};
+use setup_values::kinds::Word as SetupWord;
+use setup_values::{Kind, KnownNames};
 use std::alloc::{AllocError, AllocFailed, Global};
 use toml::Value;
 
 /// The most bytes of a group's name.
 const MOST_NAME_BYTES: usize = 40;
-
-/// The base of badges behind `0x`, and the most digits of one.
-const HEXADECIMAL: u32 = 16;
-
-const MOST_DIGITS: usize = 16;
 
 /// Why a value is not taken.
 #[derive(Drop)]
@@ -44,18 +46,24 @@ fn shown(alloc: Global, value: &Value) -> Result<String, AllocError> {
 }
 
 /// That a value is of another type, with what it has to be.
-fn wrong_type<T>(alloc: Global, what: &str, value: &Value, remedy: &str) -> Result<T, Bad> {
+fn wrong_type<T>(alloc: Global, what: &str, value: &Value, remedy: &str) -> Result<T, Bad>
+    ensures { IsErr result }
+{
     let shown = shown(alloc, value)?;
     let words = format!(in alloc; "the {what} {shown}; {remedy}")?;
     Err(Bad::Wrong(Fault::Type, words))
 }
 
-fn wrong_value<T>(words: String) -> Result<T, Bad> {
+fn wrong_value<T>(words: String) -> Result<T, Bad>
+    ensures { IsErr result }
+{
     Err(Bad::Wrong(Fault::Value, words))
 }
 
 /// The version of the form.
-pub fn version(alloc: Global, value: &Value) -> Result<(), Bad> {
+pub fn version(alloc: Global, value: &Value) -> Result<(), Bad>
+    ensures { IfOk result (λ _. spec.version_of (view value.now) ≡ Some 1) }
+{
     match value {
         Value::Integer(1) => Ok(()),
         Value::Integer(other) => wrong_value(format!(in alloc;
@@ -66,7 +74,9 @@ pub fn version(alloc: Global, value: &Value) -> Result<(), Bad> {
 }
 
 /// `true` or `false`.
-pub fn switch(alloc: Global, value: &Value) -> Result<bool, Bad> {
+pub fn switch(alloc: Global, value: &Value) -> Result<bool, Bad>
+    ensures { IfOk result (λ b. spec.switch_of (view value.now) ≡ Some b) }
+{
     match value {
         Value::Boolean(is_on) => Ok(*is_on),
         other => wrong_type(
@@ -79,10 +89,12 @@ pub fn switch(alloc: Global, value: &Value) -> Result<bool, Bad> {
 }
 
 /// A number of calls.
-pub fn number(alloc: Global, value: &Value) -> Result<Option<u64>, Bad> {
+pub fn number(alloc: Global, value: &Value) -> Result<u64, Bad>
+    ensures { IfOk result (λ n. spec.number_of (view value.now) ≡ Some n) }
+{
     match value {
         Value::Integer(number) => match u64::try_from(*number) {
-            Ok(number) => Ok(Some(number)),
+            Ok(number) => Ok(number),
             Err(_) => wrong_value(format!(in alloc;
                 "the value is {number}; it has to be a number from 0 on"
             )?),
@@ -91,16 +103,30 @@ pub fn number(alloc: Global, value: &Value) -> Result<Option<u64>, Bad> {
     }
 }
 
+fn is_name_byte(byte: u8) -> bool
+    ensures { result ≡ spec.is_name_byte byte }
+{
+    byte.is_ascii_alphanumeric() || byte == b'_' || byte == b'-'
+}
+
+fn has_name_bytes(text: &[u8]) -> bool
+    ensures { result ≡ list_all spec.is_name_byte text.now }
+{
+    text.iter().all(|byte| is_name_byte(*byte))
+}
+
 /// Whether a text may be a group's name.
-pub fn is_group_name(text: &str) -> bool {
+pub fn is_group_name(text: &str) -> bool
+    ensures { result ≡ spec.is_group_name text.now }
+{
     let bytes = text.as_bytes();
-    !bytes.is_empty()
-        && bytes.len() <= MOST_NAME_BYTES
-        && bytes.iter().all(|byte| byte.is_ascii_alphanumeric() || matches!(*byte, b'_' | b'-'))
+    bytes.len() >= 1 && bytes.len() <= MOST_NAME_BYTES && has_name_bytes(bytes)
 }
 
 /// The name of a group.
-pub fn group_name(alloc: Global, value: &Value) -> Result<String, Bad> {
+pub fn group_name(alloc: Global, value: &Value) -> Result<String, Bad>
+    ensures { IfOk result (λ s. spec.group_name_of (view value.now) ≡ Some (string_bytes s)) }
+{
     match value {
         Value::String(text) if is_group_name(text.as_str()) => {
             Ok(String::from_str(alloc, text.as_str())?)
@@ -112,21 +138,55 @@ pub fn group_name(alloc: Global, value: &Value) -> Result<String, Bad> {
     }
 }
 
+/// The number of a text of decimal digits; none of another text, nor where it is longer than a number may be.
+fn decimal(text: &[u8]) -> Option<u64>
+    ensures { result ≡ spec.decimal_after 0 text.now }
+{
+    let mut number = 0u64;
+    for byte in text {
+        if !byte.is_ascii_digit() {
+            return None;
+        }
+        let digit = u64::from(*byte - b'0');
+        match number.checked_mul(10) {
+            Some(tens) => match tens.checked_add(digit) {
+                Some(sum) => number = sum,
+                None => return None,
+            },
+            None => return None,
+        }
+    }
+    Some(number)
+}
+
+/// A text without the `@` before it.
+fn without_at(text: &str) -> &str
+    ensures { result.now ≡ spec.without_at text.now }
+{
+    match text.strip_prefix("@") {
+        Some(name) => name,
+        None => text,
+    }
+}
+
 /// A word for a thread, an endpoint or a region, from a text.
-pub fn word_in(alloc: Global, text: &str) -> Result<Word, Bad> {
-    let name = text.strip_prefix("@").unwrap_or(text);
+pub fn word_in(alloc: Global, text: &str) -> Result<Word, Bad>
+    ensures { IfOk result (λ w. spec.word_in text.now ≡ Some (spec.word_view w)) }
+{
+    let name = without_at(text);
     if name.is_empty() {
         return wrong_value(String::from_str(alloc, "the name is empty")?);
     }
-    let is_decimal = text.as_bytes().iter().all(u8::is_ascii_digit);
-    match text.parse::<u64>() {
-        Ok(number) if is_decimal => Ok(Word::Number(number)),
-        _ => Ok(Word::Name(String::from_str(alloc, name)?)),
+    match decimal(text.as_bytes()) {
+        Some(number) => Ok(Word::Number(number)),
+        None => Ok(Word::Name(String::from_str(alloc, name)?)),
     }
 }
 
 /// A word for a thread, an endpoint or a region.
-pub fn word(alloc: Global, value: &Value) -> Result<Word, Bad> {
+pub fn word(alloc: Global, value: &Value) -> Result<Word, Bad>
+    ensures { IfOk result (λ w. spec.word_of (view value.now) ≡ Some (spec.word_view w)) }
+{
     match value {
         Value::Integer(number) => match u64::try_from(*number) {
             Ok(number) => Ok(Word::Number(number)),
@@ -145,74 +205,92 @@ pub fn word(alloc: Global, value: &Value) -> Result<Word, Bad> {
 }
 
 /// The elements of a list.
-fn elements(alloc: Global, value: &Value) -> Result<&[Value], Bad> {
-    match value {
-        Value::Array(elements) => Ok(elements.as_slice()),
-        other => {
-            let shown = shown(alloc, other)?;
-            let words = format!(in alloc; "the value is {shown}; it has to be a list: [{shown}]")?;
-            Err(Bad::Wrong(Fault::Type, words))
-        }
+#[tactic(auto, using(setup_values::proofs::Loops::item_list_view))]
+fn elements(alloc: Global, value: &Value) -> Result<&[Value], Bad>
+    ensures { IfOk result (λ es. spec.elements_of (view value.now) ≡ Some (map view es.now)) }
+{
+    let Some(array) = value.as_array() else {
+        let shown = shown(alloc, value)?;
+        let words = format!(in alloc; "the value is {shown}; it has to be a list: [{shown}]")?;
+        return Err(Bad::Wrong(Fault::Type, words));
+    };
+    Ok(array.as_slice())
+}
+
+fn words_in(alloc: Global, elements: &[Value]) -> Result<Vec<Word>, Bad>
+    ensures { IfOk result (λ v. spec.all_of spec.word_of (map view elements.now) ≡ Some (map spec.word_view v.items)) }
+{
+    let mut read = Vec::new(alloc);
+    for element in elements {
+        let one = word(alloc, element)?;
+        read.push(one)?;
     }
+    Ok(read)
 }
 
 /// A list of words.
-pub fn words(alloc: Global, value: &Value) -> Result<Vec<Word>, Bad> {
-    let mut words = Vec::new(alloc);
-    for element in elements(alloc, value)? {
-        words.push(word(alloc, element)?)?;
+pub fn words(alloc: Global, value: &Value) -> Result<Vec<Word>, Bad>
+    ensures { IfOk result (λ v. spec.words_of (view value.now) ≡ Some (map spec.word_view v.items)) }
+{
+    let elements = elements(alloc, value)?;
+    words_in(alloc, elements)
+}
+
+fn group_names_in(alloc: Global, elements: &[Value]) -> Result<Vec<String>, Bad>
+    ensures { IfOk result (λ v. spec.all_of spec.group_name_of (map view elements.now) ≡ Some (map string_bytes v.items)) }
+{
+    let mut read = Vec::new(alloc);
+    for element in elements {
+        let one = group_name(alloc, element)?;
+        read.push(one)?;
     }
-    Ok(words)
+    Ok(read)
 }
 
 /// A list of names of groups.
-pub fn group_names(alloc: Global, value: &Value) -> Result<Vec<String>, Bad> {
-    let mut names = Vec::new(alloc);
-    for element in elements(alloc, value)? {
-        names.push(group_name(alloc, element)?)?;
-    }
-    Ok(names)
+pub fn group_names(alloc: Global, value: &Value) -> Result<Vec<String>, Bad>
+    ensures { IfOk result (λ v. spec.group_names_of (view value.now) ≡ Some (map string_bytes v.items)) }
+{
+    let elements = elements(alloc, value)?;
+    group_names_in(alloc, elements)
 }
 
-/// A badge from a number: 0 is none.
-fn badge_of(alloc: Global, number: u64) -> Result<u64, Bad> {
-    if number == 0 {
-        return wrong_value(String::from_str(
-            alloc,
-            "the badge is 0; who holds an endpoint without a badge may mint any: write badge = \"any\"",
-        )?);
-    }
-    Ok(number)
-}
-
-fn badge_in(alloc: Global, text: &str) -> Result<u64, Bad> {
-    if text == "any" {
-        return Ok(0);
-    }
-    let digits = text.strip_prefix("0x").unwrap_or("");
-    let is_short = digits.len() <= MOST_DIGITS && !digits.starts_with("+");
-    match u64::from_str_radix(digits, HEXADECIMAL) {
-        Ok(number) if is_short => badge_of(alloc, number),
-        _ => wrong_value(format!(in alloc; "the badge is \"{text}\"; write a number, or \"any\"")?),
-    }
-}
-
-/// A badge, 0 for any.
-pub fn badge(alloc: Global, value: &Value) -> Result<u64, Bad> {
+/// What is wrong with a badge.
+fn wrong_badge(alloc: Global, value: &Value) -> Result<u64, Bad>
+    ensures { IsErr result }
+{
     match value {
-        Value::String(text) => badge_in(alloc, text.as_str()),
-        Value::Integer(number) => match u64::try_from(*number) {
-            Ok(number) => badge_of(alloc, number),
-            Err(_) => wrong_value(format!(in alloc;
-                "the badge is {number}; it has to be a number from 1 to 2^64 - 1"
-            )?),
-        },
+        Value::String(text) => wrong_value(format!(in alloc;
+            "the badge is \"{text}\"; write a number, or \"any\""
+        )?),
+        Value::Integer(number) => wrong_value(format!(in alloc;
+            "the badge is {number}; it has to be a number from 1 to 2^64 - 1"
+        )?),
         other => wrong_type(alloc, "badge is", other, "write a number, or \"any\""),
     }
 }
 
+/// A badge, 0 for any.
+pub fn badge(alloc: Global, value: &Value) -> Result<u64, Bad>
+    ensures { IfOk result (λ n. spec.badge_of (view value.now) ≡ Some n) }
+{
+    if value.as_str() == Some("any") {
+        return Ok(0);
+    }
+    match SetupWord.read::<Wide>(&KnownNames::none(), value) {
+        Ok(0) => wrong_value(String::from_str(
+            alloc,
+            "the badge is 0; who holds an endpoint without a badge may mint any: write badge = \"any\"",
+        )?),
+        Ok(number) => Ok(number),
+        Err(_) => wrong_badge(alloc, value),
+    }
+}
+
 /// The rights with one more, by its letter; none where no right has it.
-fn with_letter(rights: Rights, letter: u8) -> Option<Rights> {
+fn with_letter(rights: Rights, letter: u8) -> Option<Rights>
+    ensures { result ≡ spec.with_letter rights letter }
+{
     let right = match letter {
         b'w' => Rights::WRITE,
         b'r' => Rights::READ,
@@ -225,7 +303,9 @@ fn with_letter(rights: Rights, letter: u8) -> Option<Rights> {
 }
 
 /// Rights, by their letters.
-pub fn rights(alloc: Global, value: &Value) -> Result<Rights, Bad> {
+pub fn rights(alloc: Global, value: &Value) -> Result<Rights, Bad>
+    ensures { IfOk result (λ r. spec.rights_of (view value.now) ≡ Some r) }
+{
     let Value::String(text) = value else {
         return wrong_type(
             alloc,
@@ -235,7 +315,8 @@ pub fn rights(alloc: Global, value: &Value) -> Result<Rights, Bad> {
         );
     };
     let mut rights = Rights(0);
-    for letter in text.as_bytes() {
+    let letters = text.as_bytes();
+    for letter in letters {
         match with_letter(rights, *letter) {
             Some(more) => rights = more,
             None => {
