@@ -1,4 +1,7 @@
 //! The words of a policy are given their meaning.
+ghost use Rattle.std.specs.Prelude.{◌≡◌, map, IfOk};
+ghost use Rattle.setup_policy.specs.Entries as spec;
+
 use crate::fault::{Fault, Place, Refusal, Spot};
 use crate::file::{GroupEntry, PolicyFile, UseEntry, WayEntry, Word};
 use crate::near::did_you_mean;
@@ -48,7 +51,10 @@ impl<P: Profile, S: CapStore<P> + Drop, W: Waiters<P> + Drop> Resolver<'_, P, S,
         policy: &mut Policy,
         key: &str,
         words: &[Word],
-    ) -> Result<Vec<Member>, Refusal> {
+    ) -> Result<Vec<Member>, Refusal>
+        ensures grant { policy.new.grant ≡ policy.old.grant }
+        ensures calls { policy.new.calls ≡ policy.old.calls }
+    {
         let mut trusted = Vec::new(self.alloc());
         let spot = Spot::Key(Place::Top, key);
         for word in words {
@@ -83,7 +89,10 @@ impl<P: Profile, S: CapStore<P> + Drop, W: Waiters<P> + Drop> Resolver<'_, P, S,
         word: &Word,
         actor: u64,
         place: Place,
-    ) -> Result<(), Refusal> {
+    ) -> Result<(), Refusal>
+        ensures grant { policy.new.grant ≡ policy.old.grant }
+        ensures calls { policy.new.calls ≡ policy.old.calls }
+    {
         let spot = table_spot(place, "threads");
         let thread = self.meant(Kind::Thread, word, spot)?.base;
         let mut members = policy.members.as_slice().iter();
@@ -109,7 +118,10 @@ impl<P: Profile, S: CapStore<P> + Drop, W: Waiters<P> + Drop> Resolver<'_, P, S,
         policy: &mut Policy,
         group: &GroupEntry,
         actor: u64,
-    ) -> Result<(), Refusal> {
+    ) -> Result<(), Refusal>
+        ensures grant { policy.new.grant ≡ policy.old.grant }
+        ensures calls { policy.new.calls ≡ policy.old.calls }
+    {
         for word in group.threads.as_slice() {
             self.add_member(policy, word, actor, group.place)?;
         }
@@ -162,7 +174,10 @@ impl<P: Profile, S: CapStore<P> + Drop, W: Waiters<P> + Drop> Resolver<'_, P, S,
         }
     }
 
-    fn add_way(&self, policy: &mut Policy, way: &WayEntry, n: usize) -> Result<(), Refusal> {
+    fn add_way(&self, policy: &mut Policy, way: &WayEntry, n: usize) -> Result<(), Refusal>
+        ensures grant { policy.new.grant ≡ policy.old.grant }
+        ensures calls { policy.new.calls ≡ policy.old.calls }
+    {
         let place = Place::Way(n);
         let from = self.actor(policy, way.from.as_str(), Spot::Key(place, "from"))?;
         let to = self.actor(policy, way.to.as_str(), Spot::Key(place, "to"))?;
@@ -178,7 +193,10 @@ impl<P: Profile, S: CapStore<P> + Drop, W: Waiters<P> + Drop> Resolver<'_, P, S,
         Ok(())
     }
 
-    fn add_use(&self, policy: &mut Policy, entry: &UseEntry, n: usize) -> Result<(), Refusal> {
+    fn add_use(&self, policy: &mut Policy, entry: &UseEntry, n: usize) -> Result<(), Refusal>
+        ensures grant { policy.new.grant ≡ policy.old.grant }
+        ensures calls { policy.new.calls ≡ policy.old.calls }
+    {
         let place = Place::Use(n);
         let actor = self.actor(policy, entry.group.as_str(), Spot::Key(place, "group"))?;
         let endpoint = self
@@ -193,7 +211,11 @@ impl<P: Profile, S: CapStore<P> + Drop, W: Waiters<P> + Drop> Resolver<'_, P, S,
         Ok(())
     }
 
-    fn add_entries(&self, policy: &mut Policy) -> Result<(), Refusal> {
+    fn add_entries(&self, policy: &mut Policy) -> Result<(), Refusal>
+        ensures allowances { IfOk result (λ _. policy.new.allowances.items ≡ spec.allowances_of policy.new.ways.items policy.new.uses.items) }
+        ensures grant { policy.new.grant ≡ policy.old.grant }
+        ensures calls { policy.new.calls ≡ policy.old.calls }
+    {
         for (i, way) in self.file.ways.as_slice().iter().enumerate() {
             self.add_way(policy, way, i.saturating_add(1))?;
         }
@@ -209,7 +231,10 @@ impl<P: Profile, S: CapStore<P> + Drop, W: Waiters<P> + Drop> Resolver<'_, P, S,
     }
 
     /// A policy with the numbers of the groups, and nothing else.
-    fn first_policy(&self) -> Result<Policy, AllocError> {
+    fn first_policy(&self) -> Result<Policy, AllocError>
+        ensures grant { IfOk result (λ v. v.grant ≡ self.now.file.now.grant) }
+        ensures calls { IfOk result (λ v. v.calls ≡ self.now.file.now.calls) }
+    {
         let alloc = self.alloc();
         let (mut actors, mut groups) = (Vec::new(alloc), Vec::new(alloc));
         for (i, group) in self.file.groups.as_slice().iter().enumerate() {
@@ -235,7 +260,11 @@ impl<P: Profile, S: CapStore<P> + Drop, W: Waiters<P> + Drop> Resolver<'_, P, S,
     ///
     /// # Errors
     /// `Memory`, or its first fault.
-    pub fn policy(&self) -> Result<Policy, Refusal> {
+    pub fn policy(&self) -> Result<Policy, Refusal>
+        ensures allowances { IfOk result (λ v. v.allowances.items ≡ spec.allowances_of v.ways.items v.uses.items) }
+        ensures grant { IfOk result (λ v. v.grant ≡ self.now.file.now.grant) }
+        ensures calls { IfOk result (λ v. v.calls ≡ self.now.file.now.calls) }
+    {
         let file = self.file;
         let mut policy = self.first_policy()?;
         policy.silent = self.add_trusted(&mut policy, "silent", file.silent.as_slice())?;
@@ -267,20 +296,42 @@ fn actor_of(policy: &Policy, actor: u64) -> &str {
     }
 }
 
+/// What a way lets its receiver hold: Read with any badge.
+fn receiver_entry(way: &PolicyWay) -> Allowance
+    ensures { result ≡ spec.receiver_entry way.now }
+{
+    Allowance {
+        actor: way.to,
+        endpoint: way.endpoint,
+        badge: 0,
+        rights: Rights::READ,
+    }
+}
+
+/// What ways let their senders hold.
+fn senders(alloc: Global, ways: &[PolicyWay]) -> Result<Vec<Allowance>, AllocError>
+    ensures { IfOk result (λ v. v.items ≡ map spec.sender_entry ways.now) }
+{
+    ways.iter().map(|way| sender_entry(way)).collect(alloc)
+}
+
+/// What ways let their receivers hold.
+fn receivers(alloc: Global, ways: &[PolicyWay]) -> Result<Vec<Allowance>, AllocError>
+    ensures { IfOk result (λ v. v.items ≡ map spec.receiver_entry ways.now) }
+{
+    ways.iter().map(|way| receiver_entry(way)).collect(alloc)
+}
+
 /// What ways and uses let groups hold: of each way its sender, and then its receiver, who may have Read with any badge.
 fn allowances(
     alloc: Global,
     ways: &[PolicyWay],
     uses: &[Allowance],
-) -> Result<Vec<Allowance>, AllocError> {
-    let mut all: Vec<Allowance> = ways.iter().map(|way| sender_entry(way)).collect(alloc)?;
-    let receivers = ways.iter().map(|way| Allowance {
-        actor: way.to,
-        endpoint: way.endpoint,
-        badge: 0,
-        rights: Rights::READ,
-    });
-    let receivers: Vec<Allowance> = receivers.collect(alloc)?;
+) -> Result<Vec<Allowance>, AllocError>
+    ensures { IfOk result (λ v. v.items ≡ spec.allowances_of ways.now uses.now) }
+{
+    let mut all = senders(alloc, ways)?;
+    let receivers = receivers(alloc, ways)?;
     all.extend_from_slice(receivers.as_slice())?;
     all.extend_from_slice(uses)?;
     Ok(all)
