@@ -198,6 +198,12 @@ impl<'a> Objects<'a> {
         largest
     }
 
+    /// Whether another region, of another size, begins where this one does.
+    fn is_one_of_several(self, region: Object) -> bool {
+        self.live.iter().any(|live| live.kind == Kind::Region && live.base == region.base
+            && live.bits != region.bits)
+    }
+
     /// What there is in place of an object that is not there.
     fn in_place(self, number: u64) -> Result<String, AllocError> {
         if self.is_slot(number) {
@@ -403,13 +409,31 @@ impl<'a, P: Profile, S: CapStore<P> + Drop, W: Waiters<P> + Drop> Meaning<'a, P,
         }
     }
 
-    /// The live object of a kind that a word means (`object_meant`); of a region by its address, the largest that begins there.
+    /// The region that a word means. An address at which several begin means none of them: the word has to say the size.
+    fn of_region(&self, word: &Word) -> Result<Object, Unmeant> {
+        let region = self.of_word(Kind::Region, word)?;
+        let alloc = self.objects.alloc;
+        let text = text_of_word(alloc, word)?;
+        let number = number_meant(self.objects.names, text.as_bytes());
+        let is_slot = number.is_some_and(|number| self.objects.is_slot(number));
+        if is_slot || !self.objects.is_one_of_several(region) {
+            return Ok(region);
+        }
+        let words = format!(in alloc;
+            "{word}: several untyped regions begin there; write the bits of one behind a stroke, as \"{word}/{}\"",
+            region.bits
+        )?;
+        Err(Unmeant::Words(words))
+    }
+
+    /// The live object of a kind that a word means (`object_meant`); of a region by its address, the one that begins there.
     pub fn meant(&self, kind: Kind, word: &Word) -> Result<Object, Unmeant> {
         match word {
             Word::Name(name) if kind == Kind::Region => match name.as_str().split_once('/') {
                 Some((first, bits)) => self.of_part(name.as_str(), first, bits),
-                None => self.of_word(kind, word),
+                None => self.of_region(word),
             },
+            Word::Number(_) if kind == Kind::Region => self.of_region(word),
             _ => self.of_word(kind, word),
         }
     }
