@@ -1,3 +1,4 @@
 pub mod Entries
 pub mod Files
+pub mod Meant
 pub mod Values

@@ -1,5 +1,8 @@
 //! Which object a word of a policy means, and what objects are called.
+ghost use Rattle.std.specs.Prelude.{◌≡◌, IfOk, IfSome, IsErr, string_bytes};
 ghost use Rattle.kernel_abstract.specs.Plan.{IsPlan, IsWithinLimits};
+ghost use Rattle.setup_values.specs.Names.{names_view};
+ghost use Rattle.setup_policy.specs.Meant as spec;
 
 use crate::file::Word;
 use crate::near::did_you_mean;
@@ -25,7 +28,9 @@ pub enum Kind {
 
 impl Kind {
     /// The kind that a word is asked to stand for; no word is asked for a CNode.
-    fn meant(self) -> Option<ObjectKind> {
+    fn meant(self) -> Option<ObjectKind>
+        ensures { result ≡ spec.kind_meant self }
+    {
         match self {
             Kind::Thread => Some(ObjectKind::Thread),
             Kind::Endpoint => Some(ObjectKind::Endpoint),
@@ -187,7 +192,9 @@ impl<'a> Objects<'a> {
     }
 
     /// The largest live object of a kind at an address.
-    fn at_address(self, kind: Kind, base: u64) -> Option<Object> {
+    fn at_address(self, kind: Kind, base: u64) -> Option<Object>
+        ensures { IfSome result (λ o. o.base ≡ base) }
+    {
         let mut largest: Option<Object> = None;
         for live in self.live {
             let is_larger = largest.is_none_or(|other| other.bits < live.bits);
@@ -221,14 +228,18 @@ impl<'a> Objects<'a> {
     }
 
     /// That a number means no object of a kind.
-    fn nothing_there<T>(self, kind: Kind, number: u64, text: &str) -> Result<T, Unmeant> {
+    fn nothing_there<T>(self, kind: Kind, number: u64, text: &str) -> Result<T, Unmeant>
+        ensures { IsErr result }
+    {
         let (what, more) = (kind.asked(), self.in_place(number)?);
         let words = format!(in self.alloc; "no {what} is live at {text}{more}")?;
         Err(Unmeant::Words(words))
     }
 
     /// That the set-up has no such name.
-    fn no_name<T>(self, name: &str) -> Result<T, Unmeant> {
+    fn no_name<T>(self, name: &str) -> Result<T, Unmeant>
+        ensures { IsErr result }
+    {
         let names = self.names.iter().map(|other| other.text.as_str());
         let names: Vec<&str> = names.collect(self.alloc)?;
         let question = did_you_mean(
@@ -242,7 +253,9 @@ impl<'a> Objects<'a> {
     }
 
     /// That a word, whose number this is, means no object of a kind.
-    fn unmeant<T>(self, kind: Kind, word: &Word, number: Option<u64>) -> Result<T, Unmeant> {
+    fn unmeant<T>(self, kind: Kind, word: &Word, number: Option<u64>) -> Result<T, Unmeant>
+        ensures { IsErr result }
+    {
         match (word, number) {
             (Word::Number(number), _) => {
                 let text = format!(in self.alloc; "{number}")?;
@@ -344,7 +357,9 @@ pub struct Meaning<'a, P: Profile, S: CapStore<P> + Drop, W: Waiters<P> + Drop> 
 }
 
 /// A word as it stands for a number: a name behind a `@`.
-fn text_of_word(alloc: Global, word: &Word) -> Result<String, AllocError> {
+fn text_of_word(alloc: Global, word: &Word) -> Result<String, AllocError>
+    ensures { IfOk result (λ text. string_bytes text ≡ spec.word_text word.now) }
+{
     match word {
         Word::Number(number) => format!(in alloc; "{number}"),
         Word::Name(name) => format!(in alloc; "@{name}"),
@@ -368,17 +383,22 @@ impl<'a, P: Profile, S: CapStore<P> + Drop, W: Waiters<P> + Drop> Meaning<'a, P,
     }
 
     /// The live object of a kind that a text means, whose number is given.
-    fn found(&self, kind: Kind, text: &str, number: u64) -> Option<Object> {
+    #[tactic(auto, using(crate::proofs::Meant::meant_there))]
+    fn found(&self, kind: Kind, text: &str, number: u64) -> Option<Object>
+        ensures { IfSome result (λ o. spec.IsMeant kind P.profile (names_view self.now.objects.names.now) self.now.setup.now.plan self.now.kernel.now text.now o.base) }
+    {
         let Objects { names, .. } = self.objects;
         let asked = kind.meant()?;
         let base = object_meant::<P, S, W>(names, self.setup, self.kernel, asked, text.as_bytes())?;
-        if kind == Kind::Region && self.objects.is_slot(number) {
+        if matches!(kind, Kind::Region) && self.objects.is_slot(number) {
             return self.objects.at_slot(number);
         }
         self.objects.at_address(kind, base)
     }
 
-    fn of_word(&self, kind: Kind, word: &Word) -> Result<Object, Unmeant> {
+    fn of_word(&self, kind: Kind, word: &Word) -> Result<Object, Unmeant>
+        ensures { IfOk result (λ o. spec.IsMeant kind P.profile (names_view self.now.objects.names.now) self.now.setup.now.plan self.now.kernel.now (spec.word_text word.now) o.base) }
+    {
         let text = text_of_word(self.objects.alloc, word)?;
         let number = number_meant(self.objects.names, text.as_bytes());
         let found = match number {
@@ -427,14 +447,23 @@ impl<'a, P: Profile, S: CapStore<P> + Drop, W: Waiters<P> + Drop> Meaning<'a, P,
     }
 
     /// The live object of a kind that a word means (`object_meant`); of a region by its address, the one that begins there.
-    pub fn meant(&self, kind: Kind, word: &Word) -> Result<Object, Unmeant> {
+    pub fn meant(&self, kind: Kind, word: &Word) -> Result<Object, Unmeant>
+        ensures { IfOk result (λ o. spec.IsMeant kind P.profile (names_view self.now.objects.names.now) self.now.setup.now.plan self.now.kernel.now (spec.word_text word.now) o.base) }
+    {
+        match kind {
+            Kind::Region => self.region_meant(word),
+            _ => self.of_word(kind, word),
+        }
+    }
+
+    /// The live region that a word means.
+    fn region_meant(&self, word: &Word) -> Result<Object, Unmeant> {
         match word {
-            Word::Name(name) if kind == Kind::Region => match name.as_str().split_once('/') {
+            Word::Name(name) => match name.as_str().split_once('/') {
                 Some((first, bits)) => self.of_part(name.as_str(), first, bits),
                 None => self.of_region(word),
             },
-            Word::Number(_) if kind == Kind::Region => self.of_region(word),
-            _ => self.of_word(kind, word),
+            Word::Number(_) => self.of_region(word),
         }
     }
 }

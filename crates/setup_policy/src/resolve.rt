@@ -1,5 +1,7 @@
 //! The words of a policy are given their meaning.
-ghost use Rattle.std.specs.Prelude.{◌≡◌, map, IfOk};
+ghost use Rattle.std.specs.Prelude.{◌≡◌, map, IfOk, IsErr};
+ghost use Rattle.setup_values.specs.Names.{names_view};
+ghost use Rattle.setup_policy.specs.Meant.{IsMeant, word_text};
 ghost use Rattle.setup_policy.specs.Entries as spec;
 
 use crate::fault::{Fault, Place, Refusal, Spot};
@@ -33,11 +35,15 @@ impl<P: Profile, S: CapStore<P> + Drop, W: Waiters<P> + Drop> Resolver<'_, P, S,
         self.meaning.objects.alloc
     }
 
-    fn fault<T>(&self, fault: Fault, spot: Spot<'_>, words: String) -> Result<T, Refusal> {
+    fn fault<T>(&self, fault: Fault, spot: Spot<'_>, words: String) -> Result<T, Refusal>
+        ensures { IsErr result }
+    {
         Err(Refusal::new(self.alloc(), self.text, fault, spot, words))
     }
 
-    fn meant(&self, kind: Kind, word: &Word, spot: Spot<'_>) -> Result<Object, Refusal> {
+    fn meant(&self, kind: Kind, word: &Word, spot: Spot<'_>) -> Result<Object, Refusal>
+        ensures { IfOk result (λ o. IsMeant kind P.profile (names_view self.now.meaning.objects.names.now) self.now.meaning.setup.now.plan self.now.meaning.kernel.now (word_text word.now) o.base) }
+    {
         match self.meaning.meant(kind, word) {
             Ok(object) => Ok(object),
             Err(Unmeant::Memory) => Err(Refusal::Memory),
