@@ -1,7 +1,7 @@
 # The targets of this repository; make help lists them. Each says first what it needs and does not find.
 .DEFAULT_GOAL := run
 
-.PHONY: help run dist dist-test install test try rows rows-needs rows-python browser browser-test page page-test needs bench wrong-bodies
+.PHONY: help run test prove gate dist dist-test install rows rows-needs rows-python browser browser-test page page-test needs bench wrong-bodies
 
 program = crates/sel4sim/out/sel4sim
 calls = crates/test_memory/out/test_memory
@@ -11,14 +11,29 @@ plain = bench/check_plain/out/target/release/check_plain
 given = crates/sel4sim/stdin
 stored = $(setups)/examples/send_then_receive.toml
 first_format = $(setups)/messages/receive_then_send.toml
+# So many set-ups have all their orders made one by one.
+orders = 100
 
 # lists the targets
 help:
 	@awk '/^# / { said = substr($$0, 3) } /^[a-z-]+:/ { if (said) printf "make %-13s %s\n", substr($$1, 1, index($$1, ":") - 1), said; said = "" } /^$$/ { said = "" }' Makefile
 
-# proves what the program stands on, builds it, and runs the stored set-up; goes on after an interrupt
+# compiles the program without its proofs and runs the stored set-up, or FILE=my.toml; DO=why .. for another command
 run:
+	@test -z "$$FILE" || test -e "$$FILE" || { echo "make run: there is no file $$FILE" >&2; exit 3; }
+	@python3 tools/unproved.py $(if $(FILE),$(or $(DO),check) "$$FILE",$(DO) < $(given))
+
+# every test, by programs compiled without their proofs
+test:
+	@python3 tools/tests.py
+
+# proves what the program stands on, builds it, and runs the stored set-up; goes on after an interrupt
+prove:
 	@python3 tools/prove.py < $(given)
+
+# every proof from nothing, wrong bodies that must be refused, all tests and programs
+gate:
+	@python3 tools/gate.py
 
 # packs the proved program with examples, pages, man page and completions into dist/
 dist:
@@ -32,20 +47,11 @@ dist-test:
 install:
 	@python3 tools/archive.py install
 
-# the gate: every proof from nothing, wrong bodies that must be refused, all tests and programs
-test:
-	@python3 tools/gate.py
-
-# runs FILE=my.toml by the program compiled without proofs; DO=why, DO=trace .. for another command
-try:
-	@test -z "$$FILE" || test -e "$$FILE" || { echo "make try: there is no file $$FILE" >&2; exit 3; }
-	@python3 tools/unproved.py $(if $(FILE),$(or $(DO),check) "$$FILE",$(DO) < $(given))
-
 rows-needs:
 	@python3 tests/needs.py
 
-# tests the built program from outside (tests/*.py), with all that this needs
-rows: rows-needs run
+# tests the proved program from outside (tests/*.py), with all that this needs
+rows: rows-needs prove
 	@$(MAKE) --no-print-directory rows-python
 	python3 tests/browser_page.py web/site/sel4sim.html
 	python3 tests/schema.py $(program) $(setups) crates/sel4sim/data web/page/test/setups tests
@@ -80,7 +86,7 @@ rows-python:
 	python3 tests/hows.py $(program) $(answers)/hows $(answers)/parts $(answers)/policies
 	python3 tests/revokes.py $(program) $(answers)/audits $(setups)
 	python3 tests/explore.py $(program) $(answers)/explorations
-	python3 tests/orders_one_by_one.py $(program) 100
+	python3 tests/orders_one_by_one.py $(program) $(orders)
 	python3 tests/groups_of_clients.py $(program) 60
 	python3 tests/new_set_ups.py $(program)
 	python3 tests/messages.py $(program)
@@ -99,27 +105,27 @@ rows-python:
 	python3 tests/documents.py $(dir $(program)) README.md CONTRIBUTING.md docs/*.md
 
 # makes web/site/sel4sim.html, the program as one page for any browser
-browser: run
+browser: prove
 	@python3 web/browser/build.py
 
 # tries that page in chromium and firefox; pictures=FOLDER keeps pictures of it
-browser-test: run
+browser-test: prove
 	python3 web/browser/test/browser_test.py $(program) $(setups) $(if $(pictures),--pictures $(pictures))
 
 # makes a page of the run of each example, in web/page/out/
-page: run
+page: prove
 	python3 web/page/join.py
 	web/page/pages.sh $(program) $(setups)/examples web/page/out
 
 # steps through these pages in chromium; traces=FOLDER: of other traces
-page-test: $(if $(traces),,run)
+page-test: $(if $(traces),,prove)
 	python3 web/page/test/page_test.py $(if $(traces),--traces $(traces),$(program) $(setups)/examples)
 
 needs:
 	bench/needs.sh
 
 # measures the program beside plain Rust and SPIN (docs/performance.md); PARTS="commands spin": these alone, to try them
-bench: needs run
+bench: needs prove
 	cd bench/check_plain && CARGO_TARGET_DIR=out/target cargo build --release --quiet
 	python3 bench/same_reports.py $(plain) $(setups)
 	python3 bench/growth.py $(program) $(plain) $(PARTS)

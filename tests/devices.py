@@ -81,6 +81,9 @@ def inputs_that_fail(runs, job, folder, stored):
     closed = reading(INPUT, "Bad file descriptor (os error 9)")
     runs.run("a closed standard input", job, closed, stdin=None, preexec_fn=lambda: os.close(0))
     runs.run("standard input that is open for writing alone", job, closed, stdin=open(f"{folder}/out", "wb"))
+    # To read what has no end takes a program compiled without its proofs ten seconds: one subcommand is enough.
+    if "SEL4SIM_UNPROVED" in os.environ and job != SUBCOMMANDS[0]:
+        return
     endless = reading(INPUT, TOO_LONG)
     runs.run("a file without an end", [*job, "/dev/zero"], reading("/dev/zero", TOO_LONG))
     runs.run("standard input without an end", job, endless, stdin=open("/dev/zero", "rb"))

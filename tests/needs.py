@@ -12,7 +12,7 @@ def needs(program):
     if sys.version_info < (3, 11):
         yield "Python 3.11 or later, for its module tomllib"
     if program and not os.access(program, os.X_OK):
-        yield f"{program} (make run builds it, and make test)"
+        yield f"{program} (make prove builds it, and make gate)"
     if not program and importlib.util.find_spec("jsonschema") is None:
         yield "the Python module jsonschema (apt-get install python3-jsonschema)"
     if not program and shutil.which("gcc") is None:

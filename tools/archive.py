@@ -1,10 +1,10 @@
 #!/usr/bin/env python3
 """archive.py dist|install: an archive of the proved program and what goes with it, or the same below a folder.
 
-dist     proves and builds the program as make run does, and writes dist/sel4sim-COMMIT-x86_64-linux.tar.gz. It
+dist     proves and builds the program as make prove does, and writes dist/sel4sim-COMMIT-x86_64-linux.tar.gz. It
          refuses a tree that differs from its commit, unless CHANGED=1 is set; the archive's name and its file PROVED
          then say so. The same program at the same commit gives the same bytes.
-install  copies the program that make run built to $DESTDIR$PREFIX; PREFIX is /usr/local where it is not set."""
+install  copies the program that make prove built to $DESTDIR$PREFIX; PREFIX is /usr/local where it is not set."""
 import gzip
 import hashlib
 import io
@@ -20,8 +20,8 @@ PROGRAM = "crates/sel4sim/out/sel4sim"
 PROVED = """sel4sim, commit {commit}{changed}
 of {when}
 
-This is the program as `make run` built it from {state}.
-`make run` builds it where all the crates that it stands on are proved, and else not at all.
+This is the program as `make prove` built it from {state}.
+`make prove` builds it where all the crates that it stands on are proved, and else not at all.
 Proved with: {toolchain}
 SHA-256 of bin/sel4sim: {sum}
 
@@ -128,7 +128,7 @@ def dist():
 def install(to):
     """Copies all to a folder. A file that is there is replaced as a whole, also where it is a program that runs."""
     if not prove.crate_of(prove.NAME).is_made():
-        raise Refused("there is no proved program: make run builds it")
+        raise Refused("there is no proved program: make prove builds it")
     for path, source in contents().items():
         there = os.path.join(to, path)
         os.makedirs(os.path.dirname(there), exist_ok=True)

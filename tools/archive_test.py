@@ -112,5 +112,5 @@ class ManPage(unittest.TestCase):
 
 if __name__ == "__main__":
     if not os.path.isfile(os.path.join(TOP, archive.PROGRAM)):
-        sys.exit("archive_test.py: there is no proved program: make run builds it")
+        sys.exit("archive_test.py: there is no proved program: make prove builds it")
     unittest.main()

@@ -45,3 +45,18 @@ def toolchain():
     """Returns what tells this toolchain from another one: the files beside the command `rt`, with sizes and times."""
     files = [(it.name, it.stat()) for it in os.scandir(os.path.join(kit(), "bin")) if it.is_file()]
     return repr(sorted((name, it.st_size, it.st_mtime_ns) for name, it in files)).encode()
+
+
+def linked_toolchain(folder, scripts, kept):
+    """Makes the toolchain's compiler in a folder, of links to its files, but for these scripts of its bin/, which know where
+    the `{real}` one is, and under which name what they keep is `{kept}`."""
+    real = os.path.join(kit(), "toolchain")
+    for at in ("", "bin"):
+        os.makedirs(os.path.join(folder, at), exist_ok=True)
+        for it in os.listdir(os.path.join(real, at)):
+            if it != "bin" and it not in scripts:
+                os.symlink(os.path.join(real, at, it), os.path.join(folder, at, it))
+    for name, text in scripts.items():
+        with open(os.path.join(folder, "bin", name), "w", encoding="utf-8") as file:
+            file.write(text.format(real=real, kept=kept))
+        os.chmod(os.path.join(folder, "bin", name), 0o755)

@@ -52,11 +52,35 @@ def rattle():
     return os.path.join(kit(), "bin", "rattle")
 
 
+COSTS = os.path.join(TOP, "tools", "seconds.txt")
+
+
 def costs():
     """Returns what each crate costs, in processor seconds."""
-    with open(os.path.join(TOP, "tools", "seconds.txt"), encoding="utf-8") as file:
+    with open(COSTS, encoding="utf-8") as file:
         rows = [line.split("#")[0].split() for line in file]
     return {row[0]: int(row[1]) for row in rows if row}
+
+
+def write_costs():
+    """Writes what each crate took where it was built here, and else what it cost before."""
+    known = costs()
+    for name in listed():
+        with contextlib.suppress(FileNotFoundError), open(os.path.join(OUT, f"{name}.seconds"), encoding="utf-8") as file:
+            known[name] = round(float(file.read()))
+    with open(COSTS, encoding="utf-8") as file:
+        head = [line for line in file if line.startswith("#")]
+    with open(COSTS, "w", encoding="utf-8") as file:
+        file.writelines([*head, *(f"{name} {known[name]}\n" for name in listed() if name in known)])
+
+
+def ended(tool):
+    """Returns the processor seconds that a command took, and notes its status, where it has ended; else None."""
+    number, status, used = os.wait4(tool.pid, os.WNOHANG)
+    if not number:
+        return None
+    tool.returncode = os.waitstatus_to_exitcode(status)
+    return used.ru_utime + used.ru_stime
 
 
 def files_of(folder):
@@ -153,7 +177,9 @@ class Crate:
             return file.read().split() == [self.sum_of_files(sums), self.sum_of_made()]
         return False
 
-    def note_built(self):
+    def note_built(self, seconds):
+        with open(os.path.join(OUT, f"{self.name}.seconds"), "w", encoding="utf-8") as file:
+            file.write(f"{seconds:.1f}")
         with open(self.noted, "w", encoding="utf-8") as file:
             file.write(f"{self.files} {self.sum_of_made()}")
 
@@ -173,9 +199,10 @@ class Build:
         self.crates = {it: crate_of(it) for it in self.names}
         self.places, self.lock, self.done, self.running, self.sums = places, lock, [], {}, {}
         known, self.ahead = costs(), {}
+        self.costs, self.known, self.took = {it: known.get(it, 30) for it in self.names}, 0, 0
         for it in reversed(self.names):
             above = [self.ahead[name] for name in self.names if name in self.ahead and it in uses[name]]
-            self.ahead[it] = known.get(it, 30) + max(above, default=0)
+            self.ahead[it] = self.costs[it] + max(above, default=0)
         self.waiting = sorted(self.names, key=lambda it: -self.ahead[it])
 
     def is_ready(self, name):
@@ -212,18 +239,27 @@ class Build:
 
     def take_ended(self):
         """Takes the crates whose command has ended, and returns the name and status of one that failed, if any did."""
-        for name, (tool, _, since) in list(self.running.items()):
-            if tool.poll() is None:
+        for name, (tool, jobs, since) in list(self.running.items()):
+            seconds, passed = ended(tool), time.time() - since
+            if seconds is None:
                 continue
             del self.running[name]
             crate = self.crates[name]
             status = tool.returncode or (crate.link() if crate.is_program else 0)
             if status:
                 return name, status
-            crate.note_built()
+            crate.note_built(seconds)
             self.end(name)
-            tell_plainly(f"{len(self.done)}/{len(self.names)} {name} {time.time() - since:.0f} s")
+            self.known, self.took = self.known + self.costs[name], self.took + jobs * passed
+            tell_plainly(f"{len(self.done)}/{len(self.names)} {name} {passed:.0f} s{self.left()}")
         return None
+
+    def left(self):
+        """Tells about how long the rest takes, by seconds.txt and by what this run took beside it: no less than the longest
+        chain."""
+        rest = [it for it in self.names if it not in self.done]
+        seconds = max(sum(self.costs[it] for it in rest) / self.places, max((self.ahead[it] for it in rest), default=0))
+        return f", about {seconds * self.took / self.known / 60:.0f} minutes left" if rest else ""
 
     def end_all(self):
         for tool, _, _ in self.running.values():
@@ -278,7 +314,7 @@ def tell_failure(name, status, log):
         lines = file.read().splitlines()
     print(*lines[-LINES_SHOWN:], sep="\n", file=sys.stderr)
     if status in (-9, 137, 247):
-        tell("it was killed, most likely for memory: try make -j1 run")
+        tell("it was killed, most likely for memory: try make -j1 prove")
     tell(f"{name} failed with status {status}; the lines above are the last of {log}")
 
 
@@ -303,6 +339,8 @@ def built(goal=NAME, with_goal=True):
 
 def main(words):
     """Proves and builds a crate, and runs a program on standard input. Returns the first status that is not 0."""
+    if words == ["--costs"]:
+        return write_costs()
     name = words[0] if words else NAME
     if name not in listed():
         tell(f"crates.txt has no crate {name}")
@@ -325,7 +363,7 @@ def status_of(work):
     try:
         return work()
     except KeyboardInterrupt:
-        tell("stopped; make run goes on from here")
+        tell("stopped; make prove goes on from here")
         return 130
 
 

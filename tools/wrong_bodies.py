@@ -4,11 +4,12 @@
 usage, anywhere in the repository:
   tools/wrong_bodies.py [CRATE [NAME..]]        all crates, one crate, or some of its edits by name
   tools/wrong_bodies.py --dry [CRATE [NAME..]]  proves nothing: is each edit's text there, and its clause?
+  tools/wrong_bodies.py --named                 those that tools/named-bodies.txt lists, behind the gate
   --jobs N    so many crates side by side (1)
   --room DIR  keeps the copies, with what was proved and what rt said, in DIR
 
 The checkout is not touched: each crate is tried in a copy, over the crates below it, which are proved and built first, as
-by make run. Edits stand in one check only where each is in a function of its own and none of these
+by make prove. Edits stand in one check only where each is in a function of its own and none of these
 functions calls another one. There an edit counts as refused only by a goal of its own function: callers are proved
 against contracts, so such a goal is false, or no longer proved, because of that edit alone. What has no such error is
 tried by itself, by the rule of `rt must-fail`: the crate is refused. CONTRIBUTING.md says more."""
@@ -379,26 +380,28 @@ def not_admitted(ran):
     return [it[:120] for it in errors if not GONE.search(it)]
 
 
-def try_crate(root, crate, names, rooms):
-    """Tries the edits of a crate in a copy."""
+def try_crate(root, crate, names, rooms, is_proved):
+    """Tries the edits of a crate in a copy. Where the crate is proved already, one check of several edits needs no check of the
+    crate itself: it goes by the edits' own goals."""
     tried = Tried(crate)
     edits = edits_of(f"{root}/crates/{crate}", names)
     tried.wrong += [f"{crate}/{it.name}: BAD EDIT: {it.bad}" for it in edits if it.bad]
     edits = [it for it in edits if not it.bad]
     tried.folder = make_room(root, crate, f"{rooms}/{crate}")
-    if check(tried, []).status != 0:
+    groups, alone = groups_of(edits)
+    is_one_check = len(groups) == 1 and len(groups[0]) > 1 and not alone
+    if not (is_proved and is_one_check) and check(tried, []).status != 0:
         tried.wrong.append(f"{crate}: not tried, since it is not proved itself")
         return tried
-    for name, where in refusals(tried, edits).items():
+    for name, where in refusals(tried, groups, alone).items():
         tried.counts[where] = tried.counts.get(where, 0) + 1
         if where.isupper():
             tried.wrong.append(f"{crate}/{name}: {where}")
     return tried
 
 
-def refusals(tried, edits):
+def refusals(tried, groups, alone):
     """Where each edit was refused, in as few checks as can tell."""
-    groups, alone = groups_of(edits)
     found = {}
     for group in groups:
         found |= try_group(tried, group) if len(group) > 1 else {group[0].name: try_alone(tried, group[0])}
@@ -408,7 +411,7 @@ def refusals(tried, edits):
 
 def dry(root, crates, names):
     """Says of each edit that cannot be applied, or whose first line names what is not there."""
-    edits = [(crate, it) for crate in crates for it in edits_of(f"{root}/crates/{crate}", names)]
+    edits = [(crate, it) for crate in crates for it in edits_of(f"{root}/crates/{crate}", names[crate])]
     bad = [f"{crate}/{it.name}: BAD EDIT: {it.bad}" for crate, it in edits if it.bad]
     print("\n".join([*bad, f"{len(edits)} edits, {len(bad)} of them bad"]))
     return 1 if bad else 0
@@ -427,6 +430,15 @@ def root_above():
     return folder
 
 
+def named_bodies(root):
+    """The crates that named-bodies.txt lists, with the names of edits."""
+    found = {}
+    for line in text_of(f"{root}/tools/named-bodies.txt").splitlines():
+        if line and not line.startswith("#"):
+            found.setdefault(line.split()[0], []).extend(line.split()[1:])
+    return found
+
+
 def chosen(root, crate):
     """The crates to be tried, in the order of crates.txt."""
     names = list(listed())
@@ -440,11 +452,14 @@ def main():
     parser = argparse.ArgumentParser(description="Tries the wrong bodies of the crates, in copies.")
     parser.add_argument("crate", nargs="?", default="", help="one crate; else all")
     parser.add_argument("names", nargs="*", help="some edits of it by name; else all")
+    parser.add_argument("--named", action="store_true", help="those that tools/named-bodies.txt lists")
     parser.add_argument("--dry", action="store_true", help="only look whether each edit can be applied")
     parser.add_argument("--jobs", type=int, default=1, help="crates side by side")
     parser.add_argument("--room", help="a folder for the copies, which is kept")
     asked, root = parser.parse_args(), root_above()
     crates = chosen(root, asked.crate)
+    asked.names = named_bodies(root) if asked.named else dict.fromkeys(crates, asked.names)
+    crates = [it for it in crates if it in asked.names]
     if asked.dry:
         return dry(root, crates, asked.names)
     rooms = asked.room or tempfile.mkdtemp(prefix="wrong-bodies-")
@@ -462,16 +477,19 @@ def try_all(root, crates, asked, rooms):
         if prove.built(crate, with_goal=False):
             sys.exit(f"{crate}: not tried, since a crate that it stands on is not proved")
     with concurrent.futures.ThreadPoolExecutor(max(1, asked.jobs)) as pool:
-        all_tried = [*pool.map(lambda it: tried_and_told(root, it, asked.names, rooms), crates)]
+        all_tried = [*pool.map(lambda it: tried_and_told(root, it, asked.names[it], rooms, asked.named), crates)]
     wrong = [line for it in all_tried for line in it.wrong]
+    tried = sum(sum(it.counts.values()) for it in all_tried)
+    wanted = sum(map(len, asked.names.values())) if asked.named else tried
+    wrong += [f"{wanted - tried} of the named bodies are not there or were not tried"] * (wanted != tried)
     edits, seconds = sum(sum(it.counts.values()) for it in all_tried), sum(it.seconds for it in all_tried)
     print("\n".join(wrong))
     print(f"{edits} wrong bodies tried, {len(wrong)} not refused or bad; {seconds:.0f} processor s")
     return 1 if wrong else 0
 
 
-def tried_and_told(root, crate, names, rooms):
-    tried = try_crate(root, crate, names, rooms)
+def tried_and_told(root, crate, names, rooms, is_proved):
+    tried = try_crate(root, crate, names, rooms, is_proved)
     tell(tried)
     return tried
 

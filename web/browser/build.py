@@ -62,7 +62,7 @@ def needs(is_draft):
     if shutil.which("wasm-opt") is None:
         yield "wasm-opt (apt-get install binaryen)"
     if not (TOP / "crates" / "sel4sim" / "out" / "sel4sim").is_file():
-        yield "the proved program (make run)"
+        yield "the proved program (make prove)"
 
 
 def output(*words):

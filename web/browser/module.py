@@ -1,7 +1,7 @@
 """Makes out/sel4sim.wasm: the proved program, compiled for WebAssembly from its own LLVM module.
 
 1. `rt` proves and builds the program once more, in a folder of its own and by a toolchain of links, whose clang also
-   keeps the module that it is given. So what is compiled here is what `make run` compiles.
+   keeps the module that it is given. So what is compiled here is what `make prove` compiles.
 2. retarget.py rewrites that module for 64-bit WebAssembly, and the toolchain's own clang compiles it. c/ stands for the
    C library.
 3. wasm-opt makes 32-bit memory of it, which every browser has.
@@ -18,7 +18,7 @@ import tempfile
 sys.path.insert(0, os.path.join(os.path.dirname(os.path.dirname(os.path.dirname(os.path.abspath(__file__)))), "tools"))
 
 import prove  # noqa: E402
-from crates import TOP, kit, toolchain  # noqa: E402
+from crates import TOP, kit, linked_toolchain, toolchain  # noqa: E402
 from retarget import NoCounterpart, retargeted  # noqa: E402
 
 HERE = os.path.join(TOP, "web", "browser")
@@ -35,7 +35,7 @@ TARGET = ["--target=wasm64-unknown-unknown", "-mbulk-memory", "-mno-simd128", "-
 BY_WORDS = ["-mllvm", "-expand-div-rem-bits=64", "-mllvm", "-expand-fp-convert-bits=64"]
 CLANG_THAT_KEEPS = """#!/bin/bash
 for word in "$@"; do case $word in *.bc) cp "$word" "{kept}";; esac; done
-exec -a "$(basename "$0")" "{clang}" "$@"
+exec -a "$(basename "$0")" "{real}/bin/clang" "$@"
 """
 
 
@@ -52,25 +52,10 @@ def run(words, **how):
     return ran.stdout
 
 
-def link_toolchain(folder, kept):
-    """Makes the toolchain's compiler in a folder, of links to its files but for a clang that also copies its module to
-    `kept`."""
-    real = os.path.join(kit(), "toolchain")
-    for at in ("", "bin"):
-        os.makedirs(os.path.join(folder, at), exist_ok=True)
-        for it in os.listdir(os.path.join(real, at)):
-            if it not in ("bin", "clang"):
-                os.symlink(os.path.join(real, at, it), os.path.join(folder, at, it))
-    there = os.path.join(folder, "bin", "clang")
-    with open(there, "w", encoding="utf-8") as file:
-        file.write(CLANG_THAT_KEEPS.format(kept=kept, clang=clang()))
-    os.chmod(there, 0o755)
-
-
 def module_of_program(folder):
     """Proves and builds the program over the libraries that are built, and returns its LLVM module as text."""
     kept, compiler = os.path.join(folder, "module.bc"), os.path.join(folder, "toolchain")
-    link_toolchain(compiler, kept)
+    linked_toolchain(compiler, {"clang": CLANG_THAT_KEEPS}, kept)
     program = prove.crate_of(NAME)
     run(program.command(1, to=os.path.join(folder, f"{NAME}.o"), compiler=compiler), cwd=program.folder)
     if not os.path.isfile(kept):

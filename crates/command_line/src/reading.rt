@@ -17,7 +17,7 @@ use std::alloc::{AllocError, Global};
 /// The first lines of the help, which tell the version.
 const ABOUT: &str = "\
 Simulates the capability part of the seL4 microkernel
-Proved with Rattle, logic dac8208d650f15bf; a build by make try is not proved";
+Proved with Rattle, logic dac8208d650f15bf; a build by make run is not proved";
 
 /// The last lines of the help.
 const AFTER_HELP: &str = "\
