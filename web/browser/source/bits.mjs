@@ -26,7 +26,7 @@ function failureIn(reason) {
 
 /** Bits as they are written; a long row of equal ones by its length. */
 function shortened(bits) {
-  return bits.replace(/0+|1+/gu, (row) => (row.length > MOST_ALIKE ? `${row[0]}×${row.length} ` : row)).trim();
+  return bits.replace(/0+|1+/gu, (row) => (row.length > MOST_ALIKE ? `${row[0]}…${row[0]}${""}` : row)).trim();
 }
 
 function drawPart(look, bits, words) {

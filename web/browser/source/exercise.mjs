@@ -93,8 +93,9 @@ export class Exercise {
   async ask(subcommand, text) {
     const { told, name, page } = this;
     const answer = await page.program.run([subcommand, name], name, new TextEncoder().encode(text));
-    if (told !== this.told) return null;
-    if (answer !== STOPPED && (answer.status === 0 || answer.status === 1)) return new TextDecoder().decode(answer.output);
+    // What was stopped, as by a second press of the same button, gives nothing away: the sheet stays.
+    if (told !== this.told || answer === STOPPED) return null;
+    if (answer.status === 0 || answer.status === 1) return new TextDecoder().decode(answer.output);
     this.close();
     page.run();
     return null;

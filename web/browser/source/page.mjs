@@ -580,7 +580,7 @@ class Page {
     try {
       if (fragment !== this.read) setup = await readFragment(fragment);
     } catch {
-      this.say("The address has a set-up that cannot be read: a part of it is missing.");
+      this.isBroken = true;
     }
     if (setup === null) return false;
     this.read = fragment;
@@ -613,6 +613,7 @@ class Page {
       this.openExample(...FIRST_EXAMPLE);
       byId("welcome").hidden = false;
     }
+    if (this.isBroken) this.say("The address has a set-up that cannot be read: a part of it is missing. What you see is another one.");
   }
 
   /** Shows the steps in the whole window, or the page again. */

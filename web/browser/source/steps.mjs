@@ -30,7 +30,8 @@ export class Steps {
   }
 
   tell(told) {
-    if (this.isLoaded && told) this.frame.contentWindow.postMessage(told, "*");
+    // Out of the page the frame has no window; it loads anew where it is put back, and is told then.
+    if (this.isLoaded && told) this.frame.contentWindow?.postMessage(told, "*");
   }
 
   /** Puts the focus on the list of calls, or where there is none in sight on the state. */

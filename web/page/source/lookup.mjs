@@ -113,3 +113,54 @@ export function slotsFrom(places, root) {
   walk(root, places.machine.wordBits);
   return [...found.values()];
 }
+
+/** The way of a word through CNodes: for each its guard and slot in bits, and where it ends, or null. */
+export function wayOf(state, machine, root, word, bits) {
+  const text = lowBits(word, bits).toString(2).padStart(bits, "0");
+  const parts = [];
+  let capability = root;
+  let at = 0;
+  let address = null;
+  while (at < bits) {
+    if (capability?.kind !== "cnode") return { parts: [...parts, { over: text.slice(at) }], address: null };
+    const { base, radix, guard, guardSize } = capability;
+    const wanted = guardSize === 0 ? "" : BigInt(guard).toString(2).padStart(guardSize, "0");
+    const found = text.slice(at, at + guardSize);
+    const isRight = found === wanted;
+    if (!isRight) return { parts: [...parts, { guard: found, wanted, base, isRight, unread: text.slice(at + guardSize) }], address: null };
+    at += guardSize;
+    const slotBits = text.slice(at, at + radix);
+    const isWhole = slotBits.length === radix;
+    const number = isWhole ? Number(BigInt(`0b${slotBits || "0"}`)) : -1;
+    parts.push({ guard: found, wanted, base, isRight, slot: { bits: slotBits, number, isWhole, needs: radix } });
+    if (!isWhole) return { parts, address: null };
+    at += radix;
+    address = base + (number << machine.slotBits);
+    capability = state.slot.get(address)?.capability;
+    // What is left of a word that names a capability to invoke is ignored where no CNode follows.
+    if (bits === machine.wordBits && capability?.kind !== "cnode") break;
+  }
+  return { parts, address };
+}
+
+/** The ways of the words that a call names, in the state before it. */
+export function waysOf(state, machine, step) {
+  const { cap, root, index, depth, src_root: sourceRoot, src_index: sourceIndex, src_depth: sourceDepth } = step.words;
+  if (cap === undefined) return [];
+  const space = state.thread.has(Number(step.thread)) ? state.slot.get(Number(step.thread))?.capability : undefined;
+  const at = (address) => state.slot.get(address)?.capability;
+  const ways = [];
+  const add = (name, start, word, bits) => {
+    const way = wayOf(state, machine, start, word, bits);
+    ways.push({ name, word, ...way });
+    return at(way.address);
+  };
+  const invoked = add("cap", space, cap, machine.wordBits);
+  if (root !== undefined) add("root", space, root, machine.wordBits);
+  if (sourceIndex !== undefined) {
+    const from = add("src_root", space, sourceRoot, machine.wordBits);
+    if (from?.kind === "cnode") add("src_index", from, sourceIndex, Number(sourceDepth));
+  }
+  if (step.operation !== "retype" && index !== undefined && invoked?.kind === "cnode") add("index", invoked, index, Number(depth));
+  return ways;
+}

@@ -63,6 +63,17 @@ export function slotName(view, address) {
   return element("b", { class: "code", title: `slot at address ${address}` }, name);
 }
 
+const MOST_BITS = 12;
+
+/** A guard in bits, or a long one by its value and size. */
+const inBits = (guard, size) => (size <= MOST_BITS ? BigInt(guard).toString(2).padStart(Number(size), "0") : `${guard} in ${size} bits`);
+
+/** The name of a slot of the root CNode behind a space, where the set-up has one for its number. */
+export function nameOfSlot(view, address) {
+  const node = view.before.nodeAround(address) ?? view.after.nodeAround(address);
+  return node?.base === 0 ? nameOfWord(view, address >> view.trace.machine.slotBits, address) : null;
+}
+
 /** What is said of a capability behind its object: a CNode's slots are left out in a short text, and its guard where
     it is the usual one. */
 function detailsOf(capability, machine, short) {
@@ -72,7 +83,7 @@ function detailsOf(capability, machine, short) {
   if (kind === "tcb") return "";
   // A guard of all bits above the radix makes a CNode of one level; it is the usual one, and is not told.
   const guarded = guardSize > 0 && guardSize + radix !== machine.wordBits || guard !== "0";
-  return [short ? "" : `${slots} slots`, guarded ? `guard ${guard}/${guardSize} bits` : ""].filter(Boolean).join(" ");
+  return [short ? "" : `${slots} slots`, guarded ? `guard ${inBits(guard, guardSize)}` : ""].filter(Boolean).join(" ");
 }
 
 /** All that tells a capability from others of its object. */

@@ -137,7 +137,7 @@ export function drawSpaces(view, wanted, choose) {
   const { threads, chosen } = chooseThread(view, wanted);
   const words = chosen === undefined ? new Map() : wordsOfThread(view.after, chosen);
   const bits = view.after.audit ? "" : " (“/9”: its first 9 bits alone count)";
-  const remark = `“→ n” is a word that names the slot in a call${bits}; dotted: no word of this thread leads there. `
+  const remark = `“→ n” is a word that names the slot in a call${bits}; dashed: no word of this thread leads there, though an index with a depth may. `
     + sourceOf(view.after);
   return [heading("Capability spaces", "as seen by thread ", drawChoice(view, threads, chosen, choose)),
     element("p", { class: "dim" }, remark),

@@ -2,7 +2,7 @@
 import { NOTHING, changesOf } from "./changes.mjs";
 import { Places } from "./places.mjs";
 import { Run } from "./state.mjs";
-import { namedSlots } from "./lookup.mjs";
+import { namedSlots, waysOf } from "./lookup.mjs";
 
 const ROLES = ["invoked", "root", "source", "target"];
 
@@ -28,9 +28,10 @@ export class Views {
     const step = trace.steps[number];
     const before = this.placesBehind(number - 1);
     const named = number === 0 ? {} : namedSlots(run.state, trace.machine, step);
+    const ways = number === 0 ? [] : waysOf(run.state, trace.machine, step);
     const held = Object.fromEntries(ROLES.map((role) => [role, run.state.slot.get(named[role])?.capability]));
     const ring = new Set([named.invoked, named.source, named.target]);
-    return { trace, step, before, named, held, isNamed: (address) => ring.has(address) };
+    return { trace, step, before, named, held, ways, isNamed: (address) => ring.has(address) };
   }
 
   /** A step with its effect. */
