@@ -54,7 +54,7 @@ rows-needs:
 rows: rows-needs prove
 	@$(MAKE) --no-print-directory rows-python
 	python3 tests/browser_page.py web/site/sel4sim.html
-	python3 tests/schema.py $(program) $(setups) crates/sel4sim/data web/page/test/setups tests
+	python3 tests/schema.py $(program) $(setups) web/page/test/setups tests
 	python3 tools/prove.py test_memory
 	python3 tests/refuse_memory.py $(program) $(calls) $(stored) $(first_format)
 	python3 tests/fail_each_transfer.py $(program) $(stored)
