@@ -13,12 +13,12 @@ use crate::state::audit_of_slot;
 use cap_core::Profile;
 use command_check::{Behind, Command, OnState, StateCommand};
 use command_core::{Answer, Verdict};
-use ipc_core::MakeWaiters;
+use ipc_core::{MakeWaiters, SaveWaiters};
 use kernel_core::Kernel;
 use setup_format::{ReadSetup, Setup};
 use setup_report::{Naming, absent_slot, slot_meant};
 use setup_values::Name;
-use slot_core::{DerivationStore, MakeStore};
+use slot_core::{DerivationStore, MakeStore, SaveStore};
 use std::alloc::{AllocError, Global};
 
 /// The audit of a slot, by addresses or by the names of objects, where it is full.
@@ -111,7 +111,7 @@ impl Command for SlotAudit<'_> {
 
     ghost answers = { λ audit. IsSlotAudited audit.slot.now audit.names audit.after };
 
-    fn answer<P: Profile, S: MakeStore<P> + DerivationStore<P>, W: MakeWaiters<P>>(
+    fn answer<P: Profile, S: SaveStore<P> + DerivationStore<P>, W: SaveWaiters<P>>(
         &self,
         alloc: Global,
         read: &ReadSetup,

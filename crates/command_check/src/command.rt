@@ -6,9 +6,9 @@ ghost use Rattle.setup_format.specs.Read.{read_view};
 use crate::run::refused;
 use cap_core::{Narrow, Profile, ProfileName, Wide};
 use command_core::{Answer, Engine, RunFault};
-use ipc_core::{LinkedWaiters, MakeWaiters};
+use ipc_core::{LinkedWaiters, SaveWaiters};
 use setup_format::{ReadSetup, SetupFault, read};
-use slot_core::{DerivationStore, LinkedStore, MakeStore};
+use slot_core::{DerivationStore, LinkedStore, SaveStore};
 use std::alloc::{AllocError, Global};
 
 /// What is written of a set-up.
@@ -27,7 +27,7 @@ pub trait Command {
     /// # Errors
     ///
     /// Memory was refused.
-    fn answer<P: Profile, S: MakeStore<P> + DerivationStore<P>, W: MakeWaiters<P>>(
+    fn answer<P: Profile, S: SaveStore<P> + DerivationStore<P>, W: SaveWaiters<P>>(
         &self,
         alloc: Global,
         read: &ReadSetup,

@@ -9,12 +9,12 @@ ghost use Rattle.setup_values.specs.Names.{names_view};
 use crate::command::Command;
 use cap_core::Profile;
 use command_core::Answer;
-use ipc_core::MakeWaiters;
+use ipc_core::{MakeWaiters, SaveWaiters};
 use kernel_core::Kernel;
 use setup_format::{ReadSetup, Setup};
 use setup_report::{calls_made, count_refused, run_first};
 use setup_values::Name;
-use slot_core::{DerivationStore, MakeStore};
+use slot_core::{DerivationStore, MakeStore, SaveStore};
 use std::alloc::{AllocError, Global};
 use toml::Table;
 
@@ -74,7 +74,7 @@ impl<C: StateCommand> Command for OnState<C> {
 
     ghost answers = { λ on. IsStateAnswer (C.answers on.command) on.after };
 
-    fn answer<P: Profile, S: MakeStore<P> + DerivationStore<P>, W: MakeWaiters<P>>(
+    fn answer<P: Profile, S: SaveStore<P> + DerivationStore<P>, W: SaveWaiters<P>>(
         &self,
         alloc: Global,
         read: &ReadSetup,

@@ -6,9 +6,9 @@ use crate::report::{ExploredText, explored_report};
 use cap_core::Profile;
 use command_check::Command;
 use command_core::{Answer, Verdict};
-use ipc_core::{MakeWaiters, RowWaiters};
+use ipc_core::{RowWaiters, SaveWaiters};
 use setup_format::ReadSetup;
-use slot_core::{DerivationStore, MakeStore, RowStore};
+use slot_core::{DerivationStore, RowStore, SaveStore};
 use std::alloc::{AllocError, Global};
 
 /// How many calls of a set-up are made before its clients begin, and how many states are explored at most.
@@ -52,7 +52,7 @@ impl Command for Explore {
     ghost answers = { λ explore. IsExploration explore.options.first explore.options.states explore.names };
 
     #[tactic(auto, unfolding(crate::specs::Explorations::explored_in))]
-    fn answer<P: Profile, S: MakeStore<P> + DerivationStore<P>, W: MakeWaiters<P>>(
+    fn answer<P: Profile, S: SaveStore<P> + DerivationStore<P>, W: SaveWaiters<P>>(
         &self,
         alloc: Global,
         read: &ReadSetup,

@@ -4,9 +4,9 @@ use crate::report::groups_report;
 use cap_core::Profile;
 use command_check::Command;
 use command_core::Answer;
-use ipc_core::{MakeWaiters, RowWaiters};
+use ipc_core::{RowWaiters, SaveWaiters};
 use setup_format::ReadSetup;
-use slot_core::{DerivationStore, MakeStore, RowStore};
+use slot_core::{DerivationStore, RowStore, SaveStore};
 use std::alloc::{AllocError, Global};
 
 /// The report on every order of the calls of each group of clients by itself. Clients that share a thread or an endpoint are in one
@@ -22,7 +22,7 @@ impl Command for ExploreGroups {
 
     ghost answers = { λ explore. IsGroupsExploration explore.options.first explore.options.states explore.names };
 
-    fn answer<P: Profile, S: MakeStore<P> + DerivationStore<P>, W: MakeWaiters<P>>(
+    fn answer<P: Profile, S: SaveStore<P> + DerivationStore<P>, W: SaveWaiters<P>>(
         &self,
         alloc: Global,
         read: &ReadSetup,

@@ -8,9 +8,9 @@ use crate::report::{Witness, copy_of_table, make_witness};
 use cap_core::Profile;
 use command_check::{Command, table_text};
 use command_core::{Answer, Verdict};
-use ipc_core::{MakeWaiters, RowWaiters};
+use ipc_core::{RowWaiters, SaveWaiters};
 use setup_format::ReadSetup;
-use slot_core::{DerivationStore, MakeStore, RowStore};
+use slot_core::{DerivationStore, RowStore, SaveStore};
 use std::alloc::{AllocError, Global};
 use toml::Table;
 
@@ -40,7 +40,7 @@ impl Command for WriteWitness {
 
     ghost answers = { λ write. IsExploreWitness write.options.first write.options.states write.witness };
 
-    fn answer<P: Profile, S: MakeStore<P> + DerivationStore<P>, W: MakeWaiters<P>>(
+    fn answer<P: Profile, S: SaveStore<P> + DerivationStore<P>, W: SaveWaiters<P>>(
         &self,
         alloc: Global,
         read: &ReadSetup,

@@ -5,9 +5,9 @@ ghost use Rattle.command_files.specs.Strict as spec;
 use cap_core::{Narrow, Profile, Wide};
 use command_check::{Command, run_setup, text_of};
 use command_core::{Answer, Engine, RunFault, Verdict};
-use ipc_core::{LinkedWaiters, MakeWaiters};
+use ipc_core::{LinkedWaiters, SaveWaiters};
 use setup_format::ReadSetup;
-use slot_core::{DerivationStore, LinkedStore, MakeStore};
+use slot_core::{DerivationStore, LinkedStore, SaveStore};
 use std::alloc::{AllocError, Global};
 
 /// The verdict, by the numbers of the calls that were refused and of which nothing was expected. A strict check counts such a call as
@@ -77,7 +77,7 @@ impl Command for NamedCheck {
 
     ghost answers = { λ check. IsNamedCheck check.strict };
 
-    fn answer<P: Profile, S: MakeStore<P> + DerivationStore<P>, W: MakeWaiters<P>>(
+    fn answer<P: Profile, S: SaveStore<P> + DerivationStore<P>, W: SaveWaiters<P>>(
         &self,
         alloc: Global,
         read: &ReadSetup,

@@ -4,9 +4,9 @@ use crate::text::marks_text;
 use cap_core::Profile;
 use command_check::{Command, verdict_on};
 use command_core::Answer;
-use ipc_core::MakeWaiters;
+use ipc_core::SaveWaiters;
 use setup_format::ReadSetup;
-use slot_core::{DerivationStore, MakeStore};
+use slot_core::{DerivationStore, SaveStore};
 use std::alloc::{AllocError, Global};
 
 /// Which of a set-up's expectations are met. The verdict is that of the expectations, as `check` has it.
@@ -18,7 +18,7 @@ impl Command for Marks {
 
     ghost answers = { λ marks. IsMarks };
 
-    fn answer<P: Profile, S: MakeStore<P> + DerivationStore<P>, W: MakeWaiters<P>>(
+    fn answer<P: Profile, S: SaveStore<P> + DerivationStore<P>, W: SaveWaiters<P>>(
         &self,
         alloc: Global,
         read: &ReadSetup,

@@ -10,11 +10,11 @@ use crate::notes::{note_on_refusal, notes_on};
 use cap_core::Profile;
 use command_check::Command;
 use command_core::{Answer, PolicyNote, Verdict};
-use ipc_core::MakeWaiters;
+use ipc_core::{MakeWaiters, SaveWaiters};
 use setup_format::ReadSetup;
 use setup_policy::{Fault, Place, PolicyFile, Refusal, Spot, read_policy};
 use setup_report::calls_made;
-use slot_core::{DerivationStore, MakeStore};
+use slot_core::{DerivationStore, MakeStore, SaveStore};
 use std::alloc::{AllocError, Global};
 
 /// The bytes of a policy, and how many calls are made, where the command line says so.
@@ -138,7 +138,7 @@ impl Command for HeldTo<'_> {
 
     ghost answers = { λ held. IsPolicyOf held.after };
 
-    fn answer<P: Profile, S: MakeStore<P> + DerivationStore<P>, W: MakeWaiters<P>>(
+    fn answer<P: Profile, S: SaveStore<P> + DerivationStore<P>, W: SaveWaiters<P>>(
         &self,
         alloc: Global,
         read: &ReadSetup,

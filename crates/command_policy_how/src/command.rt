@@ -13,10 +13,10 @@ use command_core::{Answer, Verdict};
 use command_how::{NoWitness, Outcome, STATES};
 use command_policy::{HeldTo, Judged, Judging};
 use command_policy_text::Told;
-use ipc_core::MakeWaiters;
+use ipc_core::{MakeWaiters, SaveWaiters};
 use setup_format::{ReadSetup, Setup};
 use setup_report::{count_refused, kernel_after};
-use slot_core::{DerivationStore, MakeStore};
+use slot_core::{DerivationStore, MakeStore, SaveStore};
 use std::alloc::{AllocError, Global};
 
 /// By which calls the breach with this number, from 1, of a policy's text happens. The policy is given by its bytes; so many calls are
@@ -131,7 +131,7 @@ impl Command for BreachHow<'_> {
 
     ghost answers = { λ how. IsBreachHow how.breach how.after };
 
-    fn answer<P: Profile, S: MakeStore<P> + DerivationStore<P>, W: MakeWaiters<P>>(
+    fn answer<P: Profile, S: SaveStore<P> + DerivationStore<P>, W: SaveWaiters<P>>(
         &self,
         alloc: Global,
         read: &ReadSetup,

@@ -9,9 +9,9 @@ use cap_core::Profile;
 use command_check::{Command, verdict_on};
 use command_core::{Answer, Verdict};
 use command_why::naming_after;
-use ipc_core::MakeWaiters;
+use ipc_core::{MakeWaiters, SaveWaiters};
 use setup_format::ReadSetup;
-use slot_core::{DerivationStore, MakeStore};
+use slot_core::{DerivationStore, MakeStore, SaveStore};
 use std::alloc::{AllocError, Global};
 
 /// Runs the set-up in a profile, and tells what each call changes, by addresses or by names.
@@ -42,7 +42,7 @@ impl Command for Trace {
 
     ghost answers = { λ trace. IsTrace trace.names };
 
-    fn answer<P: Profile, S: MakeStore<P> + DerivationStore<P>, W: MakeWaiters<P>>(
+    fn answer<P: Profile, S: SaveStore<P> + DerivationStore<P>, W: SaveWaiters<P>>(
         &self,
         alloc: Global,
         read: &ReadSetup,

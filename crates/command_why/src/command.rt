@@ -8,9 +8,9 @@ use crate::run::{naming_after, why};
 use cap_core::Profile;
 use command_check::{Command, verdict_on};
 use command_core::Answer;
-use ipc_core::MakeWaiters;
+use ipc_core::{MakeWaiters, SaveWaiters};
 use setup_format::ReadSetup;
-use slot_core::{DerivationStore, MakeStore};
+use slot_core::{DerivationStore, MakeStore, SaveStore};
 use std::alloc::{AllocError, Global};
 
 /// Runs the set-up in a profile, and tells why calls are refused.
@@ -54,7 +54,7 @@ impl Command for Why {
 
     ghost answers = { λ why. IsWhy why.names why.call };
 
-    fn answer<P: Profile, S: MakeStore<P> + DerivationStore<P>, W: MakeWaiters<P>>(
+    fn answer<P: Profile, S: SaveStore<P> + DerivationStore<P>, W: SaveWaiters<P>>(
         &self,
         alloc: Global,
         read: &ReadSetup,

@@ -12,4 +12,4 @@ pub mod waiters;
 pub use linked::LinkedWaiters;
 pub use rows::RowWaiters;
 pub use waiter::{Offer, Received, Role, Sent, Waiter};
-pub use waiters::{MakeWaiters, Waiters};
+pub use waiters::{MakeWaiters, SaveWaiters, Waiters};

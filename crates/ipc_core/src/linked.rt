@@ -8,7 +8,7 @@ ghost use Rattle.ipc_core.specs.Evidence.Alike.{linked-prop, alike-prop};
 
 use crate::tables::{EndpointRow, QueueRow, Tables};
 use crate::waiter::{Offer, Received, Role, Sent};
-use crate::waiters::{MakeWaiters, Waiters};
+use crate::waiters::{MakeWaiters, SaveWaiters, Waiters};
 use cap_core::{Badge, Message, Profile};
 use std::alloc::{AllocError, Global};
 use std::marker::PhantomData;
@@ -108,12 +108,6 @@ impl<P: Profile> Waiters<P> for LinkedWaiters<P> {
 }
 
 impl<P: Profile> MakeWaiters<P> for LinkedWaiters<P> {
-    type Saved = LinkedWaiters<P>;
-
-    ghost saved_waits = { λ w. waits_in P.profile w.tables };
-
-    ghost saved_memory = { λ w. w.memory_bits };
-
     fn new(alloc: Global, memory_bits: u32) -> Result<Self, AllocError> {
         let threads = 1usize << (memory_bits - P::TCB_BITS);
         let endpoints = 1usize << (memory_bits - P::ENDPOINT_BITS);
@@ -143,6 +137,14 @@ impl<P: Profile> MakeWaiters<P> for LinkedWaiters<P> {
             profile: PhantomData,
         })
     }
+}
+
+impl<P: Profile> SaveWaiters<P> for LinkedWaiters<P> {
+    type Saved = LinkedWaiters<P>;
+
+    ghost saved_waits = { λ w. waits_in P.profile w.tables };
+
+    ghost saved_memory = { λ w. w.memory_bits };
 
     fn copy_into(&self, spare: Self) -> Result<Self, AllocError> {
         let Tables {

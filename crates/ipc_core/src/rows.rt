@@ -10,7 +10,7 @@ use crate::row::{
     WaitRow, first_receiver, first_sender, next_waiting, push_row, remove_first, row_of, waiter_at,
 };
 use crate::waiter::{Offer, Received, Role, Sent, Waiter};
-use crate::waiters::{MakeWaiters, Waiters};
+use crate::waiters::{MakeWaiters, SaveWaiters, Waiters};
 use cap_core::{Badge, Message, Profile};
 use std::alloc::{AllocError, Global};
 use std::marker::PhantomData;
@@ -124,12 +124,6 @@ impl<P: Profile> Waiters<P> for RowWaiters<P> {
 }
 
 impl<P: Profile> MakeWaiters<P> for RowWaiters<P> {
-    type Saved = SavedRows<P>;
-
-    ghost saved_waits = { λ w. waits_of w.rows.items };
-
-    ghost saved_memory = { λ w. w.memory_bits };
-
     fn new(alloc: Global, memory_bits: u32) -> Result<Self, AllocError> {
         let threads = 1usize << (memory_bits - P::TCB_BITS);
         Ok(RowWaiters {
@@ -148,6 +142,14 @@ impl<P: Profile> MakeWaiters<P> for RowWaiters<P> {
             profile: PhantomData,
         })
     }
+}
+
+impl<P: Profile> SaveWaiters<P> for RowWaiters<P> {
+    type Saved = SavedRows<P>;
+
+    ghost saved_waits = { λ w. waits_of w.rows.items };
+
+    ghost saved_memory = { λ w. w.memory_bits };
 
     fn copy_into(&self, spare: Self) -> Result<Self, AllocError> {
         let mut rows = spare.rows;

@@ -101,13 +101,6 @@ pub trait Waiters<P: Profile> {
 
 /// Waiting threads that can be made.
 pub trait MakeWaiters<P: Profile>: Waiters<P> + Drop {
-    /// Who waits, without the room for more.
-    type Saved: Drop;
-
-    ghost saved_waits: { Self.Saved → Waits };
-
-    ghost saved_memory: { Self.Saved → ℕ };
-
     /// Nobody waits, with room for every thread that a memory of 2^`memory_bits` bytes can hold.
     fn new(alloc: Global, memory_bits: u32) -> Result<Self, AllocError>
         requires least { MIN_MEMORY_BITS ≤ memory_bits }
@@ -119,6 +112,16 @@ pub trait MakeWaiters<P: Profile>: Waiters<P> + Drop {
     fn copy(&self, alloc: Global) -> Result<Self, AllocError>
         ensures waits { IfOk result (λ w. Self.waits w ≡ Self.waits self.now) }
         ensures memory { IfOk result (λ w. Self.memory_bits w ≡ Self.memory_bits self.now) };
+}
+
+/// Waiting threads that are copied into the room of others, and that are kept in no more room than they take.
+pub trait SaveWaiters<P: Profile>: MakeWaiters<P> {
+    /// Who waits, without the room for more.
+    type Saved: Drop;
+
+    ghost saved_waits: { Self.Saved → Waits };
+
+    ghost saved_memory: { Self.Saved → ℕ };
 
     /// The same, in the room of others that are given up. It takes memory only where they have too little room.
     fn copy_into(&self, spare: Self) -> Result<Self, AllocError>

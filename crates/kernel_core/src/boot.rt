@@ -74,44 +74,6 @@ impl<P: Profile, S: MakeStore<P>, W: MakeWaiters<P>> Kernel<P, S, W> {
             chain,
         })
     }
-
-    /// The same, in the room of a kernel that is given up. It takes memory only where that has too little room; the chain
-    /// for slots that are cleared is taken as it is, since no slot is in it between calls.
-    ///
-    /// # Errors
-    ///
-    /// `AllocError` where memory was wanted and not there.
-    pub fn copy_into(
-        &self,
-        alloc: Global,
-        spare: Kernel<P, S, W>,
-    ) -> Result<Kernel<P, S, W>, AllocError>
-        ensures { IfOk result (λ kernel. kernel ≡ self.now) }
-    {
-        let memory_bits = self.threads.memory_bits;
-        if spare.threads.memory_bits != memory_bits {
-            return self.copy(alloc);
-        }
-        let Kernel {
-            store,
-            threads,
-            chain,
-        } = spare;
-        let store = self.store.copy_into(store)?;
-        let waiters = self.threads.waiters.copy_into(threads.waiters)?;
-        let mut rows = threads.rows;
-        rows.copy_from(&self.threads.rows);
-        Ok(Kernel {
-            store,
-            threads: Threads {
-                waiters,
-                rows,
-                memory_bits,
-                of: PhantomData,
-            },
-            chain,
-        })
-    }
 }
 
 /// The rows of the threads: of the boot threads, which are ready, among the places of the memory.

@@ -1,27 +1,27 @@
-//! Kernels that are kept in no more room than what they hold takes.
+//! Kernels that are copied into the room of others, and that are kept in no more room than what they hold takes.
 ghost use Rattle.std.specs.Prelude.{◌≡◌, IfOk};
 
 use crate::ending::Threads;
 use crate::kernel::Kernel;
 use crate::rows::LiveRow;
 use cap_core::Profile;
-use ipc_core::MakeWaiters;
+use ipc_core::SaveWaiters;
 use kernel_delete::SlotChain;
-use slot_core::MakeStore;
+use slot_core::SaveStore;
 use std::alloc::{AllocError, Global};
 use std::marker::{Model, PhantomData};
 
 /// What a kernel holds, without the room that its calls may need: it takes memory for what is there, however large the
 /// simulated memory is. Contracts see it as what the kernel shows.
 #[derive(Drop)]
-pub struct SavedKernel<P: Profile, S: MakeStore<P>, W: MakeWaiters<P>> {
+pub struct SavedKernel<P: Profile, S: SaveStore<P>, W: SaveWaiters<P>> {
     store: S::Saved,
     waiters: W::Saved,
     rows: Vec<LiveRow>,
     memory_bits: u32,
 }
 
-impl<P: Profile, S: MakeStore<P>, W: MakeWaiters<P>> Model for SavedKernel<P, S, W> {
+impl<P: Profile, S: SaveStore<P>, W: SaveWaiters<P>> Model for SavedKernel<P, S, W> {
     ghost use Rattle.kernel_abstract.specs.Shown.{Shown};
     ghost use Rattle.std.specs.Coded.{codes};
     ghost use Rattle.std.specs.FinMap.{code as coded_map};
@@ -41,7 +41,45 @@ impl<P: Profile, S: MakeStore<P>, W: MakeWaiters<P>> Model for SavedKernel<P, S,
         (S.saved_forest k.store) (rows_saved P.profile k.memory_bits k.rows.items) (W.saved_waits k.waiters) };
 }
 
-impl<P: Profile, S: MakeStore<P>, W: MakeWaiters<P>> Kernel<P, S, W> {
+impl<P: Profile, S: SaveStore<P>, W: SaveWaiters<P>> Kernel<P, S, W> {
+    /// A kernel of its own that shows the same, in the room of a kernel that is given up. It takes memory only where that has
+    /// too little room; the chain for slots that are cleared is taken as it is, since no slot is in it between calls.
+    ///
+    /// # Errors
+    ///
+    /// `AllocError` where memory was wanted and not there.
+    pub fn copy_into(
+        &self,
+        alloc: Global,
+        spare: Kernel<P, S, W>,
+    ) -> Result<Kernel<P, S, W>, AllocError>
+        ensures { IfOk result (λ kernel. kernel ≡ self.now) }
+    {
+        let memory_bits = self.threads.memory_bits;
+        if spare.threads.memory_bits != memory_bits {
+            return self.copy(alloc);
+        }
+        let Kernel {
+            store,
+            threads,
+            chain,
+        } = spare;
+        let store = self.store.copy_into(store)?;
+        let waiters = self.threads.waiters.copy_into(threads.waiters)?;
+        let mut rows = threads.rows;
+        rows.copy_from(&self.threads.rows);
+        Ok(Kernel {
+            store,
+            threads: Threads {
+                waiters,
+                rows,
+                memory_bits,
+                of: PhantomData,
+            },
+            chain,
+        })
+    }
+
     /// What the kernel holds, to be made a kernel again later.
     ///
     /// # Errors
@@ -60,7 +98,7 @@ impl<P: Profile, S: MakeStore<P>, W: MakeWaiters<P>> Kernel<P, S, W> {
     }
 }
 
-impl<P: Profile, S: MakeStore<P>, W: MakeWaiters<P>> SavedKernel<P, S, W> {
+impl<P: Profile, S: SaveStore<P>, W: SaveWaiters<P>> SavedKernel<P, S, W> {
     /// A kernel that shows what was saved, in the room of a kernel that is given up. It takes memory only where that has too
     /// little room.
     ///

@@ -12,4 +12,4 @@ pub use derivations::{Derivation, DerivationStore};
 pub use linked::{Link, LinkedStore};
 pub use rows::RowStore;
 pub use slot::Slot;
-pub use store::{CapStore, MakeStore};
+pub use store::{CapStore, MakeStore, SaveStore};

@@ -10,7 +10,7 @@ use self::table::{
 };
 use crate::derived::is_new_original;
 use crate::slot::Slot;
-use crate::store::{CapStore, MakeStore};
+use crate::store::{CapStore, MakeStore, SaveStore};
 use cap_core::{Cap, Profile};
 use std::alloc::{AllocError, Global};
 use std::marker::{Model, PhantomData};
@@ -189,12 +189,6 @@ impl<P: Profile> MakeStore<P> for LinkedStore<P> {
     ghost use Rattle.std.specs.Prelude.{IfOk};
     ghost use Rattle.kernel_forest.specs.Marked.{forest_of};
 
-    type Saved = LinkedStore<P>;
-
-    ghost saved_forest = { λ s. forest_of P.profile s.0 };
-
-    ghost saved_memory = { λ s. s.1 };
-
     fn new(alloc: Global, memory_bits: u32) -> Result<LinkedStore<P>, AllocError> {
         Ok(LinkedStore {
             links: Vec::from_elem(alloc, EMPTY, 1 << (memory_bits - P::SLOT_BITS))?,
@@ -230,6 +224,17 @@ impl<P: Profile> MakeStore<P> for LinkedStore<P> {
             profile: PhantomData,
         })
     }
+}
+
+impl<P: Profile> SaveStore<P> for LinkedStore<P> {
+    ghost use Rattle.std.specs.Prelude.{IfOk};
+    ghost use Rattle.kernel_forest.specs.Marked.{forest_of};
+
+    type Saved = LinkedStore<P>;
+
+    ghost saved_forest = { λ s. forest_of P.profile s.0 };
+
+    ghost saved_memory = { λ s. s.1 };
 
     fn copy_into(&self, spare: LinkedStore<P>) -> Result<LinkedStore<P>, AllocError>
         ensures list { IfOk result (λ s. s ≡ self.now) }

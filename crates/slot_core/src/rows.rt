@@ -8,7 +8,7 @@ ghost use Rattle.kernel_forest.proofs.Trees.Parented.{still_above, innermost};
 use crate::derivations::{Derivation, DerivationStore};
 use crate::derived::{is_new_original, with_free};
 use crate::slot::Slot;
-use crate::store::{CapStore, MakeStore};
+use crate::store::{CapStore, MakeStore, SaveStore};
 use cap_core::{Cap, Profile, same_object};
 use std::alloc::{AllocError, Global};
 use std::marker::{Model, PhantomData};
@@ -205,14 +205,6 @@ impl<P: Profile> CapStore<P> for RowStore<P> {
 }
 
 impl<P: Profile> MakeStore<P> for RowStore<P> {
-    ghost use Rattle.slot_core.specs.Rows.{forest_of};
-
-    type Saved = SavedRows<P>;
-
-    ghost saved_forest = { λ s. forest_of P.profile s.0 };
-
-    ghost saved_memory = { λ s. s.1 };
-
     fn new(alloc: Global, memory_bits: u32) -> Result<RowStore<P>, AllocError> {
         Ok(RowStore {
             rows: Vec::with_capacity(alloc, 1 << (memory_bits - P::SLOT_BITS))?,
@@ -230,6 +222,16 @@ impl<P: Profile> MakeStore<P> for RowStore<P> {
             profile: PhantomData,
         })
     }
+}
+
+impl<P: Profile> SaveStore<P> for RowStore<P> {
+    ghost use Rattle.slot_core.specs.Rows.{forest_of};
+
+    type Saved = SavedRows<P>;
+
+    ghost saved_forest = { λ s. forest_of P.profile s.0 };
+
+    ghost saved_memory = { λ s. s.1 };
 
     fn copy_into(&self, spare: RowStore<P>) -> Result<RowStore<P>, AllocError> {
         let mut rows = spare.rows;

@@ -108,13 +108,6 @@ pub trait CapStore<P: Profile> {
 
 /// A store that can be made.
 pub trait MakeStore<P: Profile>: CapStore<P> + Drop {
-    /// What a store holds, without the room for more.
-    type Saved: Drop;
-
-    ghost saved_forest: { Self.Saved → Forest Entry };
-
-    ghost saved_memory: { Self.Saved → ℕ };
-
     /// An empty store for a memory of 2^`memory_bits` bytes, with all the room that it will ever need.
     fn new(alloc: Global, memory_bits: u32) -> Result<Self, AllocError>
         requires least { MIN_MEMORY_BITS ≤ memory_bits }
@@ -126,6 +119,16 @@ pub trait MakeStore<P: Profile>: CapStore<P> + Drop {
     fn copy(&self, alloc: Global) -> Result<Self, AllocError>
         ensures forest { IfOk result (λ s. Self.forest s ≡ Self.forest self.now) }
         ensures memory { IfOk result (λ s. Self.memory_bits s ≡ Self.memory_bits self.now) };
+}
+
+/// A store that is copied into the room of another one, and whose contents are kept in no more room than they take.
+pub trait SaveStore<P: Profile>: MakeStore<P> {
+    /// What a store holds, without the room for more.
+    type Saved: Drop;
+
+    ghost saved_forest: { Self.Saved → Forest Entry };
+
+    ghost saved_memory: { Self.Saved → ℕ };
 
     /// The same, in the room of a store that is given up. It takes memory only where that has too little room.
     fn copy_into(&self, spare: Self) -> Result<Self, AllocError>

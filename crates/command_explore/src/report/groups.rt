@@ -17,7 +17,7 @@ use crate::report::numbers::numbers_of_clients;
 use crate::report::run::{ExploredText, add_expected, add_head, is_well};
 use crate::report::unmet::unmet_answers;
 use cap_core::Profile;
-use ipc_core::MakeWaiters;
+use ipc_core::SaveWaiters;
 use kernel_core::Kernel;
 use query_orders::{
     Explored, FoundAnswer, FoundStuck, GroupExplored, GroupsExplored, explore_groups, is_in_group,
@@ -25,7 +25,7 @@ use query_orders::{
 use setup_format::Setup;
 use setup_report::Naming;
 use setup_values::Name;
-use slot_core::{DerivationStore, MakeStore};
+use slot_core::{DerivationStore, SaveStore};
 use std::alloc::{AllocError, Global};
 use std::fmt::Write;
 
@@ -217,7 +217,7 @@ fn groups_text(
 /// # Errors
 ///
 /// Memory was refused.
-pub fn groups_report<P: Profile, S: MakeStore<P> + DerivationStore<P>, W: MakeWaiters<P>>(
+pub fn groups_report<P: Profile, S: SaveStore<P> + DerivationStore<P>, W: SaveWaiters<P>>(
     alloc: Global,
     by_name: bool,
     names: &[Name],

@@ -10,10 +10,10 @@ use crate::report::run::explore_setup;
 use crate::report::tables::keep_calls;
 use crate::report::witness::{Witness, expecting, named_order};
 use cap_core::Profile;
-use ipc_core::MakeWaiters;
+use ipc_core::SaveWaiters;
 use query_orders::Explored;
 use setup_format::Setup;
-use slot_core::{DerivationStore, MakeStore};
+use slot_core::{DerivationStore, SaveStore};
 use std::alloc::{AllocError, Global};
 use toml::Table;
 
@@ -46,7 +46,7 @@ fn witness_in(
 ///
 /// Memory was refused.
 #[tactic(auto, unfolding(crate::specs::Witnesses::witness_of))]
-pub fn make_witness<P: Profile, S: MakeStore<P> + DerivationStore<P>, W: MakeWaiters<P>>(
+pub fn make_witness<P: Profile, S: SaveStore<P> + DerivationStore<P>, W: SaveWaiters<P>>(
     alloc: Global,
     setup: &Setup,
     first: usize,

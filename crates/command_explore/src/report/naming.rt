@@ -6,17 +6,17 @@ ghost use Rattle.setup_report.specs.Naming.{naming_view};
 ghost use Rattle.command_explore.specs.Report.{texts_at_boot};
 
 use cap_core::Profile;
-use ipc_core::MakeWaiters;
+use ipc_core::SaveWaiters;
 use kernel_core::Kernel;
 use setup_format::Setup;
 use setup_report::Naming;
 use setup_values::Name;
-use slot_core::{DerivationStore, MakeStore};
+use slot_core::{DerivationStore, SaveStore};
 use std::alloc::{AllocError, Global};
 
 /// How a report tells threads and endpoints: by addresses alone, or by the names that objects have. Only for names a kernel
 /// is booted.
-pub fn naming_at_boot<'a, P: Profile, S: MakeStore<P> + DerivationStore<P>, W: MakeWaiters<P>>(
+pub fn naming_at_boot<'a, P: Profile, S: SaveStore<P> + DerivationStore<P>, W: SaveWaiters<P>>(
     alloc: Global,
     by_name: bool,
     names: &'a [Name],

@@ -16,13 +16,13 @@ use crate::report::numbers::numbers_of_clients;
 use crate::report::unmet::unmet_answers;
 use cap_core::Profile;
 use command_core::CallNote;
-use ipc_core::MakeWaiters;
+use ipc_core::SaveWaiters;
 use kernel_core::Kernel;
 use query_orders::{Explored, FoundStuck, explore};
 use setup_format::Setup;
 use setup_report::{ExpectationCount, Naming};
 use setup_values::{Name, profile_text};
-use slot_core::{DerivationStore, MakeStore};
+use slot_core::{DerivationStore, SaveStore};
 use std::alloc::{AllocError, Global};
 use std::fmt::Write;
 
@@ -128,7 +128,7 @@ fn explored_text(
 }
 
 /// Explores every order of the calls that the clients of a set-up make, from its boot on, behind the first calls of the set-up.
-pub fn explore_setup<P: Profile, S: MakeStore<P> + DerivationStore<P>, W: MakeWaiters<P>>(
+pub fn explore_setup<P: Profile, S: SaveStore<P> + DerivationStore<P>, W: SaveWaiters<P>>(
     alloc: Global,
     setup: &Setup,
     first: usize,
@@ -161,7 +161,7 @@ pub fn explore_setup<P: Profile, S: MakeStore<P> + DerivationStore<P>, W: MakeWa
 ///
 /// Memory was refused.
 #[tactic(auto, unfolding(crate::specs::Report::explored_report))]
-pub fn explored_report<P: Profile, S: MakeStore<P> + DerivationStore<P>, W: MakeWaiters<P>>(
+pub fn explored_report<P: Profile, S: SaveStore<P> + DerivationStore<P>, W: SaveWaiters<P>>(
     alloc: Global,
     by_name: bool,
     names: &[Name],

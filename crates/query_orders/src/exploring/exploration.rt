@@ -23,9 +23,9 @@ use crate::exploring::node::{Node, next_call};
 use crate::exploring::order::Order;
 use crate::exploring::stuck::Findings;
 use cap_core::Profile;
-use ipc_core::MakeWaiters;
+use ipc_core::SaveWaiters;
 use kernel_core::{Call, Kernel, SavedKernel};
-use slot_core::{DerivationStore, MakeStore};
+use slot_core::{DerivationStore, SaveStore};
 use std::alloc::{AllocError, Global};
 use std::collections::VecDeque;
 use std::mem::replace;
@@ -68,7 +68,7 @@ fn uncalled(alloc: Global, node: Node, client: usize) -> Result<Node, AllocError
 
 /// Makes the next call of a client, be its thread ready or not, and notes what it tells. Where the client has none, nothing is
 /// made. `at` is the kernel of the node, and then that of the new one.
-fn first_call<P: Profile, S: MakeStore<P> + DerivationStore<P>, W: MakeWaiters<P>>(
+fn first_call<P: Profile, S: SaveStore<P> + DerivationStore<P>, W: SaveWaiters<P>>(
     alloc: Global,
     calls: &[Vec<Call>],
     at: &mut Kernel<P, S, W>,
@@ -93,7 +93,7 @@ fn first_call<P: Profile, S: MakeStore<P> + DerivationStore<P>, W: MakeWaiters<P
 
 /// Makes the calls by which all orders begin, each the next one of a client, and notes what they tell. `at` is the kernel that
 /// makes them. The node has no words yet.
-pub fn begin<P: Profile, S: MakeStore<P> + DerivationStore<P>, W: MakeWaiters<P>>(
+pub fn begin<P: Profile, S: SaveStore<P> + DerivationStore<P>, W: SaveWaiters<P>>(
     alloc: Global,
     calls: &[Vec<Call>],
     at: &mut Kernel<P, S, W>,
@@ -119,7 +119,7 @@ fn states_through(first: &[usize]) -> u64
 }
 
 /// What is known before any call behind the first ones. The kernel after these is kept.
-fn begun<P: Profile, S: MakeStore<P> + DerivationStore<P>, W: MakeWaiters<P>>(
+fn begun<P: Profile, S: SaveStore<P> + DerivationStore<P>, W: SaveWaiters<P>>(
     alloc: Global,
     calls: &[Vec<Call>],
     kernel: &Kernel<P, S, W>,
@@ -166,7 +166,7 @@ fn goes_on(explored: &Explored, limit: u64, count: usize) -> bool
 
 /// Explores the orders that have one call more. `kept` has the kernels of the layer's first nodes, and `spares` kernels that
 /// were given up.
-fn advance<P: Profile, S: MakeStore<P> + DerivationStore<P>, W: MakeWaiters<P>>(
+fn advance<P: Profile, S: SaveStore<P> + DerivationStore<P>, W: SaveWaiters<P>>(
     alloc: Global,
     calls: &[Vec<Call>],
     kernel: &Kernel<P, S, W>,
@@ -216,7 +216,7 @@ fn advance<P: Profile, S: MakeStore<P> + DerivationStore<P>, W: MakeWaiters<P>>(
 /// # Errors
 ///
 /// Memory was refused.
-pub fn explore<P: Profile, S: MakeStore<P> + DerivationStore<P>, W: MakeWaiters<P>>(
+pub fn explore<P: Profile, S: SaveStore<P> + DerivationStore<P>, W: SaveWaiters<P>>(
     alloc: Global,
     calls: &[Vec<Call>],
     kernel: &Kernel<P, S, W>,

@@ -12,9 +12,9 @@ ghost use Rattle.query_orders.specs.Private.Kernels.{IsKernelOf, AreKernels};
 use crate::exploring::layer::Layer;
 use crate::exploring::node::{Node, copied, count, next_call};
 use cap_core::Profile;
-use ipc_core::{MakeWaiters, Waiters};
+use ipc_core::{SaveWaiters, Waiters};
 use kernel_core::{Call, Kernel, SavedKernel};
-use slot_core::{CapStore, MakeStore};
+use slot_core::{CapStore, SaveStore};
 use std::alloc::{AllocError, Global};
 use std::collections::VecDeque;
 
@@ -25,7 +25,7 @@ const KEPT_WORDS: usize = 1 << 23;
 /// A layer that grows, and the kernels of its first nodes. Those that were given up are in hand, so that a copy takes no
 /// memory while there is one.
 #[derive(Drop)]
-pub struct KeptLayer<P: Profile, S: MakeStore<P>, W: MakeWaiters<P>> {
+pub struct KeptLayer<P: Profile, S: SaveStore<P>, W: SaveWaiters<P>> {
     pub layer: Layer,
     pub kernels: VecDeque<SavedKernel<P, S, W>>,
     pub words: usize,
@@ -59,7 +59,7 @@ fn make_next<P: Profile, S: CapStore<P> + Drop, W: Waiters<P> + Drop>(
 }
 
 /// A kernel after the calls of an order, from where no client has made one; the one that it is of stays.
-fn kernel_after<P: Profile, S: MakeStore<P>, W: MakeWaiters<P>>(
+fn kernel_after<P: Profile, S: SaveStore<P>, W: SaveWaiters<P>>(
     alloc: Global,
     calls: &[Vec<Call>],
     kernel: &Kernel<P, S, W>,
@@ -78,7 +78,7 @@ fn kernel_after<P: Profile, S: MakeStore<P>, W: MakeWaiters<P>>(
 }
 
 /// A kernel that shows what was saved, in the room of one that was given up, or else of a copy of `kernel`.
-fn restored<P: Profile, S: MakeStore<P>, W: MakeWaiters<P>>(
+fn restored<P: Profile, S: SaveStore<P>, W: SaveWaiters<P>>(
     alloc: Global,
     saved: &SavedKernel<P, S, W>,
     kernel: &Kernel<P, S, W>,
@@ -94,7 +94,7 @@ fn restored<P: Profile, S: MakeStore<P>, W: MakeWaiters<P>>(
 }
 
 /// The kernel of a node: the one that is kept of it, or one that makes the calls of its order, from where the orders begin.
-pub fn kernel_of<P: Profile, S: MakeStore<P>, W: MakeWaiters<P>>(
+pub fn kernel_of<P: Profile, S: SaveStore<P>, W: SaveWaiters<P>>(
     alloc: Global,
     calls: &[Vec<Call>],
     kernel: &Kernel<P, S, W>,
@@ -115,14 +115,14 @@ pub fn kernel_of<P: Profile, S: MakeStore<P>, W: MakeWaiters<P>>(
 }
 
 /// Whether the kernels of all nodes are kept, and one more can be.
-fn has_room<P: Profile, S: MakeStore<P>, W: MakeWaiters<P>>(nodes: &KeptLayer<P, S, W>) -> bool
+fn has_room<P: Profile, S: SaveStore<P>, W: SaveWaiters<P>>(nodes: &KeptLayer<P, S, W>) -> bool
     ensures { result ≡ true → length nodes.now.kernels.items ≡ length nodes.now.layer }
 {
     nodes.words < KEPT_WORDS && nodes.kernels.len() == nodes.layer.nodes().len()
 }
 
 /// Keeps what a kernel holds, where there is memory for it.
-fn keep<P: Profile, S: MakeStore<P>, W: MakeWaiters<P>>(
+fn keep<P: Profile, S: SaveStore<P>, W: SaveWaiters<P>>(
     alloc: Global,
     kernels: &mut VecDeque<SavedKernel<P, S, W>>,
     at: &Kernel<P, S, W>,
@@ -138,7 +138,7 @@ fn keep<P: Profile, S: MakeStore<P>, W: MakeWaiters<P>>(
 
 /// Puts a node into a layer, whose kernel is `at`. Where the layer has no node of its state, and the kernels of all nodes
 /// before it are kept, what the kernel holds is kept too, as far as there is memory. The kernel is in hand for a later copy.
-pub fn note_node<P: Profile, S: MakeStore<P>, W: MakeWaiters<P>>(
+pub fn note_node<P: Profile, S: SaveStore<P>, W: SaveWaiters<P>>(
     alloc: Global,
     nodes: &mut KeptLayer<P, S, W>,
     node: Node,

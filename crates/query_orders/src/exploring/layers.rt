@@ -22,14 +22,14 @@ use crate::exploring::waits::waits_after;
 use crate::exploring::words::state_words;
 use crate::{Answer, WaitingCall};
 use cap_core::Profile;
-use ipc_core::MakeWaiters;
+use ipc_core::SaveWaiters;
 use kernel_core::{Call, Kernel, Reply, SavedKernel};
-use slot_core::{DerivationStore, MakeStore};
+use slot_core::{DerivationStore, SaveStore};
 use std::alloc::{AllocError, Global};
 use std::collections::VecDeque;
 
 /// The node after a client's call, by its order, and by the kernel after the call and its reply; it has no words yet.
-fn followed<P: Profile, S: MakeStore<P> + DerivationStore<P>, W: MakeWaiters<P>>(
+fn followed<P: Profile, S: SaveStore<P> + DerivationStore<P>, W: SaveWaiters<P>>(
     alloc: Global,
     node: &Node,
     order: Order,
@@ -64,7 +64,7 @@ fn followed<P: Profile, S: MakeStore<P> + DerivationStore<P>, W: MakeWaiters<P>>
 
 /// The node after the next call of a client, by the kernel after the call and its reply; it has no words yet. What the call
 /// tells is noted.
-pub fn note_call<P: Profile, S: MakeStore<P> + DerivationStore<P>, W: MakeWaiters<P>>(
+pub fn note_call<P: Profile, S: SaveStore<P> + DerivationStore<P>, W: SaveWaiters<P>>(
     alloc: Global,
     node: &Node,
     client: usize,
@@ -88,7 +88,7 @@ pub fn note_call<P: Profile, S: MakeStore<P> + DerivationStore<P>, W: MakeWaiter
 }
 
 /// The node with the words of its state, by its kernel.
-pub fn with_words<P: Profile, S: MakeStore<P> + DerivationStore<P>, W: MakeWaiters<P>>(
+pub fn with_words<P: Profile, S: SaveStore<P> + DerivationStore<P>, W: SaveWaiters<P>>(
     alloc: Global,
     node: Node,
     at: &Kernel<P, S, W>,
@@ -104,7 +104,7 @@ pub fn with_words<P: Profile, S: MakeStore<P> + DerivationStore<P>, W: MakeWaite
 }
 
 /// Notes the state after the next call of a client and what it tells, where it can make one. `at` is the kernel of the node.
-fn visit<P: Profile, S: MakeStore<P> + DerivationStore<P>, W: MakeWaiters<P>>(
+fn visit<P: Profile, S: SaveStore<P> + DerivationStore<P>, W: SaveWaiters<P>>(
     alloc: Global,
     calls: &[Vec<Call>],
     at: &Kernel<P, S, W>,
@@ -132,7 +132,7 @@ fn visit<P: Profile, S: MakeStore<P> + DerivationStore<P>, W: MakeWaiters<P>>(
 }
 
 /// Notes the states after the next call of each client that can make one, and what these calls tell.
-fn visit_clients<P: Profile, S: MakeStore<P> + DerivationStore<P>, W: MakeWaiters<P>>(
+fn visit_clients<P: Profile, S: SaveStore<P> + DerivationStore<P>, W: SaveWaiters<P>>(
     alloc: Global,
     calls: &[Vec<Call>],
     at: &Kernel<P, S, W>,
@@ -156,7 +156,7 @@ fn visit_clients<P: Profile, S: MakeStore<P> + DerivationStore<P>, W: MakeWaiter
 }
 
 /// Notes the states that one call more leads to from a node, and what stands behind its order. `at` is the kernel of the node.
-fn expand<P: Profile, S: MakeStore<P> + DerivationStore<P>, W: MakeWaiters<P>>(
+fn expand<P: Profile, S: SaveStore<P> + DerivationStore<P>, W: SaveWaiters<P>>(
     alloc: Global,
     calls: &[Vec<Call>],
     at: &Kernel<P, S, W>,
@@ -180,7 +180,7 @@ fn expand<P: Profile, S: MakeStore<P> + DerivationStore<P>, W: MakeWaiters<P>>(
 
 /// The states that one call more leads to, with the kernels of the first of them; `kept` has those of the layer's first nodes,
 /// and `spares` kernels that were given up. What stands behind the orders of the layer is noted.
-pub fn next_layer<P: Profile, S: MakeStore<P> + DerivationStore<P>, W: MakeWaiters<P>>(
+pub fn next_layer<P: Profile, S: SaveStore<P> + DerivationStore<P>, W: SaveWaiters<P>>(
     alloc: Global,
     calls: &[Vec<Call>],
     kernel: &Kernel<P, S, W>,

@@ -9,9 +9,9 @@ ghost use Rattle.query_orders.specs.Nodes.{own_calls};
 use crate::WaitingCall;
 use crate::exploring::order::Order;
 use cap_core::Profile;
-use ipc_core::{MakeWaiters, Waiters};
+use ipc_core::{SaveWaiters, Waiters};
 use kernel_core::{Call, Kernel, Reply, ThreadState};
-use slot_core::{CapStore, MakeStore};
+use slot_core::{CapStore, SaveStore};
 use std::alloc::{AllocError, Global};
 
 /// A state: the first order of clients that leads to it, how many calls each client has made then, which of these wait, and
@@ -71,7 +71,7 @@ pub struct Stepped<P: Profile, S: CapStore<P> + Drop, W: Waiters<P> + Drop> {
 }
 
 /// A copy of a kernel, in the room of one that was given up, where there is one.
-pub fn copied<P: Profile, S: MakeStore<P>, W: MakeWaiters<P>>(
+pub fn copied<P: Profile, S: SaveStore<P>, W: SaveWaiters<P>>(
     alloc: Global,
     kernel: &Kernel<P, S, W>,
     spare: Option<Kernel<P, S, W>>,
@@ -85,7 +85,7 @@ pub fn copied<P: Profile, S: MakeStore<P>, W: MakeWaiters<P>>(
 }
 
 /// A kernel after one more call, with the reply, in the room of one that was given up; the one that it is of stays.
-pub fn step_copy<P: Profile, S: MakeStore<P>, W: MakeWaiters<P>>(
+pub fn step_copy<P: Profile, S: SaveStore<P>, W: SaveWaiters<P>>(
     alloc: Global,
     kernel: &Kernel<P, S, W>,
     spare: Option<Kernel<P, S, W>>,

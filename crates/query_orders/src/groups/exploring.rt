@@ -16,9 +16,9 @@ use crate::exploring::exploration::{Explored, begin, explore};
 use crate::groups::alone::alone;
 use crate::groups::grouping::{group_of, groups_of};
 use cap_core::Profile;
-use ipc_core::MakeWaiters;
+use ipc_core::SaveWaiters;
 use kernel_core::{Call, Kernel};
-use slot_core::{DerivationStore, MakeStore};
+use slot_core::{DerivationStore, SaveStore};
 use std::alloc::{AllocError, Global};
 
 /// A group, by its first client, and what the orders of its clients' calls give, by themselves.
@@ -36,7 +36,7 @@ pub struct GroupsExplored {
 }
 
 /// Explores the orders of each group's clients by themselves.
-fn explore_each<P: Profile, S: MakeStore<P> + DerivationStore<P>, W: MakeWaiters<P>>(
+fn explore_each<P: Profile, S: SaveStore<P> + DerivationStore<P>, W: SaveWaiters<P>>(
     alloc: Global,
     calls: &[Vec<Call>],
     kernel: &Kernel<P, S, W>,
@@ -73,7 +73,7 @@ fn explore_each<P: Profile, S: MakeStore<P> + DerivationStore<P>, W: MakeWaiters
 /// # Errors
 ///
 /// Memory was refused.
-pub fn explore_groups<P: Profile, S: MakeStore<P> + DerivationStore<P>, W: MakeWaiters<P>>(
+pub fn explore_groups<P: Profile, S: SaveStore<P> + DerivationStore<P>, W: SaveWaiters<P>>(
     alloc: Global,
     calls: &[Vec<Call>],
     kernel: &Kernel<P, S, W>,

@@ -26,6 +26,6 @@ invariant_of-result-2 g c =
       | else-threads-memory_bits+in_ok-chain w ↦ w.chain2-is ∙ w.in_ok-chain.ensures
           ∙ ap empty_links (links_made p memory w.SLOT_BITS.result memory kernel.memory_least kernel.memory_most refl (w.SLOT_BITS.ensures ∙ g.met.P.Profile.slot_bits_is))
     ] in
-    restored_kernel p memory (g.S.MakeStore.saved_memory c.self.inside.store) (g.W.MakeWaiters.saved_memory c.self.inside.waiters) _ _
-    (g.S.MakeStore.saved_forest c.self.inside.store) _ (rows_saved p memory live) _ (g.W.MakeWaiters.saved_waits c.self.inside.waiters) _ _ kernel
+    restored_kernel p memory (g.S.SaveStore.saved_memory c.self.inside.store) (g.W.SaveWaiters.saved_memory c.self.inside.waiters) _ _
+    (g.S.SaveStore.saved_forest c.self.inside.store) _ (rows_saved p memory live) _ (g.W.SaveWaiters.saved_waits c.self.inside.waiters) _ _ kernel
     c.in_ok-store.ensures.memory c.in_ok-waiters.ensures.memory c.in_ok-store.ensures.forest rows c.in_ok-waiters.ensures.waits links
