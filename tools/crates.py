@@ -47,9 +47,9 @@ def toolchain():
     return repr(sorted((name, it.st_size, it.st_mtime_ns) for name, it in files)).encode()
 
 
-def linked_toolchain(folder, scripts, kept):
-    """Makes the toolchain's compiler in a folder, of links to its files, but for these scripts of its bin/, which know where
-    the `{real}` one is, and under which name what they keep is `{kept}`."""
+def linked_toolchain(folder, scripts, **words):
+    """Makes the toolchain's compiler in a folder, of links to its files but for these scripts of its bin/. In their text `{real}`
+    is the toolchain's own compiler, and `{NAME}` the word of that name."""
     real = os.path.join(kit(), "toolchain")
     for at in ("", "bin"):
         os.makedirs(os.path.join(folder, at), exist_ok=True)
@@ -58,5 +58,5 @@ def linked_toolchain(folder, scripts, kept):
                 os.symlink(os.path.join(real, at, it), os.path.join(folder, at, it))
     for name, text in scripts.items():
         with open(os.path.join(folder, "bin", name), "w", encoding="utf-8") as file:
-            file.write(text.format(real=real, kept=kept))
+            file.write(text.format(real=real, **words))
         os.chmod(os.path.join(folder, "bin", name), 0o755)

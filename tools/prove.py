@@ -67,7 +67,7 @@ def write_costs():
     known = costs()
     for name in listed():
         with contextlib.suppress(FileNotFoundError), open(os.path.join(OUT, f"{name}.seconds"), encoding="utf-8") as file:
-            known[name] = round(float(file.read()))
+            known[name] = max(1, round(float(file.read())))
     with open(COSTS, encoding="utf-8") as file:
         head = [line for line in file if line.startswith("#")]
     with open(COSTS, "w", encoding="utf-8") as file:
@@ -109,13 +109,17 @@ class Crate:
             return os.path.join(self.folder, "out", f"lib{self.name}.a" if self.is_static else self.name)
         return os.path.join(OUT, f"{self.name}.rlib")
 
-    def words(self, jobs):
-        """Returns what `rattle check` and `rattle build` have to know of the crate."""
+    def words(self, jobs, library=None):
+        """Returns what `rattle check` and `rattle build` have to know of the crate. The libraries below it are in tools/out, or
+        where `library` says."""
         folder, libraries = kit(), os.path.join(kit(), "rlibs")
+        library = library or (lambda it: os.path.join(OUT, f"{it}.rlib"))
         words = ["--crate-name", self.name, os.path.join("src", "main.rt" if self.is_program else "lib.rt")]
         for it in ("std", *uses_of(self.line)):
-            words += ["--extern", f"{it}={os.path.join(OUT if it in self.below else libraries, it)}.rlib"]
-        words += ["-L", f"dependency={libraries}", "-L", f"dependency={OUT}", "--links", f"{self.name}="]
+            words += ["--extern", f"{it}={library(it) if it in self.below else os.path.join(libraries, it + '.rlib')}"]
+        for it in dict.fromkeys([libraries, *(os.path.dirname(library(name)) for name in names_below(self.name))]):
+            words += ["-L", f"dependency={it}"]
+        words += ["--links", f"{self.name}="]
         words += ["--antt-project", os.path.join(folder, "rattle", "logic", "antt-project.json")]
         words += ["--logic-built", os.path.join(folder, "logic_built"), "--jobs", str(jobs)]
         return words + ["--crate-type", "staticlib"] * self.is_static
@@ -187,6 +191,11 @@ class Crate:
 def crate_of(name):
     below, line = listed()[name]
     return Crate(name, line, below)
+
+
+def names_below(name):
+    """Returns the crates that one stands on, each after those that it names."""
+    return in_order(name, {it: below for it, (below, _) in listed().items()})[:-1]
 
 
 class Build:
@@ -337,6 +346,13 @@ def built(goal=NAME, with_goal=True):
     return status
 
 
+def is_built(name=NAME):
+    """Returns whether a crate is built from the files that are there, and so are the crates that it stands on."""
+    build = Build(name, True, 1, None)
+    build.skip_built()
+    return not build.waiting
+
+
 def main(words):
     """Proves and builds a crate, and runs a program on standard input. Returns the first status that is not 0."""
     if words == ["--costs"]:
@@ -356,14 +372,14 @@ def interrupted(number, _):
     raise KeyboardInterrupt(number)
 
 
-def status_of(work):
-    """Does the work and returns its status, also where it is told to stop."""
+def status_of(work, stopped="stopped; make prove goes on from here"):
+    """Does the work and returns its status, also where it is told to stop; this is said then."""
     for it in (signal.SIGTERM, signal.SIGHUP):
         signal.signal(it, interrupted)
     try:
         return work()
     except KeyboardInterrupt:
-        tell("stopped; make prove goes on from here")
+        tell(stopped)
         return 130
 
 

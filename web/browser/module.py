@@ -55,7 +55,7 @@ def run(words, **how):
 def module_of_program(folder):
     """Proves and builds the program over the libraries that are built, and returns its LLVM module as text."""
     kept, compiler = os.path.join(folder, "module.bc"), os.path.join(folder, "toolchain")
-    linked_toolchain(compiler, {"clang": CLANG_THAT_KEEPS}, kept)
+    linked_toolchain(compiler, {"clang": CLANG_THAT_KEEPS}, kept=kept)
     program = prove.crate_of(NAME)
     run(program.command(1, to=os.path.join(folder, f"{NAME}.o"), compiler=compiler), cwd=program.folder)
     if not os.path.isfile(kept):
