@@ -201,6 +201,8 @@ def main():
         failed |= tell(f"each beginning of {path.parent.name}/{path.name}", *wrong_of(program, beginnings(path.read_bytes())))
     failed |= tell("each byte of the stored set-up replaced", *wrong_of(program, replaced(stored)))
     failed |= long_texts_are_bounded(program, stored)
+    if IS_SLOW:
+        print(f"not tried: nine of ten broken texts, and texts longer than {MOST_BYTES:,} bytes")
     return 1 if failed else 0
 
 
