@@ -1,7 +1,7 @@
 # The targets of this repository; make help lists them. Each says first what it needs and does not find.
 .DEFAULT_GOAL := run
 
-.PHONY: help run test prove gate dist dist-test install rows rows-needs rows-python browser browser-test page page-test needs bench wrong-bodies
+.PHONY: help run test prove gate dist dist-test install rows rows-needs rows-python browser browser-test page page-test needs bench named-bodies wrong-bodies
 
 program = crates/sel4sim/out/sel4sim
 calls = crates/test_memory/out/test_memory
@@ -13,6 +13,8 @@ stored = $(setups)/examples/send_then_receive.toml
 first_format = $(setups)/messages/receive_then_send.toml
 # So many set-ups have all their orders made one by one.
 orders = 100
+# The crates whose named wrong bodies CI tries: those that are proved soonest.
+named = cap_core mem_core slot_core cspace_core ipc_core kernel_delete
 
 # lists the targets
 help:
@@ -130,6 +132,10 @@ bench: needs prove
 	python3 bench/same_reports.py $(plain) $(setups)
 	python3 bench/growth.py $(program) $(plain) $(PARTS)
 	$(if $(PARTS),,python3 bench/draw.py)
+
+# tries the wrong bodies of the kernel's parts in tools/named-bodies.txt, over what the gate proved
+named-bodies:
+	@python3 tools/wrong_bodies.py --named --jobs $(or $(JOBS),$(shell nproc)) $(named)
 
 # tries every wrong body; CRATE=NAME: those of one crate, JOBS=N: N crates side by side
 wrong-bodies:

@@ -4,15 +4,17 @@
 usage, anywhere in the repository:
   tools/wrong_bodies.py [CRATE [NAME..]]        all crates, one crate, or some of its edits by name
   tools/wrong_bodies.py --dry [CRATE [NAME..]]  proves nothing: is each edit's text there, and its clause?
-  tools/wrong_bodies.py --named                 those that tools/named-bodies.txt lists, behind the gate
+  tools/wrong_bodies.py --named [CRATE..]       those that tools/named-bodies.txt lists, of all its crates or of these
   --jobs N    so many crates side by side (1)
   --room DIR  keeps the copies, with what was proved and what rt said, in DIR
 
-The checkout is not touched: each crate is tried in a copy, over the crates below it, which are proved and built first, as
-by make prove. Edits stand in one check only where each is in a function of its own and none of these
-functions calls another one. There an edit counts as refused only by a goal of its own function: callers are proved
-against contracts, so such a goal is false, or no longer proved, because of that edit alone. What has no such error is
-tried by itself, by the rule of `rt must-fail`: the crate is refused. CONTRIBUTING.md says more."""
+The checkout is not touched: each crate is tried in a copy, over the crates below it, as the gate built them of the very
+files that are there, or else as make prove builds them, which is done first. Edits stand in one check only where each is in
+functions of its own and none of these calls a function of another edit. Such a check is of these functions alone and of what they
+call (`--only`): an edit counts as refused only by a goal of its own functions. Callers are proved against contracts, so such
+a goal is false, or no longer proved, because of that edit alone; that it is proved without the edit the same check says
+of the crate as it stands, or the gate, where it passed for these files. What has no such error is tried by itself in a check of the
+whole crate, by the rule of `rt must-fail`: the crate is refused. CONTRIBUTING.md says more."""
 import argparse
 import concurrent.futures
 import dataclasses
@@ -25,6 +27,7 @@ import tempfile
 
 sys.path.insert(0, os.path.join(os.path.dirname(os.path.dirname(os.path.abspath(__file__))), "tools"))
 
+import gate  # noqa: E402
 import prove  # noqa: E402
 from crates import listed  # noqa: E402
 
@@ -38,21 +41,35 @@ SIGNATURE = re.compile(r"( *)(?:pub(?:\([a-z]+\))? )?(?:const )?fn (\w+)")
 
 @dataclasses.dataclass(frozen=True)
 class Function:
-    """A function with a body: its file, its type or "", its name, its first and last line from 1, its text."""
+    """A function with a body: its file, its type or "", the trait that it is of or "", its name, its first and last line from 1,
+    its text, and the file of its type, or "" where that is its own."""
 
     file: str
     owner: str
+    trait: str
     name: str
     first: int
     last: int
     text: str = dataclasses.field(compare=False, default="")
+    home: str = ""
 
     @property
     def path(self):
         return f"{self.owner}::{self.name}" if self.owner else self.name
 
+    @property
+    def module(self):
+        """The path of the module by which a check tells of it, that of its type, with the colons behind it."""
+        module = re.sub(r"^src/|(/mod)?\.rt$", "", self.home or self.file).replace("/", "::")
+        return "" if module in ("lib", "main") else f"{module}::"
+
+    @property
+    def checked(self):
+        """The name by which a check tells of it."""
+        return f"{self.module}{self.owner}{self.trait}::{self.name}" if self.owner else f"{self.module}{self.name}"
+
     def same_as(self, other):
-        return (self.file, self.owner, self.name) == (other.file, other.owner, other.name)
+        return (self.file, self.owner, self.trait, self.name) == (other.file, other.owner, other.trait, other.name)
 
 
 @dataclasses.dataclass
@@ -76,13 +93,14 @@ def text_of(path):
 
 
 def owner_of(lines, at):
-    """The type whose impl a line stands in, or the trait."""
+    """The type whose impl a line stands in and its trait, or "", or the trait that it stands in and ""."""
     top = next((k for k in range(at, -1, -1) if re.match(r"impl\b|pub trait|trait|mod ", lines[k])), None)
-    if top is None:
-        return ""
-    head = " ".join(lines[top : at + 1]).split("{")[0]
-    found = re.search(r"\sfor (?:[\w:]*::)?(\w+)", head) or re.match(r"impl(?:<.*?>)? (\w+)|(?:pub )?trait (\w+)", head)
-    return next((it for it in found.groups() if it), "") if found else ""
+    head = "" if top is None else " ".join(lines[top : at + 1]).split("{")[0]
+    found = re.match(r"impl\b(?:\s*<.*?>)?\s+(?:[\w:]*::)?(\w+)(?:<[^<>]*>)?\s+for\s+(?:[\w:]*::)?(\w+)", head)
+    if found:
+        return found[2], found[1]
+    found = re.match(r"impl(?:<.*?>)? (\w+)|(?:pub )?trait (\w+)", head)
+    return next((it for it in found.groups() if it), "") if found else "", ""
 
 
 def end_of(lines, first, indent):
@@ -105,8 +123,8 @@ def functions_of(file, text):
         at = SIGNATURE.match(line)
         end = end_of(lines, n, at[1]) if at else None
         if end is not None:
-            owner = owner_of(lines, n) if at[1] else ""
-            found.append(Function(file, owner, at[2], n + 1, end + 1, "\n".join(lines[n : end + 1])))
+            owner, trait = owner_of(lines, n) if at[1] else ("", "")
+            found.append(Function(file, owner, trait, at[2], n + 1, end + 1, "\n".join(lines[n : end + 1])))
     return found
 
 
@@ -139,9 +157,19 @@ def place_pair(edit, folder, file, old):
     if text.count(old) != 1:
         return f"its 'old:' text stands {text.count(old)} times in {file}, and not once: {old}"
     line = text[: text.index(old)].count("\n") + 1
-    here = [it for it in functions_of(file, text) if it.first <= line <= it.last]
+    here = [with_home(it, folder) for it in functions_of(file, text) if it.first <= line <= it.last]
     edit.places += [it for it in here or [None] if it not in edit.places]
     return ""
+
+
+def with_home(function, folder):
+    """The function, with the file of its type where that is another one of the crate."""
+    if function.owner:
+        declared = re.compile(rf"^(?:pub(?:\([a-z]+\))? )?(?:struct|enum|trait) {function.owner}\b", re.M)
+        homes = [os.path.relpath(it, folder) for it in sources(folder) if declared.search(text_of(it))]
+        if homes and function.file not in homes:
+            return dataclasses.replace(function, home=homes[0])
+    return function
 
 
 def bad_why(edit, folder):
@@ -186,16 +214,21 @@ def calls(function, other):
     return re.search(rf"\b{other.name}(?:\(|::<)|[(,] *(?:\w+::)*{other.name} *[,)]", body)
 
 
+def functions_of_all(edits):
+    """The names of the functions that edits change, as a check tells of them."""
+    return tuple(dict.fromkeys(place.checked for edit in edits for place in edit.places))
+
+
 def can_stand_together(edit, other):
     """Whether no function of the one is, or calls, a function of the other."""
     return not any(a.same_as(b) or calls(a, b) or calls(b, a) for a in edit.places for b in other.places)
 
 
 def groups_of(edits):
-    """Groups of edits for one check each, and those that have to be tried alone."""
+    """Groups of edits for one check each, and those that have to be tried alone, since they change what is no function."""
     groups, alone = [], []
     for edit in edits:
-        if len(edit.places) != 1 or None in edit.places:
+        if None in edit.places:
             alone.append(edit)
             continue
         group = next((g for g in groups if all(can_stand_together(edit, it) for it in g)), None)
@@ -216,10 +249,12 @@ def make_room(root, crate, room):
 
 @dataclasses.dataclass
 class Tried:
-    """What came of a crate: how many edits were refused where, what they cost, and what is wrong."""
+    """A crate, its copy, and where the libraries below it are; and what came of it: how many edits were refused where, what they
+    cost, and what is wrong."""
 
     crate: str
     folder: str = ""
+    library: object = None
     counts: dict = dataclasses.field(default_factory=dict)
     wrong: list = dataclasses.field(default_factory=list)
     seconds: float = 0.0
@@ -234,8 +269,8 @@ class Ran:
     lines: list
 
 
-def check(tried, edits):
-    """Checks the copy with these edits, and puts its files back."""
+def check(tried, edits, only=()):
+    """Checks the copy with these edits, or some functions of it alone, and puts its files back."""
     folder = tried.folder
     kept = {file: text_of(f"{folder}/{file}") for edit in edits for file, _, _ in edit.pairs}
     texts = dict(kept)
@@ -244,25 +279,28 @@ def check(tried, edits):
             texts[file] = texts[file].replace(old, new)
     write_all(folder, texts)
     try:
-        ran, seconds = ran_with_seconds(tried.crate, folder)
+        ran = ran_by(tried, only)
+        if ran.status < 0:
+            # It was killed, most likely for memory: once more.
+            ran = ran_by(tried, only)
     finally:
         write_all(folder, kept)
-    tried.seconds, tried.checks = tried.seconds + seconds, tried.checks + 1
-    if edits:
-        write_all(folder, {f"said-{edits[0].name}.txt": "\n".join(ran.lines) + "\n"})
+    write_all(folder, {f"said-{edits[0].name if edits else 'without_edits'}.txt": "\n".join(ran.lines) + "\n"})
     return ran
 
 
-def ran_with_seconds(crate, folder):
-    """Runs the check, and gives the processor seconds that it took with all that it started."""
+def ran_by(tried, only):
+    """Runs a check, and adds the processor seconds that it took with all that it started."""
     how = {"stdin": subprocess.DEVNULL, "stdout": subprocess.PIPE, "stderr": subprocess.STDOUT, "encoding": "utf-8"}
-    words = [prove.rattle(), "check", *prove.crate_of(crate).words(1), "--incremental", "out"]
-    ran = subprocess.Popen(words, cwd=folder, errors="replace", **how)
+    words = [prove.rattle(), "check", *prove.crate_of(tried.crate).words(1, tried.library), "--incremental", "out"]
+    words += [f"--only={it}" for it in only]
+    ran = subprocess.Popen(words, cwd=tried.folder, errors="replace", **how)
     said = ran.stdout.read()
     ran.stdout.close()
     _, status, used = os.wait4(ran.pid, 0)
     ran.returncode = os.waitstatus_to_exitcode(status)
-    return Ran(ran.returncode, said.rstrip("\n").split("\n")), used.ru_utime + used.ru_stime
+    tried.seconds, tried.checks = tried.seconds + used.ru_utime + used.ru_stime, tried.checks + 1
+    return Ran(ran.returncode, said.rstrip("\n").split("\n"))
 
 
 def write_all(folder, texts):
@@ -292,8 +330,7 @@ def is_of(place, function):
     """Whether a path that rt prints is that of a function, or of a closure in it, or a line is one of its lines."""
     if isinstance(place, tuple):
         return place[0] == function.file and function.first <= place[1] <= function.last
-    module = re.sub(r"^src/|(/mod)?\.rt$", "", function.file).replace("/", "::")
-    prefix = "" if module in ("lib", "main") else f"{module}::"
+    prefix = function.module
     owner = rf"{function.owner}[^:]*::" if function.owner else ""
     closure = rf"(?:{owner})?fn::(?:{owner})?{function.name}(?:::.*)?"
     return re.fullmatch(rf"{prefix}(?:{owner}{function.name}|{closure})", place)
@@ -342,8 +379,8 @@ def said(crate, edit, where, goals):
 
 
 def try_group(tried, group):
-    """Tries several edits in one check, and gives where each was refused; none where it has no goal of its own."""
-    ran = check(tried, group)
+    """Tries edits in one check of their functions, and gives where each was refused; none where it has no goal of its own."""
+    ran = check(tried, group, functions_of_all(group))
     goals = goals_of(ran, tried.crate)
     found = {}
     for edit in group:
@@ -381,16 +418,16 @@ def not_admitted(ran):
 
 
 def try_crate(root, crate, names, rooms, is_proved):
-    """Tries the edits of a crate in a copy. Where the crate is proved already, one check of several edits needs no check of the
-    crate itself: it goes by the edits' own goals."""
-    tried = Tried(crate)
+    """Tries the edits of a crate in a copy. Where the gate passed, the crate is proved, and one group of edits needs no check of the
+    crate without them."""
+    tried = Tried(crate, library=gate.library if is_proved else None)
     edits = edits_of(f"{root}/crates/{crate}", names)
     tried.wrong += [f"{crate}/{it.name}: BAD EDIT: {it.bad}" for it in edits if it.bad]
     edits = [it for it in edits if not it.bad]
     tried.folder = make_room(root, crate, f"{rooms}/{crate}")
     groups, alone = groups_of(edits)
-    is_one_check = len(groups) == 1 and len(groups[0]) > 1 and not alone
-    if not (is_proved and is_one_check) and check(tried, []).status != 0:
+    only = () if alone else functions_of_all(edits)
+    if (not is_proved or alone or len(groups) > 1) and check(tried, [], only).status != 0:
         tried.wrong.append(f"{crate}: not tried, since it is not proved itself")
         return tried
     for name, where in refusals(tried, groups, alone).items():
@@ -404,15 +441,16 @@ def refusals(tried, groups, alone):
     """Where each edit was refused, in as few checks as can tell."""
     found = {}
     for group in groups:
-        found |= try_group(tried, group) if len(group) > 1 else {group[0].name: try_alone(tried, group[0])}
-        alone += [it for it in group if it.name not in found]
+        found |= try_group(tried, group)
+        alone = [*alone, *(it for it in group if it.name not in found)]
     return found | {it.name: try_alone(tried, it) for it in alone}
 
 
-def dry(root, crates, names):
+def dry(root, names, is_named):
     """Says of each edit that cannot be applied, or whose first line names what is not there."""
-    edits = [(crate, it) for crate in crates for it in edits_of(f"{root}/crates/{crate}", names[crate])]
+    edits = [(crate, it) for crate in names for it in edits_of(f"{root}/crates/{crate}", names[crate])]
     bad = [f"{crate}/{it.name}: BAD EDIT: {it.bad}" for crate, it in edits if it.bad]
+    bad += lacking(names, len(edits)) if is_named else []
     print("\n".join([*bad, f"{len(edits)} edits, {len(bad)} of them bad"]))
     return 1 if bad else 0
 
@@ -448,44 +486,60 @@ def chosen(root, crate):
     return [it for it in names if (it == crate if crate else has_edits(it))]
 
 
+def asked_for(root, asked):
+    """The names of the edits to be tried, by their crates in the order of crates.txt; of a crate without names all."""
+    if not asked.named:
+        return dict.fromkeys(chosen(root, asked.crate), asked.names)
+    wanted, found = [asked.crate, *asked.names] if asked.crate else [], named_bodies(root)
+    for it in wanted:
+        if it not in found:
+            sys.exit(f"tools/named-bodies.txt has no crate {it}")
+    return {it: found[it] for it in listed() if it in found and (it in wanted or not wanted)}
+
+
 def main():
     parser = argparse.ArgumentParser(description="Tries the wrong bodies of the crates, in copies.")
     parser.add_argument("crate", nargs="?", default="", help="one crate; else all")
-    parser.add_argument("names", nargs="*", help="some edits of it by name; else all")
+    parser.add_argument("names", nargs="*", help="some edits of it by name; else all; with --named, more crates")
     parser.add_argument("--named", action="store_true", help="those that tools/named-bodies.txt lists")
     parser.add_argument("--dry", action="store_true", help="only look whether each edit can be applied")
     parser.add_argument("--jobs", type=int, default=1, help="crates side by side")
     parser.add_argument("--room", help="a folder for the copies, which is kept")
     asked, root = parser.parse_args(), root_above()
-    crates = chosen(root, asked.crate)
-    asked.names = named_bodies(root) if asked.named else dict.fromkeys(crates, asked.names)
-    crates = [it for it in crates if it in asked.names]
+    names = asked_for(root, asked)
     if asked.dry:
-        return dry(root, crates, asked.names)
+        return dry(root, names, asked.named)
     rooms = asked.room or tempfile.mkdtemp(prefix="wrong-bodies-")
     try:
-        return try_all(root, crates, asked, os.path.abspath(rooms))
+        return try_all(root, names, asked, os.path.abspath(rooms))
     finally:
         if not asked.room:
             shutil.rmtree(rooms, ignore_errors=True)
 
 
-def try_all(root, crates, asked, rooms):
-    """Builds what the crates stand on, tries their edits, so many crates side by side as asked for, and tells what came of
-    it."""
-    for crate in crates:
-        if prove.built(crate, with_goal=False):
+def try_all(root, names, asked, rooms):
+    """Builds what the crates stand on, where the gate did not, tries their edits, so many crates side by side as asked for, and
+    tells what came of it."""
+    is_proved = gate.has_libraries({it for crate in names for it in prove.names_below(crate)})
+    for crate in names:
+        if not is_proved and prove.built(crate, with_goal=False):
             sys.exit(f"{crate}: not tried, since a crate that it stands on is not proved")
-    with concurrent.futures.ThreadPoolExecutor(max(1, asked.jobs)) as pool:
-        all_tried = [*pool.map(lambda it: tried_and_told(root, it, asked.names[it], rooms, asked.named), crates)]
+    places = min(asked.jobs, prove.free_memory() // prove.BYTES_A_JOB)
+    with concurrent.futures.ThreadPoolExecutor(max(1, places)) as pool:
+        all_tried = [*pool.map(lambda it: tried_and_told(root, it, names[it], rooms, is_proved), names)]
     wrong = [line for it in all_tried for line in it.wrong]
     tried = sum(sum(it.counts.values()) for it in all_tried)
-    wanted = sum(map(len, asked.names.values())) if asked.named else tried
-    wrong += [f"{wanted - tried} of the named bodies are not there or were not tried"] * (wanted != tried)
-    edits, seconds = sum(sum(it.counts.values()) for it in all_tried), sum(it.seconds for it in all_tried)
+    wrong += lacking(names, tried) if asked.named else []
+    seconds = sum(it.seconds for it in all_tried)
     print("\n".join(wrong))
-    print(f"{edits} wrong bodies tried, {len(wrong)} not refused or bad; {seconds:.0f} processor s")
+    print(f"{tried} wrong bodies tried, {len(wrong)} not refused or bad; {seconds:.0f} processor s")
     return 1 if wrong else 0
+
+
+def lacking(names, found):
+    """Says where fewer edits were found than are named."""
+    wanted = sum(map(len, names.values()))
+    return [f"{wanted - found} of the named bodies are not there or were not tried"] * (wanted != found)
 
 
 def tried_and_told(root, crate, names, rooms, is_proved):
