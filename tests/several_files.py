@@ -23,6 +23,8 @@ TEXTS = {
     "unmet.toml": (SIZES + CALL * 2 + 'expect = "done"\n', "expected 0 of 1"),
     "no_reply.toml": (SIZES + CALL + 'expect = "don"\n', "expected 0 of 1"),
     "unexpected.toml": (SIZES + CALL.replace("cap = 4", "cap = 9"), "expected 0 of 0"),
+    "named.toml": (SIZES + "[names]\na = 2048\nep = 4\n" + CALL.replace("2048", '"@a"').replace("cap = 4", 'cap = "@ep"') + 'expect = "done"\n',
+                   "expected 0 of 1"),
     "many.toml": (SIZES + CALL.replace("cap = 4", "cap = 9") * 22 + (CALL + 'expect = "done"\n') * 21, "expected 0 of 21"),
     "refused.toml": ("format = 3\n", "set-up refused 204 at top key format"),
     "no_text.toml": ("format\n", "set-up refused 200 at text"),
@@ -113,6 +115,13 @@ def other_lines(program):
             yield f"{words}: not as {one} alone"
 
 
+def whole_texts(program, text):
+    """What is written of a file with names and of standard input, word for word: what is wrong."""
+    answer = run(program, ["check", "named.toml", "-"], text)[:2]
+    if answer != (1, "named.toml: expected 0 of 1\n-: expected 1 of 1\nfiles 2 met 1 unmet 1 refused 0 unread 0\n"):
+        yield f"named.toml and standard input: {answer}"
+
+
 def failing_devices(program):
     """An output that takes nothing, and standard input that cannot be read: what is wrong."""
     with open("out", "wb") as unreadable:
@@ -142,7 +151,7 @@ def main():
         for words, names in runs_of(files, setups):
             count += 1
             wrong += files.wrong(words, names)
-        wrong += [*other_lines(program), *failing_devices(program)]
+        wrong += [*other_lines(program), *whole_texts(program, files.text), *failing_devices(program)]
     for text in wrong:
         print(text)
     print(f"several files: {count} runs, {len(setups)} worked set-ups in one, {len(wrong)} wrong answers")
