@@ -10,7 +10,6 @@ answers = tests/answers
 plain = bench/check_plain/out/target/release/check_plain
 given = crates/sel4sim/stdin
 stored = $(setups)/examples/send_then_receive.toml
-first_format = $(setups)/messages/receive_then_send.toml
 # So many set-ups have all their orders made one by one.
 orders = 100
 # The crates whose named wrong bodies CI tries: those that are proved soonest.
@@ -54,12 +53,11 @@ rows-needs:
 
 # tests the proved program from outside (tests/*.py), with all that this needs
 rows: rows-needs prove
+	python3 tools/prove.py test_memory
 	@$(MAKE) --no-print-directory rows-python
 	python3 tests/browser_page.py web/site/sel4sim.html
 	python3 tests/schema.py $(program) $(setups) web/page/test/setups tests
-	python3 tools/prove.py test_memory
-	python3 tests/refuse_memory.py $(program) $(calls) $(stored) $(first_format)
-	python3 tests/fail_each_transfer.py $(program) $(stored)
+	python3 tests/commands.py --each $(program) $(calls)
 
 # those of these tests that need nothing but Python and the program
 rows-python:
@@ -94,7 +92,7 @@ rows-python:
 	python3 tests/messages.py $(program)
 	python3 tests/imports.py $(program) tests/layouts 1 300
 	python3 tests/use_address_again.py $(program) 1000
-	python3 tests/devices.py $(program) $(stored)
+	python3 tests/commands.py $(program) $(calls)
 	python3 tests/hostile_texts.py $(program) $(setups) $(stored)
 	python3 tests/run_clients.py $(program) $(setups)/examples/three_clients.toml 100
 	python3 tests/run_clients.py $(program) tests/four_clients.toml 100

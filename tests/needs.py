@@ -15,8 +15,8 @@ def needs(program):
         yield f"{program} (make prove builds it, and make gate)"
     if not program and importlib.util.find_spec("jsonschema") is None:
         yield "the Python module jsonschema (apt-get install python3-jsonschema)"
-    if not program and shutil.which("gcc") is None:
-        yield "gcc (apt-get install gcc)"
+    if not program and not any(map(shutil.which, ("cc", "gcc", "clang"))):
+        yield "a C compiler (apt-get install gcc)"
 
 
 def main():
