@@ -1,8 +1,9 @@
 #!/usr/bin/env python3
 """completions.py PROGRAM: writes the files of tools/completions/ from what `PROGRAM --help` and `PROGRAM COMMAND --help`
-print. They complete commands, options, the values of options where the help has them, and files, in bash, zsh and fish.
+print, and the exit statuses of the man page from the first. The files complete commands, options, the values of options where the
+help has them, and files, in bash, zsh and fish.
 completions.py --check PROGRAM: writes nothing, and says in which of these files something else stands than the help
-gives now, and where the man page has other commands or options than the help."""
+gives now, and where the man page has other commands, options or statuses than the help."""
 import os
 import re
 import subprocess
@@ -187,9 +188,26 @@ def text_of(*path):
         return ""
 
 
-def page_faults(whole, commands):
-    """Where the man page has other commands or options than the help."""
-    page = text_of(f"{NAME}.1").replace("\\-", "-")
+def statuses(text):
+    """The lines of the man page for the exit statuses that a help text tells."""
+    told = re.search(r"^Exit status:\n((?: .*\n)+)", text, re.M)[1]
+    for number, about in re.findall(r"^  (\d)  (.*(?:\n {4,}.*)*)", told, re.M):
+        about = " ".join(about.split()).replace("--", "\\-\\-")
+        yield f".TP\n.B {number}\n{about[0].upper()}{about[1:]}.\n"
+
+
+def with_statuses(page, text):
+    """The man page with the exit statuses of a help text, up to the first paragraph behind them."""
+    before, heading, rest = page.partition('.SH "EXIT STATUS"\n')
+    return before + heading + "".join(statuses(text)) + rest[rest.index(".PP\n"):]
+
+
+def page_faults(whole, commands, text):
+    """Where the man page has other commands, options or statuses than the help."""
+    page = text_of(f"{NAME}.1")
+    if page != with_statuses(page, text):
+        yield "the exit statuses of the man page are not those of the help: tools/completions.py PROGRAM writes them"
+    page = page.replace("\\-", "-")
     told = re.findall(r"^\.BI? ([\w-]+)", section(page, "COMMANDS"), re.M)
     if told != [name for name, _, _ in commands]:
         yield f"the man page has the commands {told}"
@@ -212,7 +230,7 @@ def main(words):
     if check == ["--check"]:
         wrong = [f"tools/completions/{name} is not what the help gives now: tools/completions.py {program} writes it"
                  for name, text in made.items() if text_of("completions", name) != text]
-        wrong += page_faults(*helps(program))
+        wrong += page_faults(*helps(program), output(program, "--help"))
         for fault in wrong:
             print(fault)
         print(f"{len(made)} completions and the man page beside the help, {len(wrong)} faults")
@@ -221,6 +239,9 @@ def main(words):
     for name, text in made.items():
         with open(os.path.join(HERE, "completions", name), "w", encoding="utf-8") as file:
             file.write(text)
+    page = with_statuses(text_of(f"{NAME}.1"), output(program, "--help"))
+    with open(os.path.join(HERE, f"{NAME}.1"), "w", encoding="utf-8") as file:
+        file.write(page)
     return 0
 
 

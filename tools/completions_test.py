@@ -1,6 +1,6 @@
 #!/usr/bin/env python3
 """Tests of completions.py with a stand-in for the program, which has options with values too: its files in bash, and
-where these are installed in fish, and read by zsh."""
+where these are installed in fish, and read by zsh; and the statuses of the man page."""
 import os
 import shutil
 import subprocess
@@ -27,6 +27,11 @@ Options:
   -V, --version  Print version
 
 Without a command, standard input is read.
+
+Exit status:
+  0  all is well, by
+     --strict too
+  4  the command line is refused
 """,
     "check": """Runs a set-up
 
@@ -106,6 +111,11 @@ class Completions(unittest.TestCase):
         form, after, _ = commands[1][2].options
         self.assertEqual((form.values, form.about, after.has_value), (["text", "dot"], "How it is drawn", True))
         self.assertEqual([told.takes_files for told in (whole, *(it[2] for it in commands))], [True, True, False, False])
+
+    def test_statuses_of_the_help_are_in_the_man_page(self):
+        page = '.SH "EXIT STATUS"\n.TP\n.B 0\nIt is otherwise.\n.PP\nMore.\n.SH FILES\n'
+        made = '.SH "EXIT STATUS"\n.TP\n.B 0\nAll is well, by \\-\\-strict too.\n.TP\n.B 4\nThe command line is refused.\n'
+        self.assertEqual(completions.with_statuses(page, HELP[""]), f"{made}.PP\nMore.\n.SH FILES\n")
 
     def test_in_bash(self):
         words = ["check", "tree", "help", "-h", "--help", "-V", "--version"]
