@@ -584,6 +584,9 @@ pub fn read_policy(alloc: Global, bytes: &[u8]) -> Result<PolicyFile, Refusal>
     match toml::table_from_slice(alloc, bytes) {
         Ok(table) => read_table(alloc, text, &table),
         Err(error) => {
+            if error.is_memory() {
+                return Err(Refusal::Memory);
+            }
             let at = error.span().map_or(0, |span| span.start);
             let words = String::from_str(alloc, error.message())?;
             Err(Refusal::new(alloc, text, Fault::Text, Spot::Text(at), words))
