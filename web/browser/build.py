@@ -8,8 +8,8 @@ so. The same commit gives the same bytes.
 
 With --check nothing is written, and the status is 1 where the file is not what would be written.
 
-With --draft the page is written to FILE with the module that web/site/sel4sim.html has in it. So a change of the page itself
-can be looked at before anything is proved or compiled.
+With --draft the page is written to FILE with the module and the editor that web/site/sel4sim.html has in it. So a change of the
+page itself can be looked at before anything is proved or compiled; it needs Python alone.
 """
 import base64
 import gzip
@@ -51,12 +51,10 @@ POLICY = ".policy.toml"
 FIRST_CALLS = re.compile(r"^#.*--first (\d+)", re.M)
 
 
-def needs(is_draft):
+def needs():
     """Yields what this machine lacks."""
     if not all((CODEMIRROR / it).is_file() for it in (*SCRIPTS, "lib/codemirror.css")):
         yield "CodeMirror (apt-get install libjs-codemirror)"
-    if is_draft:
-        return
     if shutil.which("rt") is None:
         yield "the Rattle toolchain, with its command rt on the path"
     if shutil.which("wasm-opt") is None:
@@ -73,6 +71,12 @@ def commit():
     """Returns the last commit of what the page is made of, and whether the files differ from it."""
     changed = output("git", "status", "--porcelain", "--", *MADE_OF)
     return output("git", "log", "-1", "--format=%H", "--", *MADE_OF) + (", with changes" if changed else "")
+
+
+def editor():
+    """Returns the style and the script of the editor, as Debian packs it."""
+    style = (CODEMIRROR / "lib/codemirror.css").read_text()
+    return style, "\n" + "".join((CODEMIRROR / it).read_text() for it in SCRIPTS)
 
 
 def readable(paths):
@@ -157,6 +161,13 @@ def taken():
     return re.search(r'"module": "([^"]*)"', made)[1], toolchain
 
 
+def taken_editor():
+    """Returns the style and the script of the editor as that page has them."""
+    made = SITE.read_text()
+    style = re.search(r"/\* BASICS \*/.*?(?=^\* \{ box-sizing)", made, re.S | re.M)[0]
+    return style, re.search(r"<script>(.*?)</script>", made, re.S)[1]
+
+
 def data(packed):
     """Returns what the page's script reads, as JSON that ends no element of a page."""
     told = {"module": packed, "worker": (SOURCE / "worker.mjs").read_text(), "viewer": join.viewer(), "topics": topics()}
@@ -173,29 +184,31 @@ def policy(style, *scripts):
             "form-action 'none'; require-trusted-types-for 'script'; trusted-types sel4sim")
 
 
-def page(packed, toolchain):
-    """Returns the text of the page."""
-    styles = [join.SOURCE / "colours.css", join.SOURCE / "wires.css", CODEMIRROR / "lib/codemirror.css", SOURCE / "style.css", SOURCE / "exercise.css"]
-    style = "\n" + "".join(path.read_text() for path in styles)
-    codemirror = "\n" + "".join((CODEMIRROR / it).read_text() for it in SCRIPTS)
+def page(made_of, packed, toolchain, editor_style, codemirror):
+    """Returns the text of the page, which tells the commit that it is made of."""
+    before, behind = (("colours.css", "wires.css"), ("style.css", "exercise.css"))
+    style = "\n" + "".join([*((join.SOURCE / it).read_text() for it in before), editor_style, *((SOURCE / it).read_text() for it in behind)])
     style, codemirror, script = join.harmless(style, codemirror, join.joined(SOURCE / "page.mjs", apart=("worker.mjs",)))
     return join.filled((SOURCE / "page.html").read_text(), policy=policy(style, codemirror, script), style=style,
-                       commit=commit(), toolchain=toolchain, data=data(packed),
-                       codemirror=codemirror, script=script)
+                       commit=made_of, toolchain=toolchain, data=data(packed), codemirror=codemirror, script=script)
+
+
+def draft():
+    """Returns the text of the page with all that is not made here taken from the page that was made last."""
+    return page("a draft", *taken(), *taken_editor())
 
 
 def main():
-    is_draft = sys.argv[1:2] == ["--draft"]
-    missing = list(needs(is_draft))
+    if sys.argv[1:2] == ["--draft"]:
+        pathlib.Path(sys.argv[2]).write_text(draft())
+        return 0
+    missing = list(needs())
     if missing:
         print("make browser needs " + ", ".join(missing), file=sys.stderr)
         return 2
-    if is_draft:
-        pathlib.Path(sys.argv[2]).write_text(page(*taken()))
-        return 0
     import module
     try:
-        text = page(*compiled())
+        text = page(commit(), *compiled(), *editor())
     except module.Failed as fault:
         print(f"make browser: {fault}", file=sys.stderr)
         return 1

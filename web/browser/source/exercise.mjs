@@ -6,6 +6,7 @@ import { Steps } from "./steps.mjs";
 import { callsOf } from "./report.mjs";
 import { courseOf, drawCourse } from "./course.mjs";
 import { element } from "../../page/source/element.mjs";
+import { drawPrinted } from "./printed.mjs";
 import { exerciseOf, withExpectations } from "./exercise_text.mjs";
 import { keepAt, keptAt } from "./kept.mjs";
 import { reasonsByCall } from "./why.mjs";
@@ -13,7 +14,7 @@ import { wordBitsOf } from "./places.mjs";
 
 /** What is kept of all exercises, by the texts that ask. */
 const KEPT = "sel4sim.exercises";
-const NEW = { stage: ASKED, answers: {}, marked: {}, tries: 0, atFirst: [], right: 0, checked: {} };
+const NEW = { stage: ASKED, answers: {}, marked: {}, tries: 0, atFirst: [], right: 0, checked: {}, wasLeft: false };
 const NARROW = "(max-width: 800px)";
 /** What a retype makes where it makes threads or endpoints. */
 const KINDS_MADE = { threads: "1", endpoints: "2" };
@@ -53,9 +54,10 @@ export class Exercise {
     back.addEventListener("click", () => sheet.scrollIntoView());
     this.beside = element("section", { class: "beside", "aria-label": "The run" }, this.heading, back);
     parent.append(sheet, this.beside);
+    window.addEventListener("beforeprint", () => this.print());
     this.sheet = new Sheet(sheet, {
-      mark: () => this.mark(), check: () => this.checkOne(), reveal: () => this.reveal(), save: () => this.save(),
-      restart: () => this.restart(), leave: () => page.leaveExercise(), next: () => page.openNext(),
+      mark: () => this.alone(() => this.mark()), check: () => this.alone(() => this.checkOne()), reveal: () => this.alone(() => this.reveal()),
+      save: () => this.save(), restart: () => this.restart(), leave: () => this.leave(), next: () => page.openNext(),
       turn: (inTurn) => this.keep({ inTurn }), answered: (card) => this.answered(card), step: (number) => this.showStep(number),
       see: () => this.heading.scrollIntoView(),
     });
@@ -93,7 +95,7 @@ export class Exercise {
   async ask(subcommand, text) {
     const { told, name, page } = this;
     const answer = await page.program.run([subcommand, name], name, new TextEncoder().encode(text));
-    // What was stopped, as by a second press of the same button, gives nothing away: the sheet stays.
+    // What was stopped gives nothing away: the sheet stays.
     if (told !== this.told || answer === STOPPED) return null;
     if (answer.status === 0 || answer.status === 1) return new TextDecoder().decode(answer.output);
     this.close();
@@ -118,7 +120,7 @@ export class Exercise {
 
   drawCourse() {
     const { text, page } = this;
-    drawCourse(this.sheet.course, this.course, { opened: text, came: cameOf, open: (...setup) => page.open(...setup) });
+    drawCourse(this.sheet.course, this.course, { opened: text, came: cameOf, open: (...setup) => page.visits.go(() => page.open(...setup)) });
   }
 
   /** The set-up of the exercise behind this one in its course, or undefined. */
@@ -133,6 +135,14 @@ export class Exercise {
     if (!this.steps.frame.isConnected) this.beside.append(this.steps.frame);
     this.trace = trace;
     this.steps.show(trace, page.title, number);
+  }
+
+  /** Puts the state that the questions begin in on the print, while no answer is shown. */
+  print() {
+    if (!this.isOpen || !this.steps?.isLoaded) return;
+    const isAsked = this.state.stage !== SHOWN && !this.current;
+    this.sheet.printed.hidden = !isAsked;
+    if (isAsked) drawPrinted(this.sheet.printed, this.steps.frame, { markup: this.page.markup, title: this.heading.textContent });
   }
 
   /** Shows what a call changed. */
@@ -176,6 +186,18 @@ export class Exercise {
     return withExpectations(this.text, this.sheet.answers);
   }
 
+  /** Does one thing at a time: what is pressed while the program marks is not done. */
+  async alone(act) {
+    const { marking } = this.sheet;
+    if (marking.inert) return;
+    marking.inert = true;
+    try {
+      await act();
+    } finally {
+      marking.inert = false;
+    }
+  }
+
   /** What the program answers to each call, by its number, or null. */
   async replies() {
     const report = await this.ask("check", this.answeredText);
@@ -212,6 +234,29 @@ export class Exercise {
     this.keep({ stage: SHOWN });
     await this.drawMarks(this.state.marked);
     this.sheet.status.focus();
+  }
+
+  /** Shows the set-up itself, whose report tells every answer: before these are shown, it is asked whether that is wanted. */
+  leave() {
+    if (this.state.stage === SHOWN) {
+      this.page.leaveExercise();
+      return;
+    }
+    const [show, stay] = ["show the answers", "back to the questions"].map((words) => element("button", { type: "button" }, words));
+    const asked = element("dialog", { "aria-label": "The answers" }, element("p", {}, "The report of the set-up itself tells what every call "
+      + "is answered. What you hand in says that you looked at it."), element("p", { class: "buttons" }, stay, show));
+    const end = (act) => () => {
+      asked.remove();
+      act();
+    };
+    stay.addEventListener("click", end(() => this.sheet.buttons.leave.focus()));
+    asked.addEventListener("close", end(() => this.sheet.buttons.leave.focus()));
+    show.addEventListener("click", end(() => {
+      this.keep({ wasLeft: true });
+      this.page.leaveExercise();
+    }));
+    document.body.append(asked);
+    asked.showModal();
   }
 
   /** Shows below each call what it is answered and why, and beside them the whole run. */
@@ -269,11 +314,12 @@ export class Exercise {
 
   /** How the answers came about, in words. */
   get story() {
-    const { right, of, atFirst, tries, stage, inTurn } = this.state;
-    if (stage === ASKED) return `${this.sheet.answers.size} of ${of} answered, not marked`;
+    const { right, of, atFirst, tries, stage, inTurn, wasLeft } = this.state;
+    const looked = wasLeft ? "the report was looked at" : "";
+    if (stage === ASKED) return [`${this.sheet.answers.size} of ${of} answered, not marked`, looked].filter(Boolean).join(", ");
     const later = this.sheet.asking.map(({ number }) => number).filter((number) => !atFirst.includes(number));
     const words = [`${right} of ${of} right`, `${atFirst.length} at the first try${later.length > 0 ? ` (not ${later.join(", ")})` : ""}`,
-      `tries ${tries}`, inTurn ? "one at a time" : "", stage === SHOWN && right < of ? "then shown" : ""];
+      `tries ${tries}`, inTurn ? "one at a time" : "", stage === SHOWN && right < of ? "then shown" : "", looked];
     return words.filter(Boolean).join(", ");
   }
 

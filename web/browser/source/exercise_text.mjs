@@ -78,11 +78,45 @@ export function withExpectations(text, given) {
 const partsTold = (expectation) => PARTS.slice(1)
   .filter((part) => expectation.startsWith("delivered") && `${expectation} `.includes(` ${part} `)).length;
 
+/** What the calls expect, by their numbers. */
+const expectationsOf = (text) => placesOf(text).call.map(({ texts }, at) => [at + 1, texts.get("expect")?.text])
+  .filter(([, it]) => it !== undefined);
+
+/** Words by which a comment may tell a reply. */
+const TELLING = {
+  done: /\bdone\b|success|succeed|works?\b/iu, waiting: /\bwait|block/iu, delivered: /deliver|receiv|arriv|\bgets?\b|\btakes?\b/iu,
+  dropped: /\bdrop|\blost\b/iu, empty: /\bempty|\bnothing\b|\bnobody\b|no one/iu,
+  refused: /refus|\bfail|\bfull\b|\bcannot\b|\bnot\b|\bno\b|\btoo\b|\bwithout\b|\bempty|\bmissing|\bmismatch|\bwrong/iu,
+};
+
+/** The comments above the calls that expect something, `{ number, words, isTelling }`: first those that have a word of the reply, or a
+    number of it. */
+export function wordsThatTell(text) {
+  const lines = text.split("\n");
+  const { call } = placesOf(text);
+  const told = expectationsOf(text).map(([number, expectation]) => {
+    const { words } = wordsAbove(lines, call[number - 1].line);
+    const numbers = (expectation.match(/\d+/gu) ?? []).some((it) => new RegExp(`\\b${it}\\b`, "u").test(words));
+    return { number, words, isTelling: numbers || (TELLING[expectation.split(" ")[0]]?.test(words) ?? false) };
+  }).filter(({ words }) => words !== "");
+  return [...told.filter(({ isTelling }) => isTelling), ...told.filter(({ isTelling }) => !isTelling)];
+}
+
+/** The text with the comments above some calls as reasons, which are hidden until the answers are shown. */
+function withReasons(text, numbers) {
+  const lines = text.split("\n");
+  for (const { line } of placesOf(text).call.filter((_, at) => numbers.includes(at + 1))) {
+    const above = commentsAbove(lines, line).length;
+    for (let at = line - above; at < line; at += 1) lines[at] = lines[at].replace(/^(\s*)#>?/u, `$1${BECAUSE}`);
+  }
+  return lines.join("\n");
+}
+
 /** The set-up with its expectations as questions. Each asks as far as the one that tells most, so that the questions do not
-    tell which calls deliver. */
-export function asExercise(text) {
-  const given = placesOf(text).call.map(({ texts }, at) => [at + 1, texts.get("expect")?.text]).filter(([, it]) => it !== undefined);
+    tell which calls deliver. The comments above the calls that are `hidden` are shown with the answers alone. */
+export function asExercise(text, hidden = []) {
+  const given = expectationsOf(text);
   const most = Math.max(0, ...given.map(([, it]) => partsTold(it)));
   const question = most > 0 ? `? ${PARTS[most]}` : "?";
-  return withExpectations(text, new Map(given.map(([number]) => [number, question])));
+  return withReasons(withExpectations(text, new Map(given.map(([number]) => [number, question]))), hidden);
 }

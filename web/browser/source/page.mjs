@@ -7,10 +7,11 @@ import { Program, STOPPED } from "./program.mjs";
 import { Steps } from "./steps.mjs";
 import { POLICY, REPORT, STEPS, TABS } from "./tabs.mjs";
 import { Policy, isPolicy } from "./policy.mjs";
-import { asExercise } from "./exercise_text.mjs";
 import { callsOf } from "./report.mjs";
 import { element } from "../../page/source/element.mjs";
-import { fragmentOf, readFragment } from "./share.mjs";
+import { Sharing } from "./sharing.mjs";
+import { TooLong, readFragment } from "./share.mjs";
+import { Visits } from "./visits.mjs";
 import { callAt, lastLineOf, lineOfFault, placesOf, wordsTold } from "./places.mjs";
 import { drawTerms } from "./terms.mjs";
 import { drawingOf } from "../../page/source/picture.mjs";
@@ -90,9 +91,11 @@ class Page {
     this.options = new Options(byId("options"), () => this.given());
     this.steps = new Steps({ viewer: this.markup(data.viewer), title: "The run, call by call",
       listen: (frame) => { this.listenToFrame(frame); this.drawProjected(); }, shown: (number) => this.showCall(number) });
-    this.examples = new Examples(byId("examples"), data.topics, { open: (...place) => this.openExample(...place),
-      openLeft: (setup) => this.openAgain(setup) });
+    this.visits = new Visits(this, (setup, chosen) => this.openVisited(setup, chosen));
+    this.examples = new Examples(byId("examples"), data.topics, { open: (...place) => this.visits.go(() => this.openExample(...place)),
+      openLeft: (setup) => this.visits.go(() => this.openAgain(setup)) });
     this.exercise = new Exercise(byId("exercise"), this);
+    this.sharing = new Sharing(this);
     this.tab = REPORT;
     this.timer = null;
     this.round = 0;
@@ -153,16 +156,31 @@ class Page {
     this.tell("");
     this.examples.show("");
     this.drawChosen();
-    this.say(text.includes("\uFFFD") ? `${name} is not UTF-8: what could not be read is shown as \uFFFD. ` : "",
+    const isFaulty = text.includes("\uFFFD");
+    this.notify(isFaulty, isFaulty ? `${name} is not UTF-8: what could not be read is shown as \uFFFD. ` : "",
       left && left.text !== this.asOpened ? this.wayBackTo(left) : "");
     this.keep();
     this.exercise.close();
-    if (isEdited || !await this.exercise.open(text, name)) await this.run();
+    if (!isEdited && await this.exercise.open(text, name)) return;
+    if (text.length > LETTERS_BY_ITSELF) this.hold();
+    else await this.run();
+  }
+
+  /** A set-up that is long is run where its reader says so. */
+  hold() {
+    const panel = byId(`panel-${this.tab.name}`);
+    this.shown = null;
+    panel.dataset.of = "";
+    panel.classList.remove("old");
+    panel.replaceChildren(element("p", {}, "This set-up is long: it runs when you press run. ", link("run it", () => this.run())));
+    for (const id of ["status", "ended", "errors"]) byId(id).textContent = "";
+    this.tell("long: run it");
   }
 
   /** Opens a set-up once more, in the tab that it was left in. */
   openAgain({ text, name, tab, options, isChanged, policy }) {
-    return this.openIn(TABS.find((it) => it.name === tab) ?? this.tab, text, name, options, isChanged, policy);
+    const found = this.isStepsAlone ? STEPS : TABS.find((it) => it.name === tab) ?? this.tab;
+    return this.openIn(found, text, name, options, isChanged, policy);
   }
 
   /** Opens a file: a policy beside the set-up, a layout, of which the program makes a set-up, or a set-up. */
@@ -201,7 +219,18 @@ class Page {
     document.title = `${this.title} · ${TITLE}`;
   }
 
+  /** Tells something, in place of what was told before. */
   say(...notice) {
+    this.notify(false, ...notice);
+  }
+
+  /** Tells that something is wrong. */
+  warn(...notice) {
+    this.notify(true, ...notice);
+  }
+
+  notify(isFault, ...notice) {
+    byId("notice").classList.toggle("fault", isFault);
     byId("notice").replaceChildren(...notice.filter(Boolean));
   }
 
@@ -347,9 +376,19 @@ class Page {
     const isWhole = status === 0 || status === 1;
     panel.dataset.of = isWhole ? this.opened : "";
     if (tab.told) panel.replaceChildren(element("p", {}, tab.told), element("pre", {}, this.commandLine(this.options.words(tab))));
-    else if (isWhole) tab.show(this, panel, text);
+    else if (isWhole) this.drawIn(panel, tab, text);
     else panel.replaceChildren(element("pre", {}, text));
     return false;
+  }
+
+  /** Draws an answer into the panel of its tab. One that cannot be drawn is shown as it was written: what stood there before is
+      the answer to something else. */
+  drawIn(panel, tab, text) {
+    try {
+      tab.show(this, panel, text);
+    } catch (fault) {
+      panel.replaceChildren(element("p", {}, `This answer could not be drawn (${fault.message}). The program wrote:`), element("pre", { tabindex: "0" }, text));
+    }
   }
 
   /** Shows standard error, with a way to the tab that it tells of. */
@@ -480,7 +519,7 @@ class Page {
   /** Opens the next exercise. */
   async openNext() {
     const { text, name } = this.exercise.next;
-    await this.open(text, `${name}.toml`);
+    await this.visits.go(() => this.open(text, `${name}.toml`));
     this.exercise.sheet.focus();
   }
 
@@ -535,75 +574,57 @@ class Page {
 
   /** Saves a drawing of the tab that is shown, an SVG, in the colours of the page. */
   saveDrawing(drawing, what) {
-    saveFile(drawingOf(drawing, getComputedStyle(byId("panels").parentElement).backgroundColor), `${this.title}.${what}.svg`);
+    const title = `${drawing.getAttribute("aria-label") ?? what}, ${this.title}`;
+    saveFile(drawingOf(drawing, getComputedStyle(byId("panels").parentElement).backgroundColor, title), `${this.title}.${what}.svg`);
   }
 
-  /** What is shown of the set-up: the tab, its options, and of the steps the call; nothing of an exercise. */
-  get place() {
-    if (this.exercise.isOpen || byId("as-exercise").checked) return {};
-    const { tab, options: { values }, shownCall } = this;
-    return { tab: tab === REPORT ? "" : tab.name, options: values[tab.name], call: tab === STEPS ? shownCall : 0,
-      policy: tab === POLICY ? this.policy.text : "" };
+  /** Opens a set-up that Back or Forward leads to. */
+  openVisited(setup, chosen) {
+    const opened = this.openAgain(setup);
+    if (!setup.isChanged) this.examples.show(chosen);
+    return opened;
   }
 
-  /** What is shared: the set-up, or as an exercise the same with questions in place of what its calls expect. */
-  get sharedText() {
-    return byId("as-exercise").checked ? asExercise(this.editor.text) : this.editor.text;
-  }
-
-  async share() {
-    const { text } = this.editor;
-    byId("as-exercise").checked = false;
-    byId("as-exercise").closest("p").hidden = this.exercise.isOpen || asExercise(text) === text;
-    await this.drawAddress();
-    byId("shared").showModal();
-    byId("address").select();
-  }
-
-  /** The page's address for others. That of a page from a disk would hold on this machine alone, and tell its folders: it has
-      the address at which it is published, where it tells one, and else none. */
-  get home() {
-    if (location.protocol !== "file:") return location.href.split("#")[0];
-    return document.querySelector("meta[name=sel4sim-home]").content;
-  }
-
-  /** Shows an address of what is open; where the page has none for others, the part behind it. */
-  async drawAddress() {
-    byId("from-disk").hidden = this.home !== "";
-    byId("address").value = `${this.home}${await fragmentOf(this.sharedText, this.name, this.place)}`;
-  }
-
-  /** Opens the set-up of the page's address, if it has one that was not read before: whether it has. */
+  /** Opens the set-up of the page's address, if it has one that was not read before: whether it has, and what is wrong with it. */
   async openShared() {
     const fragment = location.hash;
     let setup = null;
     try {
       if (fragment !== this.read) setup = await readFragment(fragment);
-    } catch {
-      this.isBroken = true;
+    } catch (fault) {
+      const why = fault instanceof TooLong ? "it is longer than 8 MiB" : "a part of it is missing";
+      return { isOpened: false, fault: `The address has a set-up that cannot be read: ${why}. What you see is another one.` };
     }
-    if (setup === null) return false;
+    if (setup === null) return { isOpened: false };
     this.read = fragment;
     const { text, name, tab, options, call, policy } = setup;
     this.openAgain({ text, name, tab, options: { [tab]: options }, policy });
     this.firstCall = call;
-    return true;
+    return { isOpened: true };
+  }
+
+  /** Opens the set-up of an address that is put in place of the page's own. */
+  async openAddress() {
+    const { fault } = await this.openShared();
+    if (fault) this.warn(fault);
   }
 
   /** Opens what the address has, or what was kept, or an example. */
   async begin() {
-    // A lecture's own page has this one in a frame, by the address ?embed: without its head and foot.
-    const isEmbedded = new URLSearchParams(location.search).has("embed");
-    document.body.classList.toggle("embed", isEmbedded);
-    this.frame = isEmbedded ? location.hash : undefined;
+    // A lecture's own page has this one in a frame, by the address ?embed: without its head and foot; by ?embed=steps the steps alone.
+    const embedded = new URLSearchParams(location.search).get("embed");
+    document.body.classList.toggle("embed", embedded !== null);
+    this.isStepsAlone = embedded === "steps";
+    this.frame = embedded === null ? undefined : location.hash;
     const kept = keptState(this.frame);
     // A reload keeps what was made of a shared set-up. Who opens the address anew sees what the address has.
     const [{ type } = {}] = performance.getEntriesByType("navigation");
     this.read = type === "navigate" ? "" : kept.read ?? "";
-    this.tab = TABS.find(({ name }) => name === kept.tab) ?? REPORT;
+    this.tab = this.isStepsAlone ? STEPS : TABS.find(({ name }) => name === kept.tab) ?? REPORT;
     byId("letters").checked = kept.hasLetters ?? true;
     this.drawChosen();
-    if (await this.openShared()) {
+    const { isOpened, fault } = await this.openShared();
+    if (isOpened) {
       if (kept.isChanged && kept.text !== this.asOpened) this.say(this.wayBackTo(kept));
     } else if (typeof kept.text === "string" && kept.text !== "") {
       this.openAgain(kept);
@@ -613,7 +634,8 @@ class Page {
       this.openExample(...FIRST_EXAMPLE);
       byId("welcome").hidden = false;
     }
-    if (this.isBroken) this.say("The address has a set-up that cannot be read: a part of it is missing. What you see is another one.");
+    if (fault) this.warn(fault);
+    if (this.isStepsAlone) this.project(true);
   }
 
   /** Shows the steps in the whole window, or the page again. */
@@ -625,9 +647,11 @@ class Page {
     this.editor.refresh();
   }
 
-  /** The steps have the name of the set-up where nothing else tells it. */
+  /** The steps have the name of the set-up where nothing else tells it; alone in a frame they have the drawings and no list. */
   drawProjected() {
-    this.steps.frame.contentDocument.body.toggleAttribute("data-projected", document.body.classList.contains("project"));
+    const { body } = this.steps.frame.contentDocument;
+    body.toggleAttribute("data-projected", document.body.classList.contains("project"));
+    body.toggleAttribute("data-drawings", this.isStepsAlone);
   }
 
   /** Puts the focus into the panel of the tab: on the calls of the steps, or on the first thing that can be pressed or scrolled. */
@@ -674,8 +698,9 @@ class Page {
 
   actionOf(key, isTyping) {
     if (key === "F1") return () => byId("keys").showModal();
-    if (key === "Escape" && this.program.isRunning) return () => this.stop();
-    if (key === "Escape" && document.body.classList.contains("project")) return () => this.project(false);
+    // What marks an exercise is not stopped: it has no report to stop for.
+    if (key === "Escape" && this.program.isRunning && !this.exercise.isOpen) return () => this.stop();
+    if (key === "Escape" && document.body.classList.contains("project") && !this.isStepsAlone) return () => this.project(false);
     if (isTyping || !this.hasLetters) return null;
     if (key === "?") return () => byId("keys").showModal();
     if (this.exercise.isOpen) return null;
@@ -713,11 +738,9 @@ class Page {
     on("welcome-close", () => { byId("welcome").hidden = true; });
     on("welcome-steps", () => this.choose(STEPS));
     on("save", () => this.save());
-    on("share", () => this.share());
-    on("as-exercise", () => this.drawAddress());
-    on("save-shared", () => this.saveText(this.sharedText, this.name));
+    on("share", () => this.sharing.open());
     on("save-policy", () => this.saveText(this.policy.text, this.policyName));
-    on("welcome-exercise", () => this.openExample(...FIRST_EXERCISE));
+    on("welcome-exercise", () => this.visits.go(() => this.openExample(...FIRST_EXERCISE)));
     on("wide", () => this.setWide(!document.body.classList.contains("wide")));
     on("project", () => this.project(true));
     on("print-step", () => this.printStep());
@@ -729,7 +752,6 @@ class Page {
     on("show-about", () => byId("about").showModal());
     on("more-about", () => byId("about").showModal());
     on("copy", () => navigator.clipboard?.writeText(byId("command-line").textContent));
-    on("copy-address", () => navigator.clipboard?.writeText(byId("address").value));
     on("save-output", () => this.shown && saveFile(this.shown.answer.output, `${this.title}.${this.shown.tab.name}`));
     byId("name").addEventListener("change", () => {
       this.setName(this.name);
@@ -741,7 +763,7 @@ class Page {
       if (key === "ArrowLeft") this.chooseAt(at - 1);
       if (key === "ArrowDown" || key === "Enter") this.enterPanel(event);
     });
-    window.addEventListener("hashchange", () => this.openShared());
+    window.addEventListener("hashchange", () => this.openAddress());
     listenToFiles([byId("open")], (text, name) => this.openFile(text, name));
     this.listenToKeys(document);
   }

@@ -4,8 +4,30 @@
 /** An option of the tab stands in the address as on a command line. */
 const OPTION = /^--/u;
 
+/** What an address has in it is unpacked as far as this: a few letters can be packed that take a browser all its memory. */
+const MOST_BYTES = 8 << 20;
+
+/** Thrown of an address whose text is longer. */
+export class TooLong extends Error {}
+
 async function through(bytes, stream) {
   return new Uint8Array(await new Response(new Blob([bytes]).stream().pipeThrough(stream)).arrayBuffer());
+}
+
+/** The same of bytes that somebody else packed. */
+async function unpacked(bytes, stream) {
+  const parts = [];
+  let length = 0;
+  const reader = new Blob([bytes]).stream().pipeThrough(stream).getReader();
+  for (let { done, value } = await reader.read(); !done; { done, value } = await reader.read()) {
+    parts.push(value);
+    length += value.length;
+    if (length > MOST_BYTES) {
+      reader.cancel();
+      throw new TooLong();
+    }
+  }
+  return new Blob(parts).arrayBuffer();
 }
 
 const toBase64 = (bytes) => btoa(Array.from(bytes, (byte) => String.fromCharCode(byte)).join(""))
@@ -15,7 +37,7 @@ const fromBase64 = (text) => Uint8Array.from(atob(text.replace(/-/gu, "+").repla
 
 const packedText = async (text) => toBase64(await through(new TextEncoder().encode(text), new CompressionStream("deflate-raw")));
 const unpackedText = async (packed) => new TextDecoder("utf-8", { fatal: true })
-  .decode(await through(fromBase64(packed), new DecompressionStream("deflate-raw")));
+  .decode(await unpacked(fromBase64(packed), new DecompressionStream("deflate-raw")));
 
 /** The part of an address that has a set-up and its name, from # on; with the tab, its options, the call and the policy that are
     given. */

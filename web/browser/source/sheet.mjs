@@ -7,9 +7,11 @@ import { withTerms } from "./terms.mjs";
 export const ASKED = "asked";
 export const MARKED = "marked";
 export const SHOWN = "shown";
+/** What marks stands in a place of its own, and what gives answers away or takes them back comes last: who presses twice, by
+    the mouse or by the key, presses nothing else. */
 const BUTTONS = [
-  ["mark", "mark my answers", "main"], ["check", "check this answer", "main"], ["reveal", "show the answers"], ["next", "next exercise"],
-  ["save", "save my answers"], ["restart", "begin anew"], ["leave", "the set-up itself"],
+  ["mark", "mark my answers", "main"], ["check", "check this answer", "main"], ["next", "next exercise"], ["save", "save my answers"],
+  ["restart", "begin anew"], ["leave", "the set-up itself"], ["reveal", "show the answers"],
 ];
 
 function drawButton(words, act, look) {
@@ -33,13 +35,15 @@ export class Sheet {
     Object.assign(this, { parent, acts, cards: new Map() });
     this.course = element("nav", { class: "course", "aria-label": "Exercises" });
     this.status = element("p", { role: "status", class: "progress", tabindex: "-1" });
-    this.bar = element("progress", { "aria-label": "Answers given" });
+    this.bar = element("progress", {});
     this.buttons = Object.fromEntries(BUTTONS.map(([name, words, look]) => [name, drawButton(words, acts[name], look)]));
     this.turn = element("input", { type: "checkbox" });
     this.turn.addEventListener("change", () => acts.turn(this.turn.checked));
+    this.printed = element("section", { class: "printed", hidden: true });
     const { mark, check, ...others } = this.buttons;
-    this.marking = element("div", { class: "marking" }, this.bar, this.status, element("div", { class: "buttons" }, mark, check,
-      element("label", { class: "tick" }, this.turn, "one at a time"), Object.values(others)));
+    this.marking = element("div", { class: "marking" }, this.bar, this.status, element("div", { class: "acts" },
+      element("div", { class: "buttons" }, mark, check), element("div", { class: "buttons others" },
+        element("label", { class: "tick" }, this.turn, "one at a time"), Object.values(others))));
     // A print has the calls that are made already too.
     window.addEventListener("beforeprint", () => this.before?.setAttribute("open", ""));
   }
@@ -55,7 +59,7 @@ export class Sheet {
       element("summary", {}, `${counted(made.length, "call")} ${made.length === 1 ? "is" : "are"} made already`), list(made));
     this.parent.replaceChildren(...[this.course,
       element("h1", { tabindex: "-1" }, title || name, " ", element("small", {}, counted(this.asking.length, "question"))),
-      ...task.map((it) => element("p", { class: "task" }, withTerms(it, seen))), this.drawWay(), this.before,
+      ...task.map((it) => element("p", { class: "task" }, withTerms(it, seen))), this.printed, this.drawWay(), this.before,
       list([...this.cards.values()].slice(made.length)), this.marking].filter(Boolean));
   }
 
@@ -94,7 +98,9 @@ export class Sheet {
     const { stage, right, of, current, checked, isLast } = view;
     const { missing, wrong } = this;
     this.status.textContent = progressOf({ ...view, missing, wrong });
-    Object.assign(this.bar, { max: of, value: stage === SHOWN ? right : of - missing.length });
+    const isMarked = stage !== ASKED || current !== 0;
+    Object.assign(this.bar, { max: of, value: isMarked ? right : of - missing.length });
+    this.bar.setAttribute("aria-label", isMarked ? "Right answers" : "Answers given");
     this.turn.closest("label").hidden = stage !== ASKED || checked > 0;
     this.turn.checked = view.inTurn;
     for (const card of this.cards.values()) card.element.hidden = current !== 0 && card.number > current;

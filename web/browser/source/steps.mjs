@@ -6,9 +6,9 @@ export class Steps {
   constructor({ viewer, title, listen, shown }) {
     this.frame = element("iframe", { title });
     this.told = null;
-    this.isLoaded = false;
+    this.loaded = null;
     this.frame.addEventListener("load", () => {
-      this.isLoaded = true;
+      this.loaded = this.frame.contentWindow;
       listen(this.frame);
       this.tell(this.told);
     });
@@ -16,6 +16,11 @@ export class Steps {
     window.addEventListener("message", ({ source, data }) => {
       if (source === this.frame.contentWindow && Number.isInteger(data.shown)) shown(data.shown);
     });
+  }
+
+  /** Whether the page of the trace is there. Out of the document the frame has none; put back, it loads anew and is told then. */
+  get isLoaded() {
+    return this.loaded !== null && this.loaded === this.frame.contentWindow;
   }
 
   /** Shows a trace at a call, or at the call that was shown before where none is given. */
@@ -30,12 +35,12 @@ export class Steps {
   }
 
   tell(told) {
-    // Out of the page the frame has no window; it loads anew where it is put back, and is told then.
-    if (this.isLoaded && told) this.frame.contentWindow?.postMessage(told, "*");
+    if (this.isLoaded && told) this.loaded.postMessage(told, "*");
   }
 
   /** Puts the focus on the list of calls, or where there is none in sight on the state. */
   focus() {
+    if (!this.isLoaded) return;
     const [list, main] = ["list", "main"].map((id) => this.frame.contentDocument.getElementById(id));
     (list.offsetParent === null ? main : list).focus();
   }

@@ -23,8 +23,10 @@ sys.path[:0] = [str(TOP / "web" / "page" / "test"), str(TOP / "tests"), str(TOP 
 
 import build  # noqa: E402
 import chromium  # noqa: E402
+import drawn  # noqa: E402
 import firefox  # noqa: E402
 import first_minute  # noqa: E402
+import gives_nothing_away  # noqa: E402
 import hearing  # noqa: E402
 import held  # noqa: E402
 import hostile_texts  # noqa: E402
@@ -162,6 +164,7 @@ OPEN = """(async () => {
   const text = await FILE.text();
   const begun = performance.now();
   await sel4sim.page.open(text, 'longest.toml');
+  await sel4sim.page.run();
   return performance.now() - begun;
 })()"""
 
@@ -210,8 +213,7 @@ def stops(test):
 def typing(test, _):
     """Typing changes the report; a fault is marked at its line; a shared address, a file and a reload keep the set-up."""
     browser = test.browser
-    browser.value("localStorage.clear()")
-    test.open()
+    test.forget()
     test.wanted("delivered 6144 from 2048" in test.text("panel-report"), "the first example does not run")
     test.wanted("status 0" in test.text("status"), f"the first example ends with {test.text('status')}")
     test.select("examples", "examples/two_clients_by_badge")
@@ -565,7 +567,7 @@ def trapped(test, _):
 
 
 def nothing_leaves(test, _):
-    asked = [it for it in test.browser.asked if not it.startswith((SITE.as_uri(), "blob:", "about:", "data:"))]
+    asked = [it for it in test.browser.asked if not it.startswith((test.site.as_uri(), "blob:", "about:", "data:"))]
     test.wanted(not asked and not test.browser.recorder.asked, f"it asked for {asked}, {test.browser.recorder.asked}")
     test.wanted(not test.browser.complaints, f"the page complains: {test.browser.complaints[:3]}")
 
@@ -677,8 +679,8 @@ def main():
             test.open()
         same_answers(test, setups)
         marks(test, setups)
-        for check in (same_with_options, typing, *first_minute.CHECKS, *nothing_lost.CHECKS, *sheets.CHECKS, *teacher.CHECKS,
-                      *hearing.CHECKS, *lectures.CHECKS, *held.CHECKS, files, tabs, new_tabs, reading, trapped, nothing_leaves):
+        for check in (same_with_options, typing, *first_minute.CHECKS, *nothing_lost.CHECKS, *gives_nothing_away.CHECKS, *sheets.CHECKS, *teacher.CHECKS,
+                      *hearing.CHECKS, *lectures.CHECKS, *drawn.CHECKS, *held.CHECKS, files, tabs, new_tabs, reading, trapped, nothing_leaves):
             check(test, stored)
         if not is_short:
             hostile(test, setups, stored)

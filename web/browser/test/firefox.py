@@ -97,6 +97,12 @@ class Firefox:
         for letter in text:
             self.press(letter)
 
+    def click_at(self, left, top, times=1):
+        """Clicks with the mouse at a place of the window, so often at once."""
+        strokes = [{"type": "pointerMove", "x": round(left), "y": round(top)}]
+        strokes += times * [{"type": stroke, "button": 0} for stroke in ("pointerDown", "pointerUp")]
+        self.call("WebDriver:PerformActions", actions=[{"type": "pointer", "id": "mouse", "actions": strokes}])
+
     def resize(self, width, height):
         """Gives the window a size; it stays at 500 pixels where less is asked for."""
         self.call("WebDriver:SetWindowRect", width=width, height=height)

@@ -10,8 +10,7 @@ GROUPS = "[...document.querySelectorAll('#examples optgroup')].map((it) => it.la
 def welcomed(test, _):
     """The first visit has a line that leads to the exercises and the steps; it goes with what is opened, and comes no more."""
     browser = test.browser
-    browser.value("localStorage.clear()")
-    test.open()
+    test.forget()
     test.wanted(browser.value("document.getElementById('welcome').offsetParent !== null"), "nobody is welcomed")
     test.click("#welcome-exercise")
     test.until(f"{sheets.SHEET}?.offsetParent !== null", "the welcome leads to no exercise")
@@ -46,8 +45,7 @@ def one_row(test, _):
 def told_words(test, _):
     """What the first words mean is told, where the first line leads, and to a reader who comes back behind "about"."""
     browser = test.browser
-    browser.value("localStorage.clear()")
-    test.open()
+    test.forget()
     test.click("#welcome-words")
     told = browser.value("[...document.querySelectorAll('#terms dt')].map((it) => it.textContent)")
     test.wanted({"capability", "CNode", "slot", "guard", "badge", "rights", "original"} <= set(told), f"the words {told} are explained")

@@ -142,8 +142,7 @@ def letters_off(test, _):
 
 def sheet_is_told(test, _):
     """Each field of an exercise is told with its call, and how many are answered."""
-    test.browser.value("localStorage.clear()")
-    test.open()
+    test.forget()
     open_exercise(test, "04_retype")
     test.wanted([value(node, "name") for node in tree(test) if value(node, "role") == "main"] == ["Exercise"], "an exercise is not the main part of the page")
     fields = [value(node, "name") for node in tree(test) if value(node, "role") == "combobox"]

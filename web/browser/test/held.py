@@ -6,7 +6,7 @@ import pathlib
 import re
 import subprocess
 
-from tester import TOP, as_answer, opened_at_last_call, pick
+from tester import FORGET, TOP, as_answer, opened_at_last_call, pick
 
 POLICIES = TOP / "tests" / "answers" / "policies"
 LAYOUTS = TOP / "tests" / "layouts"
@@ -116,9 +116,9 @@ def kept(test, _):
     test.settle(0.6)
     test.open()
     test.wanted(browser.value("sel4sim.page.policy.text").startswith("# mine\n"), "a reload loses the policy")
-    fragment = browser.value("(async () => { await sel4sim.page.drawAddress(); const { value } = document.getElementById('address');"
+    fragment = browser.value("(async () => { await sel4sim.page.sharing.draw(); const { value } = document.getElementById('address');"
                              " return value.slice(value.indexOf('#')); })()")
-    browser.value("localStorage.clear()")
+    browser.value(FORGET)
     test.open(fragment)
     test.until("sel4sim.page.policy.text.startsWith('# mine')", "the address has no policy")
     test.settle()

@@ -4,7 +4,7 @@ import re
 import xml.etree.ElementTree as ElementTree
 
 from nothing_lost import EDITOR, FRAME, INSIDE, address_of, steps_come, type_anew
-from tester import SITE, pick
+from tester import pick
 
 # What is saved is caught: the texts of the files.
 CATCH = f"""(() => {{
@@ -42,6 +42,8 @@ def pictures(test, _):
             browser.value(f"{INSIDE}.querySelector('#{part} .saver').click()")
             test.until(f"window.saved.length === {at + 1}", f"{name}: no picture of the {part} is saved")
             drawn = ElementTree.fromstring(browser.value(f"window.saved[{at}]"))
+            title = next((it.text for it in drawn if it.tag.endswith("title")), "")
+            test.wanted(drawn.get("role") == "img" and f"after call {number} of {name}" in title, f"{name}: the picture of the {part} has the title {title!r}")
             texts = [it for it in drawn if it.tag.endswith("text")]
             told = " ".join(it.text for it in texts)
             missing = [word for word in browser.value(WORDS.replace("ID", json.dumps(part))) if word not in told]
@@ -59,6 +61,8 @@ def drawings(test, _):
         test.click(f"#panel-{tab} .saver")
         test.until("window.saved.length === 1", f"no drawing of {tab} is saved")
         drawn = ElementTree.fromstring(browser.value("window.saved[0]"))
+        title = next((it.text for it in drawn if it.tag.endswith("title")), "")
+        test.wanted(drawn.get("role") == "img" and name in title, f"{tab}: a drawing has the title {title!r}")
         told = [it.text for it in drawn.iter() if it.tag.endswith("text")]
         wanted = browser.value(f"[...document.querySelectorAll('#panel-{tab} .wires text')].map((it) => it.textContent)")
         test.wanted(words in told and told == wanted, f"{tab}: a drawing with the texts {told} is saved, and not {wanted}")
@@ -114,7 +118,7 @@ def embedded_apart(test, _):
     address = address_of(test)
     type_anew(test, mine)
     for _ in range(2):
-        browser.open(f"{SITE.as_uri()}?embed{address}")
+        browser.open(f"{test.site.as_uri()}?embed{address}")
         test.settle()
         test.wanted(browser.value(f"{EDITOR}.text.includes('clients')"), "the page in a frame does not show what its address has")
         back = browser.value("document.querySelector('#notice button')?.textContent ?? null")
@@ -126,7 +130,7 @@ def embedded_apart(test, _):
 
 def embedded(test, _):
     """In the frame of a lecture's page it has neither head nor foot."""
-    test.browser.open(f"{SITE.as_uri()}?embed")
+    test.browser.open(f"{test.site.as_uri()}?embed")
     test.settle()
     shown = test.browser.value("[...document.querySelectorAll('body > header, footer, #welcome')].some((it) => it.offsetParent !== null)")
     test.wanted(not shown, "the page in a frame has a head or a foot")
@@ -134,15 +138,38 @@ def embedded(test, _):
     test.open()
 
 
+def embedded_steps(test, _):
+    """With ?embed=steps it has the drawings alone, at the call that its address names; no key leads out of them, and the arrows step."""
+    browser = test.browser
+    pick(test, "examples", "revocation_of_badged_copies")
+    test.click("#tab-steps")
+    test.settle()
+    steps_come(test, "revocation_of_badged_copies")
+    browser.value(f"{INSIDE}.getElementById('on').click()")
+    address = address_of(test)
+    browser.call("Emulation.setDeviceMetricsOverride", width=900, height=560, deviceScaleFactor=1, mobile=False)
+    browser.open(f"{test.site.as_uri()}?embed=steps{address}")
+    test.settle()
+    test.until(f"{FRAME}?.contentDocument?.getElementById('position')?.textContent === 'call 1 of 13'", "the frame of a lecture's page shows no steps")
+    shown = "[...document.querySelectorAll('header, footer, #editor, #tab-row, #command, #answer')].some((it) => it.offsetParent !== null)"
+    inside = f"['calls', 'find', 'reach', 'text'].some((id) => {INSIDE}.getElementById(id).offsetParent !== null)"
+    test.wanted(not browser.value(shown) and not browser.value(inside), "in the frame of a lecture's page there is more than the drawings")
+    top = browser.value(f"{INSIDE}.getElementById('what').getBoundingClientRect().top + {FRAME}.getBoundingClientRect().top")
+    test.wanted(top < 80, f"the first drawing begins {top} pixels down")
+    test.wanted("send_then" not in browser.value("document.title"), "the frame shows another set-up")
+    browser.value("sel4sim.page.steps.focus()")
+    browser.press("Escape")
+    browser.press("ArrowRight")
+    test.until(f"{INSIDE}.getElementById('position').textContent === 'call 2 of 13'", "in the frame the arrows do not step")
+    test.wanted(not browser.value(shown), "a key leads out of the drawings")
+    browser.call("Emulation.clearDeviceMetricsOverride")
+    test.open()
+
+
 LOOKUPS = """[...document.querySelectorAll('#panel-why .reasoned')].map((it) => [it.querySelector('.reason').innerText,
-  [...it.querySelectorAll('.lookup .bits')].map((part) => [part.classList[1], part.firstChild.data])])"""
+  [...it.querySelectorAll('.lookup .bits')].map((part) => [part.classList[1], part.dataset.bits])])"""
 LEFT = re.compile(r"the next (\d+) of the (\d+) bits left read (\d+)|bits left(?: over| behind the guard)?: (\d+)")
 WORD = re.compile(r"^\w+ (\d+)(?: @\S+)?(?: (?:src_)?depth (\d+))? is looked up from", re.M)
-
-
-def whole(bits):
-    """The bits of a part that tells long rows by their length."""
-    return re.sub(r"(\d)×(\d+)", lambda found: found[1] * int(found[2]), bits).replace(" ", "")
 
 
 def lookup_bits(test, _):
@@ -163,7 +190,7 @@ def lookup_bits(test, _):
             if not parts:
                 continue
             drawn += 1
-            told = {look: whole(bits) for look, bits in parts}
+            told = dict(parts)
             rest = told["refused-bits"] + told.get("unread", "")
             every = told.get("passed", "") + rest
             size = int(word[2]) if word[2] else 32 if is_narrow else 64
@@ -171,7 +198,9 @@ def lookup_bits(test, _):
             test.wanted(len(rest) == int(left[2] or left[4]), f"{topic}/{name}: {len(rest)} bits are left, and not {left[0]}")
             read = left[1] is None or (len(told["refused-bits"]), int(told["refused-bits"], 2)) == (int(left[1]), int(left[3]))
             test.wanted(read, f"{topic}/{name}: {told['refused-bits']} are read, and not {left[0]}")
+        test.wanted("×" not in browser.value("[...document.querySelectorAll('#panel-why .lookup')].map((it) => it.textContent).join()"),
+                    f"{topic}/{name}: bits are told as what reads as a hexadecimal number")
     test.wanted(drawn > 20, f"the bits of {drawn} lookups are drawn")
 
 
-CHECKS = (pictures, drawings, prints_step, projected, embedded_apart, embedded, lookup_bits)
+CHECKS = (pictures, drawings, prints_step, projected, embedded_apart, embedded, embedded_steps, lookup_bits)

@@ -2,7 +2,7 @@
 import json
 
 import chromium
-from tester import Tester, pick, type_option
+from tester import FORGET, pick, type_option
 
 FRAME = "document.querySelector('#panel-steps iframe')"
 INSIDE = f"{FRAME}.contentDocument"
@@ -70,6 +70,32 @@ def fault_keeps_steps(test, _):
     test.wanted(browser.value("document.querySelector('.old') === null"), "an answer stays dimmed")
 
 
+def steps_after_a_refusal(test, _):
+    """The steps of a set-up come behind one that was refused, also where others were looked at between, and with the key of the whole
+    window; an answer that cannot be drawn is shown as it was written, and not as the one before it."""
+    browser = test.browser
+    at_step(test, 2)
+    for width, is_whole in ((1280, False), (390, False), (1280, True)):
+        browser.call("Emulation.setDeviceMetricsOverride", width=width, height=800, deviceScaleFactor=1, mobile=width < 400)
+        pick(test, "refused", "boot_objects_outside")
+        test.wanted("set-up refused 205" in test.text("panel-steps"), "a refusal is not told in the steps")
+        if is_whole:
+            browser.value("sel4sim.page.project(true)")
+        pick(test, "examples", "two_clients_by_badge")
+        steps_come(test, "two_clients_by_badge")
+        test.wanted("status 0" in test.text("status") and "refused" not in test.text("panel-steps"), f"behind a refusal the steps show {test.text('panel-steps')}")
+        browser.value("sel4sim.page.project(false)")
+    browser.call("Emulation.clearDeviceMetricsOverride")
+    test.wanted(not browser.complaints, f"behind a refusal the page complains: {browser.complaints[:2]}")
+    browser.value("(() => { sel4sim.page.tab.draws = sel4sim.page.tab.show; sel4sim.page.tab.show = () => { throw new Error('of a test'); }; })()")
+    pick(test, "examples", "three_clients")
+    browser.value("(() => { sel4sim.page.tab.show = sel4sim.page.tab.draws; })()")
+    shown = test.text("panel-steps")
+    test.wanted("could not be drawn (of a test)" in shown and "trace 2 wide" in shown, f"an answer that cannot be drawn leaves {shown[:80]!r}")
+    pick(test, "examples", "three_clients")
+    steps_come(test, "three_clients")
+
+
 # How far the page, the tabs and the frame of the steps can be scrolled, and how broad the page's own scroll bar is.
 ROOM = f"""(() => {{
   const [page, tabs, frame] = [document.documentElement, document.getElementById("tabs"), {INSIDE}.documentElement];
@@ -79,7 +105,7 @@ ROOM = f"""(() => {{
 
 def with_scroll_bars(test, _):
     """Where a browser shows scroll bars, none leads out of the steps, and none stands at the page or below the tabs."""
-    other = Tester(chromium.Chromium(width=1280, height=800, has_bars=True), test.program, test.folder)
+    other = test.alike(chromium.Chromium(width=1280, height=800, has_bars=True))
     try:
         other.open()
         for width, is_wide in ((1280, False), (1024, True), (1600, False)):
@@ -160,14 +186,14 @@ def address_of_place(test, _):
     browser = test.browser
     address = address_of(test)
     test.wanted(address.startswith("#") and "call=8" in address, f"of a file, and the eighth step, {address[:60]} is shared")
-    browser.value("localStorage.clear()")
+    browser.value(FORGET)
     test.open(address)
     test.until(f"{FRAME}?.contentDocument.getElementById('range')?.value > 0", "an address leads to no step")
     test.wanted(browser.value(SHOWN) == 8, "an address does not lead to its step")
     pick(test, "for audit", "engineers_system")
     type_option(test, "after", "14")
     command, address = test.text("command-line"), address_of(test)
-    browser.value("localStorage.clear()")
+    browser.value(FORGET)
     test.open(address)
     test.wanted(test.text("command-line") == command, f"an address leads to {test.text('command-line')}, and not to {command}")
 
@@ -175,8 +201,7 @@ def address_of_place(test, _):
 def way_back(test, _):
     """A set-up that was changed comes back: by the notice, from the list of examples, and where an address took its place."""
     browser = test.browser
-    browser.value("localStorage.clear()")
-    test.open()
+    test.forget()
     pick(test, "examples", "two_clients_by_badge")
     address = address_of(test)
     type_anew(test, "# mine\n" + browser.value(f"{EDITOR}.text"))
@@ -196,6 +221,116 @@ def way_back(test, _):
     test.wanted(browser.value(f"{EDITOR}.text") == "# mine\nformat = 2\n", "what an address took the place of does not come back")
 
 
+def cut_address(test, _):
+    """An address of which a part is missing is told, also one that is put in place of the page's own, and looks as what is wrong does; what
+    only tells something looks otherwise."""
+    browser = test.browser
+    test.forget()
+    pick(test, "examples", "revocation_of_badged_copies")
+    address = address_of(test)
+    colour = "getComputedStyle(document.getElementById('notice')).backgroundColor"
+    type_anew(test, "# mine\n" + browser.value(f"{EDITOR}.text"))
+    pick(test, "examples", "three_clients")
+    test.wanted("back to" in test.text("notice"), "no way back is told")
+    looks = [browser.value(colour)]
+    test.forget()
+    test.open(address[:len(address) // 2])
+    test.wanted("a part of it is missing" in test.text("notice"), f"of a cut address is told {test.text('notice')!r}")
+    looks.append(browser.value(colour))
+    test.wanted(len(set(looks)) == 2, f"what is wrong has the look {looks[1]} of what only tells something")
+    test.wanted("delivered 6144" in test.text("panel-report"), "behind a cut address nothing is open")
+    test.open()
+    browser.value(f"location.hash = {json.dumps(address[1:len(address) // 3])}")
+    test.until("document.getElementById('notice').textContent.includes('a part of it is missing')", "a cut address in place of the page's own is not told")
+
+
+PACKED = """(async () => {
+  const text = ("#" + "a".repeat(999) + "\\n").repeat(12_000);
+  const stream = new Blob([text]).stream().pipeThrough(new CompressionStream("deflate-raw"));
+  const bytes = new Uint8Array(await new Response(stream).arrayBuffer());
+  return btoa(Array.from(bytes, (byte) => String.fromCharCode(byte)).join("")).replace(/\\+/gu, "-").replace(/\\//gu, "_").replace(/=+$/u, "");
+})()"""
+
+
+def address_that_unpacks(test, _):
+    """A short address that has a text of more than 8 MiB in it is not unpacked, and told."""
+    test.forget()
+    packed = test.browser.value(PACKED)
+    test.wanted(len(packed) < 100_000, f"the address has {len(packed)} letters")
+    test.open(f"#name=long.toml&setup={packed}")
+    test.wanted("longer than 8 MiB" in test.text("notice"), f"of an address that unpacks to 12 MB is told {test.text('notice')!r}")
+    test.wanted(test.browser.value(f"{EDITOR}.text.length") < 100_000, "what it has in it is in the editor")
+
+
+def two_windows(test, _):
+    """Each window keeps its own text over a reload; a new one begins with what was kept last, and what another one changed is left."""
+    browser = test.browser
+    mine, theirs = "# of the first window\nformat = 2\n", "# of the second window\nformat = 2\n"
+    test.forget()
+    type_anew(test, mine)
+    second, first = browser.another_page()
+    try:
+        test.open()
+        test.wanted(browser.value(f"{EDITOR}.text") == mine, "a new window does not begin with what was kept")
+        type_anew(test, theirs)
+        browser.use(first)
+        reload(test)
+        test.wanted(browser.value(f"{EDITOR}.text") == mine, "a reload shows what another window has")
+        browser.use(second)
+        reload(test)
+        test.wanted(browser.value(f"{EDITOR}.text") == theirs, "a reload of the second window shows what the first one has")
+        browser.call("Page.close")
+    finally:
+        browser.use(first)
+    reload(test)
+    test.wanted(browser.value(f"{EDITOR}.text") == mine, "what was typed is gone with another window")
+    left = browser.value("JSON.parse(localStorage.getItem('sel4sim.left')).setups.map(({ text }) => text)")
+    test.wanted(theirs in left or mine in left, f"what another window changed is not among {left}")
+
+
+def long_one_waits(test, stored):
+    """A set-up that is long is opened and not run: it runs when its reader says so, as one that is typed does."""
+    browser = test.browser
+    text = stored.decode() + "# a comment\n" * 20_000
+    browser.value(f"sel4sim.page.open({json.dumps(text)}, 'long.toml')")
+    test.settle(0.6)
+    for tab in ("report", "steps"):
+        test.wanted("press run" in test.text("panel-report"), f"of a long set-up {test.text('panel-report')[:80]!r} is shown")
+        test.wanted(test.text("status") == "" and "long" in test.text("state"), f"a long set-up is told as {test.text('status')}, {test.text('state')}")
+    test.click("#run")
+    test.settle()
+    test.wanted("delivered 6144" in test.text("panel-report") and test.text("state") == "", f"a long set-up is not run: {test.text('state')}")
+    pick(test, "examples", "send_then_receive")
+    test.wanted("delivered 6144" in test.text("panel-report"), "behind a long set-up a short one does not run")
+
+
+def back_leads_back(test, _):
+    """Back leads to the set-up before, with its tab, and Forward on; what was changed stays among what was left."""
+    browser = test.browser
+    test.forget()
+    shown = "document.getElementById('name').value"
+    before = browser.value("history.length")
+    test.select("examples", "examples/three_clients")
+    test.settle()
+    test.select("examples", "exercises/09_badges")
+    test.settle()
+    if browser.value("history.length") != before + 2:
+        test.say("what is chosen from the list is no entry of the history: Back leaves the page")
+        return
+    for way, name in (("back", "three_clients"), ("back", "send_then_receive"), ("forward", "three_clients")):
+        browser.value(f"history.{way}()")
+        test.until(f"{shown} === {json.dumps(name + '.toml')}", f"{way} does not lead to {name}")
+        test.settle()
+        test.wanted(browser.value("document.getElementById('examples').value") == f"examples/{name}", f"behind {way} the list says {browser.value('document.getElementById(`examples`).value')}")
+    type_anew(test, "# mine\n" + browser.value(f"{EDITOR}.text"))
+    browser.value("history.back()")
+    test.until(f"{shown} === 'send_then_receive.toml'", "Back does not lead back from what was changed")
+    test.settle()
+    test.click("#notice button")
+    test.settle()
+    test.wanted(browser.value(f"{EDITOR}.text.startsWith('# mine')"), "Back loses what was changed")
+
+
 def reason_in_report(test, _):
     """A refusal that was not expected has its reason in the report, and standard error leads to the tab why."""
     pick(test, "mistakes", "send_without_write")
@@ -211,4 +346,5 @@ def reason_in_report(test, _):
     test.settle()
 
 
-CHECKS = (fault_keeps_steps, with_scroll_bars, steps_stand_still, cursor_leads_steps, address_of_home, address_of_place, way_back, reason_in_report)
+CHECKS = (fault_keeps_steps, steps_after_a_refusal, with_scroll_bars, steps_stand_still, cursor_leads_steps, address_of_home, address_of_place, way_back,
+          cut_address, address_that_unpacks, two_windows, long_one_waits, back_leads_back, reason_in_report)

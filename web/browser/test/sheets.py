@@ -3,10 +3,11 @@ marked again. Before all is right no reply of the report is in the page; then ea
 import json
 import pathlib
 import re
+import time
 import tomllib
 
 from nothing_lost import EDITOR, reload
-from tester import TOP, native
+from tester import FORGET, TOP, native
 
 SETUPS = TOP / "crates" / "test_worked" / "data"
 CALL = re.compile(r"^(\d+) (\d+ \w+): (.*?)(?: \[met\])?$", re.M)
@@ -165,8 +166,7 @@ def each_exercise(test, _):
     for width, theme in ((1280, "light"), (390, "dark")):
         browser.call("Emulation.setDeviceMetricsOverride", width=width, height=844, deviceScaleFactor=1, mobile=width < 400)
         browser.call("Emulation.setEmulatedMedia", features=[{"name": "prefers-color-scheme", "value": theme}])
-        browser.value("localStorage.clear()")
-        test.open()
+        test.forget()
         for name in names():
             do_exercise(test, name)
             wide = browser.value("document.documentElement.scrollWidth")
@@ -180,7 +180,7 @@ def each_exercise(test, _):
 def pictured(test, picture):
     """Pictures of a sheet: asked, marked with one answer wrong, and shown; `picture` is told which."""
     name = "09_badges"
-    test.browser.value("localStorage.clear()")
+    test.browser.value(FORGET)
     open_exercise(test, name)
     picture("asked")
     focus_first(test)
@@ -206,8 +206,7 @@ def marked_alike(test, _):
 def in_turn(test, _):
     """One at a time: each answer is marked once and explained, and the call behind the next one is not in sight."""
     browser, name = test.browser, "09_badges"
-    browser.value("localStorage.clear()")
-    test.open()
+    test.forget()
     open_exercise(test, name)
     browser.value("document.querySelector('.marking input').click()")
     answers = answers_of(name)
@@ -237,8 +236,7 @@ def refused(test, _):
 def kept_and_saved(test, _):
     """Answers and marks stay over a reload, to begin anew clears them; what is saved has the answers, and the program marks it."""
     browser, name = test.browser, "01_slots_and_words"
-    browser.value("localStorage.clear()")
-    test.open()
+    test.forget()
     open_exercise(test, name)
     focus_first(test)
     answers = answers_of(name)
@@ -276,10 +274,10 @@ def shared_as_exercise(test, _):
         test.click("#share")
         test.until("document.getElementById('address').value !== ''", "no address is shared")
         test.click("#as-exercise")
-        test.wanted(browser.value("sel4sim.page.sharedText") == text_of("exercises", name), f"the key of {name} is shared as another exercise")
-        address = browser.value("(async () => { await sel4sim.page.drawAddress(); return document.getElementById('address').value; })()")
+        test.wanted(browser.value("sel4sim.page.sharing.text") == text_of("exercises", name), f"the key of {name} is shared as another exercise")
+        address = browser.value("(async () => { await sel4sim.page.sharing.draw(); return document.getElementById('address').value; })()")
         test.click("#shared button:last-child")
-    browser.value("localStorage.clear()")
+    browser.value(FORGET)
     test.open(address)
     test.until(f"{SHEET}?.inert === false", "the address of an exercise leads to no sheet")
     test.wanted(browser.value("sel4sim.page.exercise.text") == text_of("exercises", names()[-1]), "the address of an exercise leads to another one")
@@ -295,8 +293,7 @@ def shared_as_exercise(test, _):
 def leaves_sheet(test, _):
     """The set-up itself has the report; a link leads back to the sheet, as it was."""
     browser = test.browser
-    browser.value("localStorage.clear()")
-    test.open()
+    test.forget()
     open_exercise(test, "04_retype")
     focus_first(test)
     give(test, 1, "done")
@@ -321,13 +318,60 @@ def printed(test, _):
     test.wanted(browser.value("document.querySelector('.before')?.open ?? true"), "a print folds calls away")
 
 
+# Of each field, brought to the edge of the window, whether it is what stands in its middle.
+COVERED = """[...document.querySelectorAll('.prediction select')].filter((it) => ["start", "end"].some((block) => {
+  it.focus();
+  it.scrollIntoView({ block });
+  const { left, top, width, height } = it.getBoundingClientRect();
+  return document.elementFromPoint(left + width / 2, top + height / 2) !== it;
+})).length"""
+
+
+def low_window(test, _):
+    """In a window as low as at a zoom of 400 % nothing stands over the questions, nor over the steps."""
+    browser = test.browser
+    test.forget()
+    open_exercise(test, "09_badges")
+    for width, height in ((320, 256), (320, 200), (640, 256), (1280, 300)):
+        browser.call("Emulation.setDeviceMetricsOverride", width=width, height=height, deviceScaleFactor=1, mobile=width < 400)
+        time.sleep(0.2)
+        covered = browser.value(COVERED)
+        test.wanted(covered == 0, f"at {width} x {height} {covered} fields are covered")
+        still = browser.value(f"['fixed', 'sticky'].includes(getComputedStyle({FRAME}.querySelector('header')).position)")
+        test.wanted(not still, f"at {width} x {height} the head of the steps stands still")
+        wide = browser.value("document.documentElement.scrollWidth")
+        test.wanted(wide <= width, f"a window of {width} is overrun: {wide}")
+    browser.call("Emulation.clearDeviceMetricsOverride")
+
+
+def printed_state(test, _):
+    """A print has the state that the questions begin in, in the colours of paper; once answers are shown it has none."""
+    browser = test.browser
+    for theme in ("light", "dark"):
+        browser.call("Emulation.setEmulatedMedia", features=[{"name": "prefers-color-scheme", "value": theme}])
+        test.forget()
+        open_exercise(test, "08_a_hidden_copy")
+        test.until(f"{FRAME}.getElementById('position').textContent !== ''", "no state is beside the questions")
+        before = browser.value(f"{FRAME}.getElementById('position').textContent")
+        browser.value("window.dispatchEvent(new Event('beforeprint'))")
+        browser.call("Emulation.setEmulatedMedia", media="print", features=[{"name": "prefers-color-scheme", "value": "light"}])
+        drawn = browser.value("[...document.querySelectorAll('.printed svg')].map((it) => [it.getBoundingClientRect().height, it.textContent])")
+        test.wanted(len(drawn) == 2 and all(height > 50 and "root" in text for height, text in drawn), f"a print has the state as {[it[0] for it in drawn]}")
+        ground = browser.value("document.querySelector('.printed svg rect')?.getAttribute('fill') ?? null")
+        test.wanted(ground == "rgb(255, 255, 255)", f"in a {theme} page the state is printed on {ground}")
+        test.wanted(browser.value(f"{FRAME}.getElementById('position').textContent") == before, "a print moves the steps")
+        browser.call("Emulation.setEmulatedMedia", media="", features=[])
+    browser.value("sel4sim.page.exercise.keep({ stage: 'shown' }), window.dispatchEvent(new Event('beforeprint'))")
+    test.wanted(browser.value("document.querySelector('.printed')?.hidden ?? true"), "what is printed with the answers has a state to begin in")
+
+
 def in_firefox(test):
     """The same by keys, in a firefox with a window of any size."""
-    test.browser.value("localStorage.clear()")
+    test.browser.value(FORGET)
     for name in names():
         do_exercise(test, name)
         wide = test.browser.value("document.documentElement.scrollWidth - window.innerWidth")
         test.wanted(wide <= 0, f"{name}: in firefox the window is overrun by {wide}")
 
 
-CHECKS = (marked_alike, each_exercise, in_turn, refused, kept_and_saved, shared_as_exercise, leaves_sheet, printed)
+CHECKS = (marked_alike, each_exercise, in_turn, refused, kept_and_saved, shared_as_exercise, leaves_sheet, printed, low_window, printed_state)

@@ -7,7 +7,6 @@ import subprocess
 
 import chromium
 from sheets import MARKING, SHEET, focus_first, give, press_button
-from tester import SITE, Tester
 
 KEY = """# exercise: Who is told what
 # Two threads share one CNode. Slot 4 has a capability of the endpoint.
@@ -64,8 +63,7 @@ cat.toml,1,3,,2 3,
 def address_of_exercise(test):
     """Opens the key, which is as expected, and shares it as an exercise: the part of the address."""
     browser = test.browser
-    browser.value("localStorage.clear()")
-    test.open()
+    test.forget()
     browser.value(f"sel4sim.page.open({json.dumps(KEY)}, 'told_what.toml')")
     test.settle()
     test.wanted("3 of 3 expectations met" in test.text("ended"), f"the key is answered with {test.text('ended')}")
@@ -73,7 +71,7 @@ def address_of_exercise(test):
     test.click("#share")
     test.until("document.getElementById('address').value !== ''", "no address is shared")
     test.click("#as-exercise")
-    address = browser.value("(async () => { await sel4sim.page.drawAddress(); return document.getElementById('address').value; })()")
+    address = browser.value("(async () => { await sel4sim.page.sharing.draw(); return document.getElementById('address').value; })()")
     test.click("#shared button:last-child")
     return address
 
@@ -82,9 +80,9 @@ def handed_in(test, address, answers, name):
     """A student on another machine opens a copy of the page with the address, answers, and saves the answers: the file."""
     folder = pathlib.Path(test.folder, name)
     folder.mkdir()
-    page = shutil.copy(SITE, folder / "copy of the page.html")
+    page = shutil.copy(test.site, folder / "copy of the page.html")
     browser = chromium.Chromium(width=1280, height=800)
-    student = Tester(browser, test.program, test.folder)
+    student = test.alike(browser)
     try:
         browser.open(pathlib.Path(page).as_uri() + address)
         student.until(f"{SHEET}?.inert === false && document.querySelector('.card.asks select')", f"{name}: the address leads to no sheet")

@@ -9,7 +9,7 @@ import tomllib
 
 TOP = pathlib.Path(__file__).resolve().parent.parent.parent.parent
 # What takes longer does not come; a machine that is busy is ten times as slow as one that is not.
-SECONDS = 600
+SECONDS = int(sys.argv[sys.argv.index("--seconds") + 1]) if "--seconds" in sys.argv else 600
 
 
 def option(name):
@@ -46,20 +46,38 @@ def as_answer(given):
     return given["trap"] if "trap" in given else given["status"], base64.b64decode(given["output"]), base64.b64decode(given["errors"])
 
 
-class Tester:
-    """A browser with the page, the native program, and the faults that are found."""
+# Where a button is whose words these are: its middle.
+BUTTON = """(() => {
+  const made = [...document.querySelectorAll("button")].find((it) => it.textContent === WORDS && it.offsetParent !== null);
+  const { left, top, width, height } = made.getBoundingClientRect();
+  return [left + width / 2, top + height / 2];
+})()"""
+FORGET = "(() => { localStorage.clear(); sessionStorage.clear(); })()"
 
-    def __init__(self, browser, program, folder):
-        self.browser, self.program, self.folder = browser, program, folder
+
+class Tester:
+    """A browser with the page, the native program, and the faults that are found; `site` is the page's file."""
+
+    def __init__(self, browser, program, folder, site=SITE):
+        self.browser, self.program, self.folder, self.site = browser, program, folder, site
         self.faults = []
+
+    def alike(self, browser):
+        """The same with another browser."""
+        return Tester(browser, self.program, self.folder, self.site)
 
     def say(self, fault):
         self.faults.append(fault)
         print(fault, flush=True)
 
     def open(self, fragment=""):
-        self.browser.open(SITE.as_uri() + fragment)
+        self.browser.open(self.site.as_uri() + fragment)
         self.settle()
+
+    def forget(self):
+        """Opens the page as one who was never here."""
+        self.browser.value(FORGET)
+        self.open()
 
     def settle(self, still=0.4):
         """Waits until what was typed has been run; what is typed is run after it stands still for a while."""
@@ -95,6 +113,10 @@ class Tester:
 
     def click(self, selector):
         self.browser.value(f"document.querySelector({json.dumps(selector)}).click()")
+
+    def press_with_mouse(self, words, times=1):
+        """Presses the button with these words by the mouse, so often at once."""
+        self.browser.click_at(*self.browser.value(BUTTON.replace("WORDS", json.dumps(words))), times)
 
     def select(self, name, value):
         """Chooses in a list."""

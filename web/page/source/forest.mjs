@@ -121,6 +121,7 @@ export function drawForest(view) {
 /** Scrolls the forest so that what a step changed is in sight, or what it names where nothing changed: the first of it
     and as much behind it as there is room for. */
 export function showChange(scroller) {
+  if (scroller === null) return;
   const changed = [...scroller.querySelectorAll(".node:is(.filled, .emptied, .altered, .moved)")];
   const nodes = changed.length > 0 ? changed : [...scroller.querySelectorAll(".node.named")];
   if (nodes.length === 0) return;

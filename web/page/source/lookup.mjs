@@ -2,6 +2,8 @@
 // named, and where no audit stands in the page, nothing tells what a thread can invoke: the page works these out here. They
 // are not proved, and they never say what happened.
 
+import { inBits } from "./bit_boxes.mjs";
+
 const lowBits = (word, bits) => BigInt(word) & ((1n << BigInt(bits)) - 1n);
 
 /** The slot that the low bits of a word lead to from a capability, and how many bits are left; or null. */
@@ -116,7 +118,7 @@ export function slotsFrom(places, root) {
 
 /** The way of a word through CNodes: for each its guard and slot in bits, and where it ends, or null. */
 export function wayOf(state, machine, root, word, bits) {
-  const text = lowBits(word, bits).toString(2).padStart(bits, "0");
+  const text = inBits(lowBits(word, bits), bits);
   const parts = [];
   let capability = root;
   let at = 0;
@@ -124,7 +126,7 @@ export function wayOf(state, machine, root, word, bits) {
   while (at < bits) {
     if (capability?.kind !== "cnode") return { parts: [...parts, { over: text.slice(at) }], address: null };
     const { base, radix, guard, guardSize } = capability;
-    const wanted = guardSize === 0 ? "" : BigInt(guard).toString(2).padStart(guardSize, "0");
+    const wanted = inBits(guard, guardSize);
     const found = text.slice(at, at + guardSize);
     const isRight = found === wanted;
     if (!isRight) return { parts: [...parts, { guard: found, wanted, base, isRight, unread: text.slice(at + guardSize) }], address: null };

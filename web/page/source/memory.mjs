@@ -6,6 +6,7 @@ const ROW_HEIGHT = 21;
 const LEAST_LABELLED = 0.07;
 const LEAST_DRAWN = 0.012;
 const LEAST_SPAN = 64;
+const MOST_NAMED = 16;
 
 /** The live objects, and those that ended at this step. Where several slots hold one untyped region, the one that was
     derived last tells how much is used: the others count as used up. */
@@ -111,6 +112,13 @@ function drawRegion(view, region, inside, parents) {
     drawBar([used, ...boxes], rows, label), drawAxis([base, base + span])];
 }
 
+/** What the boxes of the whole memory are, from the left, where there is no room in them to say it. */
+function drawTops(view, tops) {
+  const others = tops.slice(MOST_NAMED);
+  return element("ul", { class: "tops" }, tops.slice(0, MOST_NAMED).map((object) => element("li", {}, objectName(view, object))),
+    others.length > 0 ? element("li", { class: "dim" }, `and ${others.length} more`) : null);
+}
+
 /** The memory of the state behind a step. */
 export function drawMemory(view) {
   const { memory } = view.trace.machine;
@@ -122,6 +130,6 @@ export function drawMemory(view) {
   const inside = (region) => objects.filter((object) => object.top === region && object !== region);
   return [heading("Memory", `${memory} bytes`),
     drawBar(whole, 1, `The whole memory: ${tops.length} objects beside one another`),
-    drawAxis([0, memory / 4, memory / 2, 3 * memory / 4, memory]),
+    drawAxis([0, memory / 4, memory / 2, 3 * memory / 4, memory]), drawTops(view, tops),
     regions.map((region) => drawRegion(view, region, inside(region), parents))];
 }

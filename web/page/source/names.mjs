@@ -1,5 +1,6 @@
 // How capabilities, objects, slots and words are written on the page.
 import { code, dim, element, sign } from "./element.mjs";
+import { guardInWords } from "./bit_boxes.mjs";
 
 const KIND_WORDS = { untyped: "untyped", endpoint: "endpoint", cnode: "CNode", tcb: "thread" };
 const KIND_LETTERS = { untyped: "U", endpoint: "E", cnode: "C", tcb: "T" };
@@ -63,11 +64,6 @@ export function slotName(view, address) {
   return element("b", { class: "code", title: `slot at address ${address}` }, name);
 }
 
-const MOST_BITS = 12;
-
-/** A guard in bits, or a long one by its value and size. */
-const inBits = (guard, size) => (size <= MOST_BITS ? BigInt(guard).toString(2).padStart(Number(size), "0") : `${guard} in ${size} bits`);
-
 /** The name of a slot of the root CNode behind a space, where the set-up has one for its number. */
 export function nameOfSlot(view, address) {
   const node = view.before.nodeAround(address) ?? view.after.nodeAround(address);
@@ -83,7 +79,7 @@ function detailsOf(capability, machine, short) {
   if (kind === "tcb") return "";
   // A guard of all bits above the radix makes a CNode of one level; it is the usual one, and is not told.
   const guarded = guardSize > 0 && guardSize + radix !== machine.wordBits || guard !== "0";
-  return [short ? "" : `${slots} slots`, guarded ? `guard ${inBits(guard, guardSize)}` : ""].filter(Boolean).join(" ");
+  return [short ? "" : `${slots} slots`, guarded ? `guard ${guardInWords(guard, guardSize)}` : ""].filter(Boolean).join(" ");
 }
 
 /** All that tells a capability from others of its object. */

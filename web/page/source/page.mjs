@@ -168,11 +168,19 @@ class Page {
     showChange(document.querySelector("#forest .forest-scroll"));
   }
 
+  /** Behind which call the state that is shown stands. */
+  get behindWhat() {
+    return this.number === 0 ? "after boot" : `after call ${this.number}`;
+  }
+
   /** A button that saves a part of the page as a picture. */
   drawSaver(id) {
     const words = `Save this picture: ${id}, as SVG`;
     const saver = element("button", { type: "button", class: "saver", title: words, "aria-label": words }, "⤓");
-    saver.addEventListener("click", () => saveFile(pictureOf(byId(id)), `${byId("name").textContent}.call_${this.number}.${id}.svg`));
+    saver.addEventListener("click", () => {
+      const name = byId("name").textContent;
+      saveFile(pictureOf(byId(id), `${byId(id).getAttribute("aria-label")} ${this.behindWhat} of ${name}`), `${name}.call_${this.number}.${id}.svg`);
+    });
     return saver;
   }
 
@@ -251,9 +259,12 @@ function listenToControls(page) {
   byId("play").addEventListener("click", () => page.player.toggle());
   byId("more").addEventListener("click", () => page.toggleMore());
   byId("state-lines").addEventListener("toggle", () => page.drawLines());
+  window.addEventListener("resize", () => showChange(document.querySelector("#forest .forest-scroll")));
   window.addEventListener("hashchange", () => page.show(Number(location.hash.slice(1))));
   // The signs stand on a print, and otherwise beside the keys.
-  byId("signs").append(document.querySelector("#what .legend").cloneNode(true));
+  const legend = document.querySelector("#what .legend");
+  byId("signs").append(legend.cloneNode(true));
+  document.querySelector(".foot").append(...legend.cloneNode(true).children);
   byId("show-keys").addEventListener("click", () => byId("keys").showModal());
   byId("close-keys").addEventListener("click", () => byId("keys").close());
   listenToKeys(page, { list: byId("list"), main: byId("main"), find: byId("find"), keys: byId("keys") });

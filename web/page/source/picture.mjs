@@ -119,8 +119,9 @@ function* drawn(root) {
   }
 }
 
-/** A drawing of the page, an SVG itself, as the text of an SVG that stands alone: with its colours, and its ground `behind` it. */
-export function drawingOf(svg, behind) {
+/** A drawing of the page, an SVG itself, as the text of an SVG that stands alone: with its colours, its ground `behind` it, and
+    its title for who hears it. */
+export function drawingOf(svg, behind, title) {
   const copy = svg.cloneNode(true);
   const [all, copied] = [svg, copy].map((it) => [it, ...it.querySelectorAll("*")]);
   all.forEach((it, at) => {
@@ -130,12 +131,20 @@ export function drawingOf(svg, behind) {
   });
   const ground = document.createElementNS(copy.namespaceURI, "rect");
   for (const [name, value] of Object.entries({ width: "100%", height: "100%", fill: behind })) ground.setAttribute(name, value);
-  copy.prepend(ground);
+  copy.prepend(titleIn(copy, title), ground);
+  copy.setAttribute("role", "img");
+  copy.removeAttribute("aria-label");
   return new XMLSerializer().serializeToString(copy);
 }
 
-/** A part of the page as the text of an SVG; what is scrolled away in it is drawn too. */
-export function pictureOf(part) {
+function titleIn({ namespaceURI }, title) {
+  const made = document.createElementNS(namespaceURI, "title");
+  made.textContent = title;
+  return made;
+}
+
+/** A part of the page as the text of an SVG with a title; what is scrolled away in it is drawn too. */
+export function pictureOf(part, title) {
   part.classList.add("pictured");
   const { left, top, width, height } = part.getBoundingClientRect();
   const content = [...drawn(part)].join("\n");
@@ -143,6 +152,6 @@ export function pictureOf(part) {
   part.classList.remove("pictured");
   const shape = { x: left - MARGIN, y: top - MARGIN, width: width + 2 * MARGIN, height: height + 2 * MARGIN };
   const viewBox = Object.values(shape).map(rounded).join(" ");
-  return tag("svg", { xmlns: "http://www.w3.org/2000/svg", viewBox, width: shape.width, height: shape.height },
-    `${tag("rect", { ...shape, fill: ground })}\n${content}\n`);
+  return tag("svg", { xmlns: "http://www.w3.org/2000/svg", viewBox, width: shape.width, height: shape.height, role: "img" },
+    `${tag("title", {}, escaped(title))}\n${tag("rect", { ...shape, fill: ground })}\n${content}\n`);
 }

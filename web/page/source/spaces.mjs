@@ -27,8 +27,9 @@ function rowsOf(view, node) {
   return rows.sort((one, other) => one.address - other.address);
 }
 
-function drawWord(word) {
-  if (word === undefined) return null;
+/** The word that names a slot, where it is not the slot's own number. */
+function drawWord(word, number) {
+  if (word === undefined || word === String(number)) return null;
   return element("span", { class: word.length > LONG_WORD ? "word long" : "word", title: word }, `→ ${word}`);
 }
 
@@ -39,10 +40,11 @@ function drawCell(view, node, row, words) {
   const held = capabilityName(view, row.capability, true);
   const content = mark === "moved" ? ["moved to ", slotName(view, view.changes.moved.to.address)]
     : mark === "emptied" ? element("s", {}, held) : held;
-  const look = ["cell", mark, view.isNamed(row.address) ? "named" : "", !gone && word === undefined ? "far" : ""];
   const number = (row.address - node.base) >> view.trace.machine.slotBits;
+  const look = ["cell", mark, view.isNamed(row.address) ? "named" : "", !gone && word === undefined ? "far" : "",
+    word === String(number) ? "own" : ""];
   return element("li", { class: look.filter(Boolean).join(" "), title: `slot at address ${row.address}` },
-    signOf(mark), element("b", {}, String(number)), " ", drawWord(word), element("div", {}, content));
+    signOf(mark), element("b", {}, String(number)), " ", drawWord(word, number), element("div", {}, content));
 }
 
 /** Cells for empty slots from one number up to another: one for each in a small CNode, else one for all. */
@@ -137,8 +139,8 @@ export function drawSpaces(view, wanted, choose) {
   const { threads, chosen } = chooseThread(view, wanted);
   const words = chosen === undefined ? new Map() : wordsOfThread(view.after, chosen);
   const bits = view.after.audit ? "" : " (“/9”: its first 9 bits alone count)";
-  const remark = `“→ n” is a word that names the slot in a call${bits}; dashed: no word of this thread leads there, though an index with a depth may. `
-    + sourceOf(view.after);
+  const remark = `“→ n” is a word that names the slot in a call${bits}, where it is not the slot's own number; dashed: no word of this `
+    + `thread leads there, though an index with a depth may. ${sourceOf(view.after)}`;
   return [heading("Capability spaces", "as seen by thread ", drawChoice(view, threads, chosen, choose)),
     element("p", { class: "dim" }, remark),
     nodesOf(view).map((node) => drawNode(view, node, words)),

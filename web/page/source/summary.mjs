@@ -4,7 +4,7 @@ import { capabilityName, kindMark, kindWord, messageName, signOf, slotName, thre
 import { holdsTheSame, isSummedUp } from "./changes.mjs";
 import { meaningOf, sentenceOf } from "./sentence.mjs";
 import { sumsOf } from "./sums.mjs";
-import { drawLookups } from "./ways.mjs";
+import { drawWaysOfWords } from "./ways.mjs";
 
 // Of more changes of one kind than this, the first few are told and the others counted.
 const MOST_CHANGES = 24;
@@ -161,11 +161,10 @@ export function drawSentence(view) {
     : step.changes.every(isOrder) ? "The order of siblings changed." : countedChanges(changes);
   const reply = element("p", {}, element("span", { class: look }, step.reply), " ", meaningOf(step.reply), " ",
     expectationMark(step.expectation), " ", dim(changed));
-  const ways = drawLookups(view);
-  if (ways.length > 0) return [sentence, reply, ...ways];
-  if (step.reasons.length === 0) return [sentence, reply];
+  const told = [sentence, reply, ...drawWaysOfWords(view)];
+  if (step.reasons.length === 0) return told;
   const reasons = step.reasons.map((reason) => element("li", { class: "code" }, reason));
-  return [sentence, reply, element("ul", { class: "reasons", "aria-label": "Why it is refused" }, reasons)];
+  return [...told, element("ul", { class: "reasons", "aria-label": "Why it is refused" }, reasons)];
 }
 
 /** What changed, one line for each thing. */

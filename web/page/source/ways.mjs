@@ -1,33 +1,34 @@
 // The way of each word that a call names, through the CNodes, as boxes: the guard and the slot of each, in bits. Worked out
 // by this page from the state before the call.
+import { drawBitBox, guardInWords } from "./bit_boxes.mjs";
+import { code, counted, dim, element } from "./element.mjs";
 import { slotName } from "./names.mjs";
-import { code, dim, element } from "./element.mjs";
 
-/** A longer row of equal bits is told by its length. */
-const MOST_ALIKE = 8;
-
-/** Bits as they are written; a long row of equal ones by its length. */
-export function shortened(bits) {
-  return bits.replace(/0+|1+/gu, (row) => (row.length > MOST_ALIKE ? `${row[0]}…${row[0]}` : row));
+/** What is said of a guard: how many bits it takes, or what it is where the word has other ones. */
+function wordsOfGuard({ guard, wanted, isRight }) {
+  if (isRight) return `guard, ${counted(wanted.length, "bit")}`;
+  return guard.length < wanted.length ? `guard needs ${wanted.length}` : `guard is ${guardInWords(`0b${wanted}`, wanted.length)}`;
 }
 
-const box = (look, bits, words) => element("span", { class: `bits ${look}` }, shortened(bits), element("small", {}, words));
-
-function drawPart({ guard, wanted, slot, base, over, isRight, unread }) {
-  if (over !== undefined) return box("refused-bits", over, `${over.length} left over: no CNode here`);
-  const few = guard.length < wanted.length;
-  const words = isRight ? `guard, ${wanted.length} bits` : few ? `guard needs ${wanted.length}` : `guard is ${shortened(wanted)}`;
-  const node = base === 0 ? "root" : String(base);
-  return [wanted === "" ? null : box(isRight ? "passed" : "refused-bits", guard, words),
-    unread ? box("unread", unread, "not read") : null,
-    slot === undefined ? null : box(slot.isWhole ? "slot-bits" : "refused-bits", slot.bits, slot.isWhole ? `slot ${slot.number} of ${node}` : `slot needs ${slot.needs}`)];
+function drawSlot({ base, slot: { bits, number, isWhole, needs } }) {
+  return isWhole ? drawBitBox("slot-bits", bits, `slot ${number} of ${base === 0 ? "root" : base}`)
+    : drawBitBox("refused-bits", bits, `slot needs ${needs}`);
 }
 
-/** A row for each word of the call whose way is worth a look: more than one CNode, a guard that is not all zeros, or a failure. */
-export function drawLookups(view) {
-  const rows = view.ways.filter(({ parts, address }) => address === null || parts.length > 1 || parts.some(({ wanted }) => /1/u.test(wanted ?? "")));
-  return rows.map(({ name, word, parts, address }) => element("p", { class: "lookup", role: "group", "aria-label": `The way of ${name} ${word}, in bits` },
-    element("span", { class: "of-word" }, dim(`${name} `), code(String(word))),
-    parts.map(drawPart),
+function drawPart(part) {
+  const { guard, slot, over, isRight, unread = "" } = part;
+  if (over !== undefined) return drawBitBox("refused-bits", over, `${over.length} left over: no CNode here`);
+  return [drawBitBox(isRight ? "passed" : "refused-bits", guard, wordsOfGuard(part)), drawBitBox("unread", unread, "not read"),
+    slot === undefined ? null : drawSlot(part)];
+}
+
+/** Whether a way is worth a look: it leads through more than one CNode, or a guard that is not all zeros, or nowhere. */
+const isTold = ({ parts, address }) => address === null || parts.length > 1 || parts.some(({ wanted = "" }) => wanted.includes("1"));
+
+/** A row for each word of the call whose way is worth a look. */
+export function drawWaysOfWords(view) {
+  return view.ways.filter(isTold).map(({ name, word, parts, address }) => element("p",
+    { class: address === null ? "lookup fails" : "lookup", role: "group", "aria-label": `The way of ${name} ${word}, in bits` },
+    element("span", { class: "of-word" }, dim(`${name} `), code(String(word))), parts.map(drawPart),
     element("span", { class: "end" }, address === null ? "✕ no slot" : ["→ ", slotName(view, address)])));
 }

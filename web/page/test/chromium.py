@@ -97,9 +97,23 @@ class Chromium:
                          proxyBypassList="<-loopback>")
         self.context = made["browserContextId"]
         page = self.call("Target.createTarget", url="about:blank", browserContextId=self.context)["targetId"]
-        self.session = self.call("Target.attachToTarget", targetId=page, flatten=True)["sessionId"]
+        self.use(self.call("Target.attachToTarget", targetId=page, flatten=True)["sessionId"])
+
+    def another_page(self):
+        """Opens another page beside the one that is used: what `use` takes to go to it, and what it takes to come back."""
+        there = self.session
+        self.session = None
+        page = self.call("Target.createTarget", url="about:blank", browserContextId=self.context)["targetId"]
+        here = self.call("Target.attachToTarget", targetId=page, flatten=True)["sessionId"]
+        self.use(here)
+        return here, there
+
+    def use(self, session):
+        """Goes to another page of the browser, and brings it to the front."""
+        self.session = session
         for domain in ("Page", "Network", "Runtime", "Log", "Accessibility"):
             self.call(f"{domain}.enable")
+        self.call("Page.bringToFront")
 
     def message(self):
         """The next message of the browser."""
@@ -173,6 +187,13 @@ class Chromium:
     def insert(self, text):
         """Types a text, as a reader would."""
         self.call("Input.insertText", text=text)
+
+    def click_at(self, left, top, times=1):
+        """Clicks with the mouse at a place of the window, so often at once."""
+        self.call("Input.dispatchMouseEvent", type="mouseMoved", x=left, y=top)
+        for count in range(1, times + 1):
+            for stroke in ("mousePressed", "mouseReleased"):
+                self.call("Input.dispatchMouseEvent", type=stroke, x=left, y=top, button="left", clickCount=count)
 
     def close(self):
         self.session = None

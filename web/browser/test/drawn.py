@@ -1,0 +1,124 @@
+"""What the drawings of the steps look like: what differs looks different, in both themes and at any size of a window."""
+import time
+
+from nothing_lost import INSIDE, steps_come
+from tester import pick
+
+# The contrast of two colours, each as the browser tells it; of none with the one behind it, that is with itself.
+CONTRAST = """
+  const light = (colour) => { const [red, green, blue] = colour.match(/[\\d.]+/gu).map((it) => { const part = Number(it) / 255;
+    return part <= 0.03928 ? part / 12.92 : ((part + 0.055) / 1.055) ** 2.4; }); return 0.2126 * red + 0.7152 * green + 0.0722 * blue; };
+  const contrast = (one, other) => { const [dark, bright] = [light(one), light(other)].sort((a, b) => a - b); return (bright + 0.05) / (dark + 0.05); };
+  const styleOf = (it, which) => it.ownerDocument.defaultView.getComputedStyle(it, which);
+  const isSeen = (colour) => !/^rgba\\(.*, 0\\)$/u.test(colour) && colour !== "transparent";
+  const groundOf = (it) => { let at = it; while (at && !isSeen(styleOf(at).backgroundColor)) at = at.parentElement; return styleOf(at).backgroundColor; };
+  const inside = document.querySelector("#panel-steps iframe").contentDocument;
+  const all = (wanted) => [...inside.querySelectorAll(wanted)];
+"""
+# For each kind of thing that is drawn, the least contrast of its edge with what it stands on.
+EDGES = """(() => {""" + CONTRAST + """
+  const edge = (it) => contrast(styleOf(it).borderTopColor, groundOf(it.parentElement));
+  const least = (wanted, told = edge) => Math.min(...all(wanted).map(told));
+  return {
+    memory: least("#memory .box"), cells: least("#spaces .cell:not(.empty)"), bits: least(".bits"), threads: least(".threads > li"),
+    endpoints: least(".endpoints > li"), bars: least(".bar", (it) => contrast(styleOf(it).outlineColor, groundOf(it.parentElement))),
+    forest: least("#forest ul ul > li", (it) => contrast(styleOf(it, "::before").borderTopColor, groundOf(it))),
+  };
+})()"""
+# How a cell looks: its border, and what it stands on.
+LOOKS = """(() => {""" + CONTRAST + """
+  const look = (wanted) => { const it = inside.querySelector(wanted); const { borderTopStyle, borderTopColor } = styleOf(it);
+    return [isSeen(borderTopColor) ? borderTopStyle : "none", isSeen(borderTopColor) ? contrast(borderTopColor, groundOf(it.parentElement)) : 0]; };
+  return { empty: look("#spaces .cell.empty"), far: look("#spaces .cell.far:not(.filled)"), near: look("#spaces .cell:not(.empty, .far)") };
+})()"""
+
+
+def at_call(test, topic, name, number):
+    pick(test, topic, name)
+    test.click("#tab-steps")
+    test.settle()
+    steps_come(test, name)
+    test.browser.value(f"sel4sim.page.steps.go({number})")
+    test.until(f"{INSIDE}.getElementById('range').value === '{number}'", f"{name} is not at call {number}")
+
+
+def in_themes(test, check):
+    for theme in ("light", "dark"):
+        test.browser.call("Emulation.setEmulatedMedia", features=[{"name": "prefers-color-scheme", "value": theme}])
+        check(theme)
+    test.browser.call("Emulation.setEmulatedMedia", features=[])
+
+
+def empty_and_far(test, _):
+    """A slot that is empty has no border; one that no word of the thread leads to has a dashed one that can be seen; and the
+    remark says that an index may lead there. Where a word is the slot's own number, it is told once."""
+    at_call(test, "examples", "guarded_address_space", 4)
+
+    def look(theme):
+        looks = test.browser.value(LOOKS)
+        test.wanted(looks["empty"][0] == "none" and looks["far"][0] == "dashed" and looks["near"][0] == "solid", f"{theme}: slots look as {looks}")
+        test.wanted(looks["far"][1] >= 4.5, f"{theme}: the dashes have a contrast of {looks['far'][1]:.2f}")
+    in_themes(test, look)
+    remark = test.browser.value(f"{INSIDE}.querySelector('#spaces p.dim').textContent")
+    test.wanted("dashed: no word of this thread leads there, though an index with a depth may" in remark, f"of the dashes is said {remark!r}")
+    words = test.browser.value(f"[...{INSIDE}.querySelectorAll('#spaces .cell:not(.far, .empty)')].filter((it) => it.querySelector('b') !== null)"
+                               ".map((it) => [it.querySelector('b').textContent, it.querySelector('.word')?.textContent ?? null])")
+    test.wanted(all(word != f"→ {number}" for number, word in words), f"slots tell their number twice: {words}")
+
+
+def contrasts(test, _):
+    """Whatever is drawn has edges with a contrast of 3 or more, in both themes."""
+    at_call(test, "examples", "guarded_address_space", 6)
+
+    def look(theme):
+        for what, contrast in test.browser.value(EDGES).items():
+            test.wanted(contrast >= 3, f"{theme}: {what} have a contrast of {contrast:.2f}")
+    in_themes(test, look)
+
+
+SIZES = f"""(() => {{
+  const inside = {INSIDE};
+  const size = (wanted) => {{ const it = inside.querySelector(wanted); return it && it.offsetParent !== null
+    ? parseFloat(it.ownerDocument.defaultView.getComputedStyle(it).fontSize) : null; }};
+  return {{ sentence: size("#sentence"), reason: size(".reasons"), tag: size("#said .tag"), heading: size("#forest h2"), legend: size(".foot") }};
+}})()"""
+
+
+def projected_sizes(test, _):
+    """Alone in the whole window, the letters grow with it; reasons are as large as sentences, no letters are half as large, and the signs are
+    told at the foot."""
+    browser = test.browser
+    at_call(test, "examples", "two_clients_by_badge", 7)
+    browser.value("sel4sim.page.project(true)")
+    browser.value(f"{INSIDE}.body.dataset.alone = 'forest'")
+    found = []
+    for width, height in ((960, 540), (1280, 800), (1920, 1080)):
+        browser.call("Emulation.setDeviceMetricsOverride", width=width, height=height, deviceScaleFactor=1, mobile=False)
+        time.sleep(0.2)
+        sizes = browser.value(SIZES)
+        found.append(sizes["sentence"])
+        test.wanted(sizes["reason"] == sizes["sentence"], f"at {width} a reason has {sizes['reason']} pixels, and a sentence {sizes['sentence']}")
+        test.wanted(all((sizes[it] or 0) >= 0.55 * sizes["sentence"] for it in ("tag", "heading", "legend")), f"at {width} the sizes are {sizes}")
+    test.wanted(found == sorted(set(found)) and found[-1] >= 2 * found[0] * 0.9, f"the sentences have {found} pixels")
+    browser.value(f"delete {INSIDE}.body.dataset.alone")
+    browser.call("Emulation.clearDeviceMetricsOverride")
+    browser.value("sel4sim.page.project(false)")
+
+
+def resized(test, _):
+    """Where a window becomes lower, what a step changed is still in sight."""
+    browser = test.browser
+    at_call(test, "examples", "revocation_of_badged_copies", 8)
+    browser.value(f"sel4sim.page.project(true), {INSIDE}.body.dataset.alone = 'forest'")
+    seen = f"""(() => {{ const inside = {INSIDE}; const [window, first] = ["#forest .forest-scroll", "#forest .node:is(.filled, .emptied)"]
+      .map((it) => inside.querySelector(it).getBoundingClientRect()); return first.top >= window.top && first.bottom <= window.bottom; }})()"""
+    for height in (1000, 480, 700, 420):
+        browser.call("Emulation.setDeviceMetricsOverride", width=1280, height=height, deviceScaleFactor=1, mobile=False)
+        time.sleep(0.3)
+        test.wanted(browser.value(seen), f"at a height of {height} what changed is not in sight")
+    browser.value(f"delete {INSIDE}.body.dataset.alone")
+    browser.call("Emulation.clearDeviceMetricsOverride")
+    browser.value("sel4sim.page.project(false)")
+
+
+CHECKS = (empty_and_far, contrasts, projected_sizes, resized)
