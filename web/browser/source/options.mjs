@@ -12,26 +12,31 @@ export function threadWord(told) {
   return PLAIN_NAME.test(name) ? name : address;
 }
 
-/** So many pairs of threads are offered. */
-const MOST_PAIRS = 200;
+const ticked = (value) => value.split(",").filter(Boolean);
 
-const ticked = (value) => (value ? value.split(",") : []);
-
-/** All pairs of threads, to choose from where a field takes a pair. */
-function drawPairs(id, threads) {
-  const words = threads.map(({ word }) => word);
-  const pairs = words.flatMap((from) => words.filter((to) => to !== from).map((to) => `${from},${to}`));
-  return element("datalist", { id }, pairs.slice(0, MOST_PAIRS).map((value) => element("option", { value })));
+/** Draws two lists of threads for an option that takes a pair. */
+function drawPair({ name, about, between, value, threads, give }) {
+  const chosen = value.split(",");
+  const lists = between.map((words, at) => {
+    const made = element("select", { id: `option-${name}-${at}`, title: about, "aria-label": words }, element("option", { value: "" }, words),
+      threads.map(({ word, told }) => element("option", { value: word }, told)));
+    made.value = chosen[at] ?? "";
+    made.addEventListener("change", () => {
+      const both = lists.map((list) => list.value);
+      give(both.some(Boolean) ? both.join(",") : "");
+    });
+    return made;
+  });
+  return element("fieldset", { title: about }, element("legend", {}, `--${name}`), lists);
 }
 
 /** Draws a text field. */
-function drawText({ name, about, least, value, inputmode = "numeric", isPair, threads, give }) {
-  const list = isPair ? `pairs-${name}` : undefined;
+function drawText({ name, about, least, value, inputmode = "numeric", give }) {
   const field = element("input", { type: "text", id: `option-${name}`, size: "8", inputmode, spellcheck: "false",
-    autocomplete: "off", title: about, placeholder: least, list });
+    autocomplete: "off", title: about, placeholder: least });
   field.value = value;
   field.addEventListener("input", () => give(field.value.trim()));
-  return element("label", { class: "field" }, `--${name}`, field, list && drawPairs(list, threads));
+  return element("label", { class: "field" }, `--${name}`, field);
 }
 
 /** Draws a box to tick, with its words behind it; `given` is told whether it is ticked. */
@@ -64,9 +69,15 @@ export class Options {
     return this.values[tab.name]?.[name] ?? "";
   }
 
+  /** Whether an option is given; one that takes a pair is where both of it are chosen. */
+  isGiven(tab, { name, between }) {
+    const value = this.value(tab, name);
+    return between ? value.split(",").filter(Boolean).length === 2 : value !== "";
+  }
+
   /** The words of the command line for a tab, which may name a policy. An option may stand in place of one of the tab's own words. */
   words(tab, policy) {
-    const given = (tab.options ?? []).filter(({ name }) => this.value(tab, name));
+    const given = (tab.options ?? []).filter((option) => this.isGiven(tab, option));
     const own = [...tab.words, ...(tab.hasPolicy ? [policy] : [])].filter((word) => !given.some(({ replaces }) => replaces === word));
     return [...own, ...given.flatMap(({ name, isAlone }) => [`--${name}`, ...(isAlone ? [] : [this.value(tab, name)])])];
   }
@@ -111,6 +122,7 @@ export class Options {
   drawOne(tab, part) {
     const value = () => this.value(tab, part.name);
     const give = (given) => this.give(tab, part.name, given);
+    if (part.between) return drawPair({ ...part, give, value: value() });
     if (part.ticks) return drawTicks({ ...part, give, value });
     return part.isAlone ? drawAlone({ ...part, give, value: value() }) : drawText({ ...part, give, value: value() });
   }

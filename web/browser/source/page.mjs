@@ -107,6 +107,7 @@ class Page {
     this.shownCall = 0;
     this.shownFor = null;
     this.reasons = new Map();
+    this.reported = "";
     this.read = "";
     this.frame = undefined;
     this.drawTabs();
@@ -298,6 +299,7 @@ class Page {
     this.tell(answer === STOPPED ? "stopped" : "");
     if (report === STOPPED) return;
     this.reasons = reasons;
+    this.reported = decoded(report.output);
     this.mark(text, report, reasons);
     this.showReportAlso(tab, report);
     if (answer === STOPPED) return;

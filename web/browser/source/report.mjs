@@ -26,6 +26,13 @@ export function callsOf(report) {
   return calls;
 }
 
+const LIVE = /^thread (\d+) /gmu;
+
+/** The threads that live at the end, as the program tells threads elsewhere: with their names, where they have one. */
+export function threadsReported(report, names) {
+  return [...report.matchAll(LIVE)].map(([, address]) => (names.has(address) ? `${address} @${names.get(address)}` : address));
+}
+
 function drawOutcome(outcome) {
   if (outcome === "") return null;
   return outcome === "met" ? element("span", { class: "tag met" }, "✓ met")

@@ -6,7 +6,7 @@ import { drawEver, threadsTold } from "./ever.mjs";
 import { drawNever, isNever } from "./never.mjs";
 import { drawHeld } from "./policy.mjs";
 import { drawOrders } from "./orders.mjs";
-import { drawReport } from "./report.mjs";
+import { drawReport, threadsReported } from "./report.mjs";
 import { drawWhy } from "./why.mjs";
 import { namesOf, wordBitsOf } from "./places.mjs";
 
@@ -41,6 +41,7 @@ function openHowOf(page, happening) {
 /** The parts of a layout, where each thread that is told gets a box to tick; or the answer whether two are kept apart. */
 function showEver(page, panel, text) {
   if (isNever(text)) {
+    if (page.options.threads.length === 0) page.options.offer(EVER, threadsReported(page.reported, namesOf(page.editor.text)));
     drawNever(panel, text, page.options.value(EVER, "messages") ? null : (options) => openHowOf(page, options));
     return;
   }
@@ -88,8 +89,8 @@ const EVER = {
   missed: "it is not excluded",
   options: [AFTER, { name: "without", about: "Threads that are trusted to make no more calls", ticks: true },
     { name: "messages", about: "Threads that are trusted to go on to send and receive, and to do nothing else", ticks: true },
-    { name: "never", about: "Two threads: is the part of the first kept from the part of the second?", least: "FROM,TO",
-      inputmode: "text", isPair: true, replaces: "--ever" },
+    { name: "never", about: "Two threads: is the part of the first kept from the part of the second?", between: ["can this thread", "ever reach this one?"],
+      replaces: "--ever" },
     { name: "by", about: "Endpoints that are allowed between these two", least: "none", inputmode: "text" }],
   show: showEver,
 };

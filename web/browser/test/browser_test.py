@@ -34,7 +34,7 @@ import lectures  # noqa: E402
 import nothing_lost  # noqa: E402
 import sheets  # noqa: E402
 import teacher  # noqa: E402
-from tester import SITE, Tester, as_answer, native, opened_at_last_call, option, pick, picked, type_option  # noqa: E402
+from tester import SITE, Tester, as_answer, choose_pair, native, opened_at_last_call, option, pick, picked, type_option  # noqa: E402
 
 SUBCOMMANDS = (["check"], ["marks"], ["trace"], ["migrate"], ["why"], ["audit"], ["audit", "--ever"], ["audit", "--never", "2048,4096"], ["explore"],
                ["tree"])
@@ -419,14 +419,15 @@ def kept_apart(test, _):
     if not pick(test, *TRUSTED_LOADER):
         return
     parts_drawn = test.browser.value("document.querySelectorAll('#panel-ever .wires rect').length")
-    offered = test.browser.value("[...document.getElementById('option-never').list.options].map((it) => it.value)")
-    test.wanted(len(offered) == 12 and "client_a,client_b" in offered, f"the pairs {offered} are offered")
+    for at in (0, 1):
+        offered = test.browser.value(f"[...document.getElementById('option-never-{at}').options].map((it) => it.value)")
+        test.wanted(offered == ["", "loader", "client_a", "client_b", "client_c"], f"the threads {offered} are offered")
     asked = (("never", "client_a,client_b", "--without loader --never client_a,client_b", 0, "excluded", ()),
              ("never", "client_a,client_c", "--without loader --never client_a,client_c", 1, "possible decided", ("open 10240", "chain 4096 @client_a -> 10240")),
              ("by", "10240", "--without loader --never client_a,client_c --by 10240", 0, "excluded", ()),
              ("never", "loader,client_a", "--without loader --never loader,client_a --by 10240", 1, "possible", ("2048 @loader lies in no part",)))
     for name, value, words, status, answer, lines in asked:
-        type_option(test, name, value)
+        (choose_pair if name == "never" else type_option)(test, name, value)
         test.wanted(test.text("command-line") == f"sel4sim audit {words} two_clients.toml", f"{name} {value} gives {test.text('command-line')}")
         test.wanted(test.text("status") == f"status {status}", f"{words} ends with {test.text('status')}")
         test.wanted(("it is not excluded" in test.text("ended")) == (status == 1), f"{words}: status {status} is told as {test.text('ended')}")
@@ -434,7 +435,7 @@ def kept_apart(test, _):
         test.wanted(told == answer, f"{words} is told as {told}")
         for line in lines:
             test.wanted(line in test.text("panel-ever"), f"{words}: {line!r} is not told")
-    type_option(test, "never", "")
+    choose_pair(test, "never", "")
     test.wanted("--by goes with --never alone" in test.text("errors"), f"--by without --never is told as {test.text('errors')!r}")
     type_option(test, "by", "")
     drawn = test.browser.value("document.querySelectorAll('#panel-ever .wires rect').length")
@@ -447,7 +448,7 @@ def how_it_happens(test, _):
         return
     browser, text = test.browser, test.browser.value("sel4sim.page.editor.text")
     openers = "[...document.querySelectorAll('#panel-ever .opener')].map((it) => it.textContent)"
-    type_option(test, "never", "client_a,client_c")
+    choose_pair(test, "never", "client_a,client_c")
     browser.value("document.getElementById('option-messages-client_b').click()")
     test.settle(0.6)
     test.wanted(browser.value(openers) == [] and "With --messages" in test.text("panel-ever"), "with --messages calls are looked for")
@@ -468,7 +469,7 @@ def how_it_happens(test, _):
     browser.value("document.querySelector('#notice button').click()")
     test.settle(0.6)
     test.wanted((browser.value("sel4sim.page.editor.text"), test.text("command-line")) == (text, command), f"the way back leads to {test.text('command-line')}")
-    type_option(test, "never", "client_a,client_b")
+    choose_pair(test, "never", "client_a,client_b")
     test.wanted(browser.value(openers) == [], "calls are looked for by which happens what is excluded")
 
 

@@ -121,4 +121,27 @@ def resized(test, _):
     browser.value("sel4sim.page.project(false)")
 
 
-CHECKS = (empty_and_far, contrasts, projected_sizes, resized)
+NAMED = f"""(() => {{
+  const inside = {INSIDE};
+  const texts = (wanted) => [...inside.querySelectorAll(wanted)].map((it) => it.textContent.replace(/\\s+/gu, " ").trim());
+  return {{ forest: texts("#forest .node"), cells: texts("#spaces .cell:not(.empty)"), nodes: texts("#spaces h3"), threads: texts(".threads > li"),
+    endpoints: texts(".endpoints > li"), memory: texts(".tops > li"), regions: texts("#memory h3"), calls: texts(".call .title"),
+    titles: [...inside.querySelectorAll(".call .title")].map((it) => it.title) }};
+}})()"""
+
+
+def names(test, _):
+    """Where the set-up has a name for a slot, the drawings have it: in the forest and in the capability spaces behind the slot, and behind an
+    endpoint, a CNode and a region the name of the slot that their original capability is in; the list of calls has names in place of numbers."""
+    wanted = (("revocation_of_badged_copies", 8, (("forest", "root[8] kept_for_first"), ("cells", "8 kept_for_first"))),
+              ("two_clients_by_badge", 4, (("threads", "sending 8192 endpoint"), ("endpoints", "8192 endpoint sending"), ("memory", "8192 endpoint"),
+                                           ("calls", "send second by for_second"), ("calls", "mint server endpoint → for_first"), ("titles", "mint server 5 → 8"))),
+              ("guarded_address_space", 4, (("nodes", "16384 first 4 slots"), ("regions", "16384 memory 4096 B"), ("calls", "first → tree"))))
+    for name, number, told in wanted:
+        at_call(test, "examples", name, number)
+        found = test.browser.value(NAMED)
+        for where, text in told:
+            test.wanted(any(text in it for it in found[where]), f"{name}: no {where} have {text!r}: {found[where]}")
+
+
+CHECKS = (empty_and_far, contrasts, projected_sizes, resized, names)

@@ -187,6 +187,14 @@ def picked(test, path):
     return "document.getElementById('long').files[0]"
 
 
+def choose_pair(test, name, pair):
+    """Chooses in the two lists of an option that takes a pair; an empty text takes both back."""
+    for at, value in enumerate((pair or ",").split(",")):
+        test.browser.value(f"(() => {{ const list = document.getElementById('option-{name}-{at}'); list.value = {json.dumps(value)};"
+                           " list.dispatchEvent(new Event('change')); })()")
+        test.settle(0.6)
+
+
 def type_option(test, name, value):
     """Types into the field of an option."""
     test.browser.value(f"(() => {{ const field = document.getElementById('option-{name}'); field.value = {json.dumps(value)};"

@@ -34,9 +34,10 @@ function drawOutcome({ expectation }) {
 /** The first line of a row: the operation, and the call's words in short. */
 function drawTitle(trace, { number, operation, thread }) {
   if (number === 0) return element("span", { class: "title" }, element("b", {}, "boot"));
-  const gist = `${trace.names.get(thread)?.[0] ?? thread} ${trace.told[number].gist}`;
-  return element("span", { class: "title", title: `${operation} ${gist}` },
-    element("b", {}, operation), " ", element("span", { class: "dim code" }, gist));
+  const name = trace.names.get(thread)?.[0] ?? thread;
+  const { gist, named } = trace.told[number];
+  return element("span", { class: "title", title: `${operation} ${name} ${gist}` },
+    element("b", {}, operation), " ", element("span", { class: "dim code" }, `${name} ${named}`));
 }
 
 /** A row of the list; of a call that is not told yet, its reply is left out. */

@@ -1,6 +1,6 @@
 // The memory as bars: one for all of it, and one for each untyped region that lies in no other, with what is in it.
 import { dim, element, heading, place } from "./element.mjs";
-import { kindLetter, kindWord, objectName } from "./names.mjs";
+import { kindLetter, kindWord, nameOfObject, objectName } from "./names.mjs";
 
 const ROW_HEIGHT = 21;
 const LEAST_LABELLED = 0.07;
@@ -101,7 +101,7 @@ function remarkOf(region, span, isUnused) {
 function drawRegion(view, region, inside, parents) {
   const { base, size, free, fate } = region;
   const span = spanOf(region, inside);
-  const name = objectName(view, region);
+  const name = [objectName(view, region), nameOfObject(view, region)];
   const remark = remarkOf(region, span, isUnusedAgain(view, region, parents));
   const used = place(element("div", { class: "used" }), 0, Math.min(free, span) / span);
   const boxes = joined(inside, span).map((object) => drawBox(object, base, span, object.depth - 1, LEAST_LABELLED));
@@ -115,7 +115,7 @@ function drawRegion(view, region, inside, parents) {
 /** What the boxes of the whole memory are, from the left, where there is no room in them to say it. */
 function drawTops(view, tops) {
   const others = tops.slice(MOST_NAMED);
-  return element("ul", { class: "tops" }, tops.slice(0, MOST_NAMED).map((object) => element("li", {}, objectName(view, object))),
+  return element("ul", { class: "tops" }, tops.slice(0, MOST_NAMED).map((object) => element("li", {}, objectName(view, object), nameOfObject(view, object))),
     others.length > 0 ? element("li", { class: "dim" }, `and ${others.length} more`) : null);
 }
 

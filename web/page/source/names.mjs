@@ -70,6 +70,31 @@ export function nameOfSlot(view, address) {
   return node?.base === 0 ? nameOfWord(view, address >> view.trace.machine.slotBits, address) : null;
 }
 
+const namesByPlaces = new WeakMap();
+
+/** The names of the objects in a state: of each those of the slots of the root CNode that hold a capability of it which was derived
+    from no other one of it. */
+function namesOfObjects(view) {
+  const { after, trace: { machine, names } } = view;
+  if (!namesByPlaces.has(after)) {
+    const found = new Map();
+    const { slot: lines } = after.state;
+    for (const { address, under, capability: { object } } of after.slots) {
+      if (lines.get(under)?.capability.object === object || after.nodeAround(address)?.base !== 0) continue;
+      const told = names.get(String(address >> machine.slotBits)) ?? [];
+      found.set(object, [...found.get(object) ?? [], ...told]);
+    }
+    namesByPlaces.set(after, found);
+  }
+  return namesByPlaces.get(after);
+}
+
+/** The name of an object behind a space, where it has just one; a thread has its own. */
+export function nameOfObject(view, { kind, object }) {
+  const names = kind === "tcb" ? [] : namesOfObjects(view).get(object) ?? [];
+  return names.length === 1 ? [" ", element("span", { class: "dim name" }, names[0])] : null;
+}
+
 /** What is said of a capability behind its object: a CNode's slots are left out in a short text, and its guard where
     it is the usual one. */
 function detailsOf(capability, machine, short) {

@@ -1,6 +1,6 @@
 // The CNodes with their slots, as one thread sees them: each slot that it can name has the word that names it.
 import { code, dim, element, fold, heading } from "./element.mjs";
-import { capabilityName, kindMark, namesOfThread, objectName, signOf, slotName } from "./names.mjs";
+import { capabilityName, kindMark, nameOfObject, nameOfSlot, namesOfThread, objectName, signOf, slotName } from "./names.mjs";
 import { markOf } from "./changes.mjs";
 import { wordsOfThread } from "./lookup.mjs";
 import { sourceOf } from "./reach.mjs";
@@ -44,7 +44,7 @@ function drawCell(view, node, row, words) {
   const look = ["cell", mark, view.isNamed(row.address) ? "named" : "", !gone && word === undefined ? "far" : "",
     word === String(number) ? "own" : ""];
   return element("li", { class: look.filter(Boolean).join(" "), title: `slot at address ${row.address}` },
-    signOf(mark), element("b", {}, String(number)), " ", drawWord(word, number), element("div", {}, content));
+    signOf(mark), element("b", {}, String(number)), nameOfSlot(view, row.address), " ", drawWord(word, number), element("div", {}, content));
 }
 
 /** Cells for empty slots from one number up to another: one for each in a small CNode, else one for all. */
@@ -102,7 +102,7 @@ function drawNode(view, node, words) {
   const name = objectName(view, node);
   const title = element("h3", { "data-node": node.ended ? undefined : node.base },
     node.ended ? [element("s", {}, name), " ended"] : name,
-    node.base === 0 ? " the root CNode" : "", " ", dim(`${node.slots} slots`), " ",
+    node.base === 0 ? " the root CNode" : nameOfObject(view, node), " ", dim(`${node.slots} slots`), " ",
     lossOf(view, node).map((text) => [element("span", { class: "tag missed" }, text), " "]));
   return [title, element("ul", { class: "cells" }, cells.cells, drawGap(node, cells.next, node.slots))];
 }

@@ -1,6 +1,6 @@
 // What a call did: its sentence, its reply, and one line for each thing that changed.
 import { code, counted, dim, element } from "./element.mjs";
-import { capabilityName, kindMark, kindWord, messageName, signOf, slotName, threadName } from "./names.mjs";
+import { capabilityName, kindMark, kindWord, messageName, nameOfObject, signOf, slotName, threadName } from "./names.mjs";
 import { holdsTheSame, isSummedUp } from "./changes.mjs";
 import { meaningOf, sentenceOf } from "./sentence.mjs";
 import { sumsOf } from "./sums.mjs";
@@ -38,7 +38,8 @@ function threadItems(view) {
   const lines = [...now.values()];
   const stops = ({ kind, address, state }) => kind === "thread" && state !== "ready" && old.has(`thread ${address}`);
   const waits = items(lines.filter(stops), ({ address, state, endpoint }) => {
-    const what = endpoint === null ? ` is now ${state}` : ` waits now, ${state} on endpoint ${endpoint}`;
+    const what = endpoint === null ? ` is now ${state}`
+      : [` waits now, ${state} on endpoint ${endpoint}`, nameOfObject(view, { kind: "endpoint", object: `endpoint ${endpoint}` })];
     return item("altered", "waits", "thread ", threadName(view, address), what);
   });
   const inboxes = items(lines.filter((line) => line.kind === "inbox"), (line) =>

@@ -1,6 +1,6 @@
 // The threads with what each does and last received, and the endpoints with who waits on each.
 import { code, dim, element, heading } from "./element.mjs";
-import { kindMark, messageName, namesOfThread, objectName, signOf } from "./names.mjs";
+import { kindMark, messageName, nameOfObject, namesOfThread, objectName, signOf } from "./names.mjs";
 
 // Of more endpoints than these, the idle ones are named in one line; of more that ended, only their number is told.
 const MOST_ENDPOINTS = 8;
@@ -26,7 +26,7 @@ function drawThread(view, line) {
   const look = `${lookOf(view, `thread ${address}`, `inbox ${address}`)}${caller ? " named" : ""}`;
   return element("li", { class: look, title: caller ? "made the call" : undefined, "data-thread": address },
     objectName(view, thread(address)), " ", element("span", { "aria-hidden": "true" }, STATE_SIGNS[state]), ` ${state}`,
-    line.endpoint === null ? null : [" ", code(String(line.endpoint))],
+    line.endpoint === null ? null : [" ", code(String(line.endpoint)), nameOfObject(view, endpoint(line.endpoint))],
     inbox ? element("div", { class: "dim" }, signOf("message"), messageName(inbox)) : null);
 }
 
@@ -66,7 +66,7 @@ function drawEndpoint(view, line) {
   const waiting = state === "idle" ? dim("idle, nobody waits")
     : [`${state} `, element("ol", { class: "queue" }, queue.map((waiter) => drawWaiting(view, waiter)))];
   return element("li", { class: lookOf(view, `endpoint ${address}`), "data-endpoint": address, "data-state": state },
-    objectName(view, endpoint(address)), " ", waiting, drawLeft(view, line));
+    objectName(view, endpoint(address)), nameOfObject(view, endpoint(address)), " ", waiting, drawLeft(view, line));
 }
 
 const named = (lines) => lines.slice(0, MOST_NAMED).map(({ address }) => address).join(" ")

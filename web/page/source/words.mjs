@@ -26,18 +26,24 @@ class Told {
     return isSlot(address) && this.before.nodeAround(address)?.base !== 0 ? this.place(address) : word;
   }
 
-  /** A call's words in short. */
-  gist() {
+  /** The same by its name, where it has one. */
+  name(word, address) {
+    return namesOfWord(this, word, address)[0] ?? this.index(word, address);
+  }
+
+  /** A call's words in short, by numbers or by names. */
+  gist(isNamed) {
     const { words } = this.step;
-    const { target, source, filled } = this.named;
-    const to = this.index(words.index, target);
-    if (words.src_index !== undefined) return `${this.index(words.src_index, source)} → ${to}`;
+    const { invoked, target, source, filled } = this.named;
+    const write = (word, address) => (isNamed ? this.name(word, address) : this.index(word, address));
+    const to = write(words.index, target);
+    if (words.src_index !== undefined) return `${write(words.src_index, source)} → ${to}`;
     if (words.count !== undefined) {
       const kind = KINDS_BY_NUMBER[words.kind];
       const into = filled?.base ? ` → ${filled.base}[${words.offset}]` : "";
       return `${words.count} × ${kind ? kindWord(kind) : `kind ${words.kind}`}${into}`;
     }
-    return words.index === undefined ? `by ${words.cap}` : to;
+    return words.index === undefined ? `by ${(isNamed && namesOfWord(this, words.cap, invoked)[0]) || words.cap}` : to;
   }
 
   /** The slots that the call names or changes, and those that these are derived from. */
@@ -75,7 +81,8 @@ function threadsHeld(state, { invoked, root, source, target }) {
   return held.filter((capability) => capability?.kind === "tcb").map(({ base }) => base);
 }
 
-/** For each step of a trace, its words in short (`gist`) and the texts that the page writes of it (`texts`). */
+/** For each step of a trace, its words in short by numbers (`gist`) and by names (`named`), and the texts that the page writes of it
+    (`texts`). */
 export function wordsOfSteps(trace) {
   const run = new Run(trace.steps);
   let after = new Places(run.state, trace.machine);
@@ -87,7 +94,7 @@ export function wordsOfSteps(trace) {
     // Where no capability of a CNode came or went, the CNodes are the same.
     if (step.changes.some(isOfNode)) after = new Places(run.state, trace.machine);
     const told = new Told(trace, step, named, held, before, after);
-    const gist = number === 0 ? "" : told.gist();
-    return { gist, texts: told.texts(gist) };
+    const [gist, byName] = [false, true].map((isNamed) => (number === 0 ? "" : told.gist(isNamed)));
+    return { gist, named: byName, texts: told.texts(gist) };
   });
 }
