@@ -131,7 +131,7 @@ export class Exercise {
   showTrace(trace, number) {
     const { page } = this;
     this.steps ??= new Steps({ viewer: page.markup(page.data.viewer), title: "The run, call by call",
-      listen: (frame) => page.listenToFrame(frame), shown: () => {} });
+      listen: (frame) => page.keys.listenInFrame(frame), shown: () => {} });
     if (!this.steps.frame.isConnected) this.beside.append(this.steps.frame);
     this.trace = trace;
     this.steps.show(trace, page.title, number);

@@ -3,6 +3,7 @@ import { Editor } from "./editor.mjs";
 import { Examples } from "./examples.mjs";
 import { Exercise } from "./exercise.mjs";
 import { Options } from "./options.mjs";
+import { PageKeys } from "./page_keys.mjs";
 import { Program, STOPPED } from "./program.mjs";
 import { Steps } from "./steps.mjs";
 import { POLICY, REPORT, STEPS, TABS } from "./tabs.mjs";
@@ -34,6 +35,7 @@ const REFUSED = [2, 4];
 const TELLS_WHY = /sel4sim why/u;
 /** The field of the name is at least and at most so wide, in letters. */
 const [NARROW, BROAD] = [12, 32];
+const NARROW_WINDOW = "(max-width: 800px)";
 /** So long after the last key the set-up is run by itself, */
 const MILLISECONDS_STILL = 300;
 /** unless it is longer than this, or its last run took so long. */
@@ -84,15 +86,17 @@ class Page {
   constructor(data) {
     this.data = data;
     this.markup = (text) => URLS.createHTML(text);
+    this.keys = new PageKeys(this);
     this.program = new Program(data.module, data.worker, URLS);
     this.policy = new Policy(byId("policy"), () => this.changed());
     this.editor = new Editor(byId("editor"), "Set-up", { changed: () => this.changed(), moved: (line) => this.follow(line),
       asked: (...mark) => this.hear(...mark) });
     this.options = new Options(byId("options"), () => this.given());
     this.steps = new Steps({ viewer: this.markup(data.viewer), title: "The run, call by call",
-      listen: (frame) => { this.listenToFrame(frame); this.drawProjected(); }, shown: (number) => this.showCall(number) });
+      listen: (frame) => { this.keys.listenInFrame(frame); this.drawProjected(); }, shown: (number) => this.showCall(number) });
     this.visits = new Visits(this, (setup, chosen) => this.openVisited(setup, chosen));
-    this.examples = new Examples(byId("examples"), data.topics, { open: (...place) => this.visits.go(() => this.openExample(...place)),
+    const places = { list: byId("examples"), dialog: byId("all"), field: byId("search"), found: byId("found") };
+    this.examples = new Examples(places, data.topics, { open: (...place) => this.visits.go(() => this.openExample(...place)),
       openLeft: (setup) => this.visits.go(() => this.openAgain(setup)) });
     this.exercise = new Exercise(byId("exercise"), this);
     this.sharing = new Sharing(this);
@@ -169,11 +173,13 @@ class Page {
 
   /** A set-up that is long is run where its reader says so. */
   hold() {
-    const panel = byId(`panel-${this.tab.name}`);
     this.shown = null;
-    panel.dataset.of = "";
-    panel.classList.remove("old");
-    panel.replaceChildren(element("p", {}, "This set-up is long: it runs when you press run. ", link("run it", () => this.run())));
+    for (const { name } of [this.tab, REPORT]) {
+      const panel = byId(`panel-${name}`);
+      panel.dataset.of = "";
+      panel.classList.remove("old");
+      panel.replaceChildren(element("p", {}, "This set-up is long: it runs when you press run. ", link("run it", () => this.run())));
+    }
     for (const id of ["status", "ended", "errors"]) byId(id).textContent = "";
     this.tell("long: run it");
   }
@@ -236,7 +242,7 @@ class Page {
   }
 
   keep() {
-    keepState({ ...this.setup, read: this.read, hasLetters: this.hasLetters }, this.frame);
+    keepState({ ...this.setup, read: this.read, hasLetters: this.keys.hasLetters }, this.frame);
   }
 
   /** What is typed is run by itself, where that is quick. */
@@ -632,12 +638,18 @@ class Page {
       this.openAgain(kept);
       if (kept.isChanged) this.asOpened = "";
       this.keep();
-    } else {
-      this.openExample(...FIRST_EXAMPLE);
-      byId("welcome").hidden = false;
-    }
+    } else this.welcome();
     if (fault) this.warn(fault);
     if (this.isStepsAlone) this.project(true);
+  }
+
+  /** Who was never here sees what a call does, drawn; on a phone without the set-up above it. */
+  welcome() {
+    this.tab = STEPS;
+    this.openExample(...FIRST_EXAMPLE);
+    this.firstCall = 1;
+    this.setWide(matchMedia(NARROW_WINDOW).matches);
+    byId("welcome").hidden = false;
   }
 
   /** Shows the steps in the whole window, or the page again. */
@@ -663,53 +675,6 @@ class Page {
     event.preventDefault();
     if (this.tab === STEPS) this.steps.focus();
     else first.focus();
-  }
-
-  /** The page's keys also hold in the frame of the steps; the frame's own keys of one letter hold where the page's do. */
-  listenToFrame({ contentWindow, contentDocument }) {
-    contentWindow.addEventListener("keydown", (event) => {
-      if (!this.hasLetters && event.key.length === 1 && event.key !== " ") event.stopImmediatePropagation();
-    }, true);
-    this.listenToKeys(contentDocument);
-  }
-
-  /** Whether keys of one letter hold, outside of fields. */
-  get hasLetters() {
-    return byId("letters").checked;
-  }
-
-  /** The keys, on this page and in the frame of the steps. */
-  listenToKeys(where) {
-    where.addEventListener("keydown", (event) => {
-      const { key, target } = event;
-      const isTyping = target.closest("input, select, textarea, .CodeMirror") !== null;
-      const action = event.ctrlKey || event.metaKey ? this.withControl(key)
-        : this.actionOf(key, isTyping || where !== document && key === "?");
-      // What the steps have done by a key of their own is not done once more.
-      if (!action || event.altKey || event.defaultPrevented || document.querySelector("dialog[open]")) return;
-      event.preventDefault();
-      action();
-    });
-  }
-
-  /** What a key does together with Ctrl. */
-  withControl(key) {
-    const print = this.tab === STEPS && !this.exercise.isOpen ? () => this.printStep() : null;
-    return { Enter: () => this.run(), s: () => this.save(), p: print }[key];
-  }
-
-  actionOf(key, isTyping) {
-    if (key === "F1") return () => byId("keys").showModal();
-    // What marks an exercise is not stopped: it has no report to stop for.
-    if (key === "Escape" && this.program.isRunning && !this.exercise.isOpen) return () => this.stop();
-    if (key === "Escape" && document.body.classList.contains("project") && !this.isStepsAlone) return () => this.project(false);
-    if (isTyping || !this.hasLetters) return null;
-    if (key === "?") return () => byId("keys").showModal();
-    if (this.exercise.isOpen) return null;
-    // The tenth tab has the key 0.
-    const place = /^\d$/u.test(key) ? (Number(key) + 9) % 10 : TABS.length;
-    if (place < TABS.length) return () => this.chooseAt(place);
-    return { e: () => this.edit(), p: () => this.project(true), w: () => this.setWide(!document.body.classList.contains("wide")) }[key] ?? null;
   }
 
   /** Prints the step that is shown: it stands in a document of its own. */
@@ -738,7 +703,7 @@ class Page {
     on("run", () => this.run());
     on("stop", () => this.stop());
     on("welcome-close", () => { byId("welcome").hidden = true; });
-    on("welcome-steps", () => this.choose(STEPS));
+    on("welcome-report", () => this.choose(REPORT));
     on("save", () => this.save());
     on("share", () => this.sharing.open());
     on("save-policy", () => this.saveText(this.policy.text, this.policyName));
@@ -767,7 +732,7 @@ class Page {
     });
     window.addEventListener("hashchange", () => this.openAddress());
     listenToFiles([byId("open")], (text, name) => this.openFile(text, name));
-    this.listenToKeys(document);
+    this.keys.listen(document);
   }
 }
 

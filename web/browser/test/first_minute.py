@@ -2,16 +2,30 @@
 import json
 
 import sheets
+from nothing_lost import FRAME, INSIDE
 from tester import pick
 
+FOUND = "[...document.querySelectorAll('#found h3')].map((it) => it.textContent)"
 GROUPS = "[...document.querySelectorAll('#examples optgroup')].map((it) => it.label)"
 
 
 def welcomed(test, _):
-    """The first visit has a line that leads to the exercises and the steps; it goes with what is opened, and comes no more."""
+    """The first visit sees what a call does, drawn, and a line that leads to the report and the exercises; the line goes with what is opened, and
+    comes no more."""
     browser = test.browser
+    for width, height in ((1280, 800), (390, 844)):
+        browser.call("Emulation.setDeviceMetricsOverride", width=width, height=height, deviceScaleFactor=1, mobile=width < 400)
+        test.forget()
+        test.wanted(browser.value("document.getElementById('welcome').offsetParent !== null"), "nobody is welcomed")
+        test.until(f"{INSIDE}?.getElementById('position')?.textContent === 'call 1 of 2'", "the first visit does not see the first call")
+        top = browser.value(f"{FRAME}.getBoundingClientRect().top + {INSIDE}.querySelector('#forest .node').getBoundingClientRect().bottom")
+        test.wanted(top < height, f"at {width} the first drawing begins {top} pixels down")
+        test.wanted(browser.value("document.documentElement.scrollWidth") <= width, f"a window of {width} is overrun")
+        test.click("#welcome-report")
+        test.settle()
+        test.wanted(browser.value("document.body.dataset.tab") == "report", "the first line does not lead to the report")
+    browser.call("Emulation.clearDeviceMetricsOverride")
     test.forget()
-    test.wanted(browser.value("document.getElementById('welcome').offsetParent !== null"), "nobody is welcomed")
     test.click("#welcome-exercise")
     test.until(f"{sheets.SHEET}?.offsetParent !== null", "the welcome leads to no exercise")
     test.wanted(browser.value("document.querySelector('.course [aria-current]').textContent.startsWith('1 ')"), "the first exercise is not the first")
@@ -54,16 +68,47 @@ def told_words(test, _):
 
 
 def ordered(test, _):
-    """The list begins with the exercises, then the examples to begin with; tests come last; no key is in the page."""
+    """The list has the exercises, the examples to begin with, and a way to all; in these tests come last; no key is in the page."""
+    test.browser.value("sel4sim.page.openExample('examples', 'send_then_receive')")
+    test.settle()
     groups = test.browser.value(GROUPS)
     wanted = ["exercises: capability spaces", "exercises: untyped memory", "exercises: derivation", "exercises: endpoints",
               "exercises: confinement", "examples: begin here"]
     shown = [it for it in groups if it != "what you changed"]
-    test.wanted(shown[:6] == wanted, f"the list begins with {shown[:6]}")
-    test.wanted(all(it.startswith("why ") for it in shown[-9:-2]), f"the list ends with {shown[-9:]}")
+    test.wanted(shown == wanted, f"the list has {shown}")
+    test.select("examples", "all")
+    shown = test.browser.value(FOUND)
+    test.wanted(shown[:6] == wanted and shown[6] == "examples: more examples", f"all begins with {shown[:7]}")
+    test.wanted(all(it.startswith("why ") for it in shown[-9:-2]), f"all ends with {shown[-9:]}")
+    test.browser.press("Escape")
     texts = test.browser.value("sel4sim.page.data.topics.flatMap(({ setups }) => setups.map(({ text }) => text))")
     for name in sheets.names():
         test.wanted(sheets.text_of("exercise_answers", name) not in texts, f"the key of {name} is in the page")
+
+
+def searched(test, _):
+    """All set-ups are found by words of their topic, their name or what they are about, and opened by keys; one that is not in the list stands
+    there while it is open."""
+    browser, shown = test.browser, "document.getElementById('name').value"
+    pick(test, "examples", "three_clients")
+    test.select("examples", "all")
+    test.wanted(browser.value("document.activeElement.id") == "search", "the field to search in has no focus")
+    all_found = browser.value("document.querySelectorAll('#found button').length")
+    test.wanted(all_found == browser.value("sel4sim.page.data.topics.flatMap(({ setups }) => setups).length"), f"of all {all_found} are found")
+    browser.insert("retype UNTYPED objects")
+    found = browser.value("[...document.querySelectorAll('#found button')].map((it) => it.firstChild.data)")
+    test.wanted("objects in an untyped" in found and len(found) < 10, f"found are {found}")
+    test.wanted(f"{len(found)} set-up" in browser.value("document.querySelector('#found [role=status]').textContent"), "how many are found is not told")
+    browser.press("ArrowDown")
+    name = browser.value("document.activeElement.firstChild?.data ?? ''")
+    test.wanted(name == found[0], f"Down leads to {name!r}")
+    browser.press(" ")
+    test.until(f"{shown} === {json.dumps(name.replace(' ', '_') + '.toml')} && !document.getElementById('all').open", f"{name} is not opened")
+    test.settle()
+    chosen = browser.value("document.getElementById('examples').selectedOptions[0].textContent")
+    test.wanted(chosen.startswith(name), f"the list says {chosen!r}")
+    pick(test, "examples", "three_clients")
+    test.wanted(browser.value("document.querySelector('#examples .opened') === null"), "what was open stays in the list")
 
 
 def said_in_words(test, _):
@@ -113,4 +158,4 @@ def rare_ones_behind_more(test, _):
     test.settle()
 
 
-CHECKS = (welcomed, one_row, told_words, ordered, said_in_words, rare_ones_behind_more)
+CHECKS = (welcomed, one_row, told_words, ordered, searched, said_in_words, rare_ones_behind_more)

@@ -292,10 +292,14 @@ def long_one_waits(test, stored):
     """A set-up that is long is opened and not run: it runs when its reader says so, as one that is typed does."""
     browser = test.browser
     text = stored.decode() + "# a comment\n" * 20_000
-    browser.value(f"sel4sim.page.open({json.dumps(text)}, 'long.toml')")
-    test.settle(0.6)
-    for tab in ("report", "steps"):
-        test.wanted("press run" in test.text("panel-report"), f"of a long set-up {test.text('panel-report')[:80]!r} is shown")
+    for tab in ("steps", "report"):
+        pick(test, "examples", "send_then_receive")
+        test.click(f"#tab-{tab}")
+        test.settle()
+        browser.value(f"sel4sim.page.open({json.dumps(text)}, 'long.toml')")
+        test.settle(0.6)
+        told = [test.text(f"panel-{it}") for it in {tab, "report"}]
+        test.wanted(all("press run" in it for it in told), f"of a long set-up in {tab} {[it[:80] for it in told]} is shown")
         test.wanted(test.text("status") == "" and "long" in test.text("state"), f"a long set-up is told as {test.text('status')}, {test.text('state')}")
     test.click("#run")
     test.settle()

@@ -111,7 +111,7 @@ function detailsOf(capability, machine, short) {
 export function wholeDetailsOf(capability, machine) {
   const { kind, slots, guard, guardSize } = capability;
   if (kind === "tcb") return "thread";
-  if (kind === "cnode") return `${slots} slots${guardSize > 0 ? ` guard ${guard}/${guardSize} bits` : ""}`;
+  if (kind === "cnode") return `${slots} slots${guardSize > 0 ? ` guard ${guardInWords(guard, guardSize)}` : ""}`;
   return detailsOf(capability, machine, false);
 }
 

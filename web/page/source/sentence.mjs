@@ -1,5 +1,6 @@
 // A call as a sentence, and the meaning of its reply's number. The slots in it are found by the page's own lookups.
 import { code, counted, dim } from "./element.mjs";
+import { guardInWords } from "./bit_boxes.mjs";
 import { KINDS_BY_NUMBER, capabilityName, kindWord, nameOfWord, slotName, threadName } from "./names.mjs";
 
 const RIGHTS = "wrgp";
@@ -25,7 +26,7 @@ function guardOf(word, machine) {
   const sizeBits = machine.wordBits === 64 ? 6n : 5n;
   const size = BigInt(word) & ((1n << sizeBits) - 1n);
   const value = (BigInt(word) >> sizeBits) & ((1n << size) - 1n);
-  return ["the guard word ", code(word), dim(` (guard ${value}/${size} bits)`)];
+  return ["the guard word ", code(word), dim(` (guard ${guardInWords(value, size)})`)];
 }
 
 /** Rights by their bits, as the trace writes them. */

@@ -55,6 +55,11 @@ def states_of(steps):
     return states
 
 
+def guard_in_words(guard, size):
+    """A guard as the page tells it: its bits, or of a long one its value and its size."""
+    return f"{guard:0{size}b}" * (size > 0) if size <= 12 else f"{guard} in {size} bits"
+
+
 class Slot:
     """What a line of a slot says."""
 
@@ -84,7 +89,7 @@ class Slot:
         if self.kind != "cnode":
             return self.details(0)
         size = self.number("size")
-        return f"{1 << self.number('radix')} slots" + (f" guard {self.number('guard')}/{size} bits" if size else "")
+        return f"{1 << self.number('radix')} slots" + (f" guard {guard_in_words(self.number('guard'), size)}" if size else "")
 
     def details(self, word_bits):
         """What the page says of the capability behind its object's address."""
@@ -97,7 +102,7 @@ class Slot:
             return ""
         radix, guard, size = self.number("radix"), self.number("guard"), self.number("size")
         usual = guard == 0 and size in (0, word_bits - radix)
-        return f"{1 << radix} slots" + ("" if usual else f" guard {guard}/{size} bits")
+        return f"{1 << radix} slots" + ("" if usual else f" guard {guard_in_words(guard, size)}")
 
 
 def slots_of(state):

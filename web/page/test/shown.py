@@ -27,6 +27,8 @@ READ = r"""
     audited: document.getElementById("reach").textContent.includes("which is proved"),
     channels: all("#channels .wire title", (it) => it.textContent),
     reasons: all("#said .reasons > li", (reason) => reason.textContent),
+    ways: all("#said .lookup", (row) => [row.getAttribute("aria-label"), row.querySelector(".end b")?.title ?? null,
+      [...row.querySelectorAll(".bits")].map((part) => [part.classList[1], part.dataset.bits])]),
     names: all("#sentence .name", (name) => name.textContent), changed: text("changed"),
     nodes: all("#spaces h3[data-node]", (node) => [Number(node.dataset.node), node.textContent]),
     state: text("state-text"), step: text("step-text"), position: text("position"), sentence: text("said"),
@@ -208,6 +210,31 @@ def place_of(slots, address, profile):
     return None
 
 
+WAY = re.compile(r"The way of (\w+) (\d+), in bits")
+
+
+def wrong_ways(shown, replay, number):
+    """The way of a word has the bits that are looked up, from the first one on, and ends at the slot that the word leads to."""
+    words, slots, step = replay.words(number) if number else {}, slots_of(replay.states[number - 1]), replay.steps[number]
+    thread = CALL.fullmatch(step.lines[0])[2] if number else "0"
+    for label, end, parts in shown:
+        name, word = WAY.fullmatch(label).groups()
+        depth = int(words.get({"index": "depth", "src_index": "src_depth"}.get(name, ""), 64 if replay.profile == "wide" else 32))
+        if name in ("cap", "root"):
+            slot = slot_of_word(slots, int(thread), int(word), replay.profile)
+        else:
+            start = slot_of_word(slots, int(thread), words["cap" if name == "index" else "src_root"], replay.profile)
+            slot = slot_of_index(slots, slots.get(start), int(word), depth, replay.profile)
+        bits = "".join(part for _, part in parts)
+        whole = f"{int(word) % (1 << depth):0{depth}b}"
+        if word != str(words[name]) or not whole.startswith(bits) or slot is None and bits != whole:
+            yield f"the way of {name} {word} has the bits {bits}, and not {whole}"
+        if end != (None if slot is None else f"slot at address {slot}"):
+            yield f"the way of {name} {word} ends at {end}, and not at {slot}"
+        if (slot is None) != any(look == "refused-bits" for look, _ in parts):
+            yield f"the way of {name} {word} is drawn as {parts}, and leads to {slot}"
+
+
 def wrong_gist(shown, replay, number):
     """The list has an index as the call has it, but where it led to a slot of another CNode than the root one: there it
     has the slot's place."""
@@ -305,6 +332,7 @@ def wrong_page(shown, replay, number):
     yield from wrong_names(shown["names"], replay, number)
     yield from wrong_losses(shown, replay, number)
     yield from wrong_gist(shown["gists"], replay, number)
+    yield from wrong_ways(shown["ways"], replay, number)
     yield from wrong_sums(shown["sums"], replay, number)
     if not shown["inSight"]:
         yield "the forest is not scrolled to what changed"
