@@ -121,6 +121,38 @@ def resized(test, _):
     browser.value("sel4sim.page.project(false)")
 
 
+# For each word of the call: its boxes, as what they are and their bits, and the slots with a ring.
+WAYS = f"""(() => {{
+  const inside = {INSIDE};
+  const rings = (look) => [...inside.querySelectorAll(`#forest .node.${{look}} b.code`)].filter((it) => it.title).map((it) => it.textContent);
+  return {{ ways: [...inside.querySelectorAll("#said .lookup")].map((row) => [row.querySelector(".of-word").textContent,
+      [...row.querySelectorAll(".bits")].map((it) => [it.classList[1], it.dataset.bits, it.querySelector("small").textContent]), row.querySelector(".end").textContent]),
+    named: rings("named"), passed: rings("on-way"), isCut: inside.getElementById("said").scrollHeight > inside.getElementById("said").clientHeight + 1,
+    reason: inside.querySelector(".reasons")?.getBoundingClientRect().height ?? null }};
+}})()"""
+
+
+def ways_in_bits(test, _):
+    """The way of a word is drawn in bits, guard by guard and slot by slot, where it leads to a slot as where it fails; the slots on the way have a
+    thin ring; the reason in words is heard where the boxes say the same, and seen elsewhere."""
+    wanted = ((4, ["index 359", [["passed", "101", "guard, 3 bits"], ["slot-bits", "10", "slot 2 of 16384"], ["passed", "01", "guard, 2 bits"],
+                                 ["slot-bits", "11", "slot 3 of 16512"]], "→ 16512[3]"], ["16384[2]"]),
+              (6, ["index 363", [["passed", "101", "guard, 3 bits"], ["slot-bits", "10", "slot 2 of 16384"], ["refused-bits", "10", "guard is 01"],
+                                 ["unread", "11", "not read"]], "✕ no slot"], ["16384[2]"]),
+              (7, ["index 179", [["passed", "101", "guard, 3 bits"], ["slot-bits", "10", "slot 2 of 16384"], ["passed", "01", "guard, 2 bits"],
+                                 ["refused-bits", "1", "slot needs 2"]], "✕ no slot"], ["16384[2]"]))
+    for number, way, passed in wanted:
+        at_call(test, "examples", "guarded_address_space", number)
+        told = test.browser.value(WAYS)
+        test.wanted(way in told["ways"], f"call {number}: the ways are {told['ways']}, and not {way}")
+        test.wanted(told["passed"] == passed, f"call {number}: on the way are {told['passed']}")
+        test.wanted(not told["isCut"], f"call {number}: the ways are cut")
+        test.wanted(told["reason"] in (None, 1), f"call {number}: the reason stands beside the boxes")
+    at_call(test, "examples", "two_clients_by_badge", 7)
+    told = test.browser.value(WAYS)
+    test.wanted(told["ways"] == [] and told["reason"] > 10, f"of a right that is missing {told} is shown")
+
+
 NAMED = f"""(() => {{
   const inside = {INSIDE};
   const texts = (wanted) => [...inside.querySelectorAll(wanted)].map((it) => it.textContent.replace(/\\s+/gu, " ").trim());
@@ -144,4 +176,4 @@ def names(test, _):
             test.wanted(any(text in it for it in found[where]), f"{name}: no {where} have {text!r}: {found[where]}")
 
 
-CHECKS = (empty_and_far, contrasts, projected_sizes, resized, names)
+CHECKS = (empty_and_far, contrasts, projected_sizes, resized, ways_in_bits, names)

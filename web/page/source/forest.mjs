@@ -2,7 +2,7 @@
 // in their old place for that one step, struck out; of many, each that was derived from none of the others is told, and
 // those that were derived from it are counted.
 import { dim, element, fold, foldBehind, heading, sign } from "./element.mjs";
-import { capabilityName, nameOfSlot, signOf, slotName } from "./names.mjs";
+import { capabilityName, nameOfSlot, ringOf, signOf, slotName } from "./names.mjs";
 import { emptiedTrees, isSummedUp, markOf } from "./changes.mjs";
 import { inOrder } from "./order.mjs";
 
@@ -52,7 +52,7 @@ function drawNode(view, row) {
   const content = mark === "moved" ? [dim("moved to "), slotName(view, view.changes.moved.to.address)]
     : mark === "emptied" ? element("s", {}, held) : held;
   const diamond = element("span", { class: "original", title: "original" }, sign("◆", "original"), " ");
-  const look = `node ${mark}${view.isNamed(row.address) ? " named" : ""}`;
+  const look = `node ${mark}${ringOf(view, row.address)}`;
   return element("span", { class: look }, signOf(mark), slotName(view, row.address), nameOfSlot(view, row.address), " ",
     row.original ? diamond : null, content);
 }

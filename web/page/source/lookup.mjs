@@ -116,7 +116,7 @@ export function slotsFrom(places, root) {
   return [...found.values()];
 }
 
-/** The way of a word through CNodes: for each its guard and slot in bits, and where it ends, or null. */
+/** The way of a word through CNodes: for each its guard and its slot in bits, with the slot's address; and where it ends, or null. */
 export function wayOf(state, machine, root, word, bits) {
   const text = inBits(lowBits(word, bits), bits);
   const parts = [];
@@ -134,10 +134,10 @@ export function wayOf(state, machine, root, word, bits) {
     const slotBits = text.slice(at, at + radix);
     const isWhole = slotBits.length === radix;
     const number = isWhole ? Number(BigInt(`0b${slotBits || "0"}`)) : -1;
-    parts.push({ guard: found, wanted, base, isRight, slot: { bits: slotBits, number, isWhole, needs: radix } });
+    address = isWhole ? base + (number << machine.slotBits) : null;
+    parts.push({ guard: found, wanted, base, isRight, slot: { bits: slotBits, number, address, isWhole, needs: radix } });
     if (!isWhole) return { parts, address: null };
     at += radix;
-    address = base + (number << machine.slotBits);
     capability = state.slot.get(address)?.capability;
     // What is left of a word that names a capability to invoke is ignored where no CNode follows.
     if (bits === machine.wordBits && capability?.kind !== "cnode") break;

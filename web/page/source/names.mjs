@@ -70,6 +70,9 @@ export function nameOfSlot(view, address) {
   return node?.base === 0 ? nameOfWord(view, address >> view.trace.machine.slotBits, address) : null;
 }
 
+/** The ring around a slot, as a class behind a space: that of one which the call names, or of one on the way of a word to it. */
+export const ringOf = (view, address) => (view.isNamed(address) ? " named" : view.isPassed(address) ? " on-way" : "");
+
 const namesByPlaces = new WeakMap();
 
 /** The names of the objects in a state: of each those of the slots of the root CNode that hold a capability of it which was derived

@@ -1,6 +1,6 @@
 // The CNodes with their slots, as one thread sees them: each slot that it can name has the word that names it.
 import { code, dim, element, fold, heading } from "./element.mjs";
-import { capabilityName, kindMark, nameOfObject, nameOfSlot, namesOfThread, objectName, signOf, slotName } from "./names.mjs";
+import { capabilityName, kindMark, nameOfObject, nameOfSlot, namesOfThread, objectName, ringOf, signOf, slotName } from "./names.mjs";
 import { markOf } from "./changes.mjs";
 import { wordsOfThread } from "./lookup.mjs";
 import { sourceOf } from "./reach.mjs";
@@ -41,7 +41,7 @@ function drawCell(view, node, row, words) {
   const content = mark === "moved" ? ["moved to ", slotName(view, view.changes.moved.to.address)]
     : mark === "emptied" ? element("s", {}, held) : held;
   const number = (row.address - node.base) >> view.trace.machine.slotBits;
-  const look = ["cell", mark, view.isNamed(row.address) ? "named" : "", !gone && word === undefined ? "far" : "",
+  const look = ["cell", mark, ringOf(view, row.address).trim(), !gone && word === undefined ? "far" : "",
     word === String(number) ? "own" : ""];
   return element("li", { class: look.filter(Boolean).join(" "), title: `slot at address ${row.address}` },
     signOf(mark), element("b", {}, String(number)), nameOfSlot(view, row.address), " ", drawWord(word, number), element("div", {}, content));

@@ -31,7 +31,8 @@ export class Views {
     const ways = number === 0 ? [] : waysOf(run.state, trace.machine, step);
     const held = Object.fromEntries(ROLES.map((role) => [role, run.state.slot.get(named[role])?.capability]));
     const ring = new Set([named.invoked, named.source, named.target]);
-    return { trace, step, before, named, held, ways, isNamed: (address) => ring.has(address) };
+    const passed = new Set(ways.filter(({ parts }) => parts.length > 1).flatMap(({ parts }) => parts.map(({ slot }) => slot?.address)));
+    return { trace, step, before, named, held, ways, isNamed: (address) => ring.has(address), isPassed: (address) => passed.has(address) };
   }
 
   /** A step with its effect. */
