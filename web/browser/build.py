@@ -33,7 +33,8 @@ CODEMIRROR = pathlib.Path("/usr/share/javascript/codemirror")
 SCRIPTS = ("lib/codemirror.js", "mode/toml/toml.js")
 # What the page is made of; a change elsewhere leaves it as it is.
 MADE_OF = ("crates", "crates.txt", "web/page/source", "web/page/join.py", "web/browser/source", "web/browser/c", "web/browser/build.py",
-           "web/browser/module.py", "web/browser/retarget.py")
+           "web/browser/module.py", "web/browser/retarget.py", "docs/behaviour.md")
+RULES = TOP / "docs" / "behaviour.md"
 FIRST_TOPICS, LAST_TOPICS = ("exercises", "examples"), ("expectations", "refused")
 # The set-ups of other topics are tests, each of one reason: they come behind the others.
 TESTS = re.compile("why_")
@@ -170,7 +171,7 @@ def taken_editor():
 
 def data(packed):
     """Returns what the page's script reads, as JSON that ends no element of a page."""
-    told = {"module": packed, "worker": (SOURCE / "worker.mjs").read_text(), "viewer": join.viewer(), "topics": topics()}
+    told = {"module": packed, "worker": (SOURCE / "worker.mjs").read_text(), "viewer": join.viewer(), "rules": RULES.read_text(), "topics": topics()}
     return json.dumps(told, ensure_ascii=False).replace("<", "\\u003c")
 
 

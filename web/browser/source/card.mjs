@@ -1,8 +1,16 @@
 // One call of an exercise on its sheet: its words, the call as it is written, the fields for its answer, and what came of it.
-import { Prediction, wordsOfRefusal } from "./prediction.mjs";
+import { Prediction } from "./prediction.mjs";
 import { drawBits } from "./bits.mjs";
 import { code, dim, element } from "../../page/source/element.mjs";
 import { drawReason } from "./report.mjs";
+import { meaningOf } from "../../page/source/refusals.mjs";
+
+/** A button that looks like a link. */
+function link(words, label, act) {
+  const made = element("button", { type: "button", class: "link", "aria-label": label }, words);
+  made.addEventListener("click", act);
+  return made;
+}
 
 /** The call as it is written. */
 function drawPairs(pairs) {
@@ -10,16 +18,25 @@ function drawPairs(pairs) {
   return element("p", { class: "code pairs" }, code(`${pairs.get("thread")} ${pairs.get("op")}`), " ", rest.join(", "));
 }
 
+/** The way to the rule of the operation of a call. */
+const drawRule = (operation, rule) => link("rule", `the rule of ${operation}`, () => rule(operation));
+
+/** The steps of help with a wrong answer, in their order. */
+const HELP = ["help: the rule", "more help: how far it gets", "show the answer of this call"];
+export const STEPS_OF_HELP = HELP.length;
+
 const tag = (isGood, words) => element("span", { class: isGood ? "tag met" : "tag missed" }, words);
 
 export class Card {
-  /** `answered` is told the number of the call where its answer is changed, and `step` where its effect is asked for. */
-  constructor(call, { wordBits, ...objects }, { answered, step }) {
-    Object.assign(this, { call, step, wordBits, number: call.number, outcome: element("div", { class: "outcome" }) });
+  /** `answered` is told the number of the call where its answer is changed, `step` where its effect is asked for, `rule` its operation
+      where the rule is asked for, and `help` the card where more help with a wrong answer is. */
+  constructor(call, { wordBits, ...objects }, { answered, step, rule, help }) {
+    Object.assign(this, { call, step, help, wordBits, number: call.number, isShown: false, outcome: element("div", { class: "outcome" }) });
     this.prediction = call.asked ? new Prediction(call, objects, () => answered(this)) : null;
     const words = call.words ? element("p", { class: "words" }, call.words) : null;
     this.element = element("li", { value: String(call.number), class: call.asked ? "card asks" : "card" }, words,
-      drawPairs(call.pairs), this.prediction?.element, this.outcome);
+      drawPairs(call.pairs), element("div", { class: "answering" }, this.prediction?.element, drawRule(call.pairs.get("op"), rule)),
+      this.outcome);
   }
 
   /** The answer that is given, or "". */
@@ -31,8 +48,9 @@ export class Card {
     this.prediction.text = text;
   }
 
+  /** Whether its answer is marked as wrong, and can be changed. */
   get isWrong() {
-    return this.element.classList.contains("wrong");
+    return this.element.classList.contains("wrong") && !this.isShown;
   }
 
   look(isRight) {
@@ -46,16 +64,25 @@ export class Card {
     this.outcome.replaceChildren();
   }
 
-  /** Says whether the answer is right. Only a wrong one can be changed. */
-  mark(isRight) {
+  /** Says whether the answer is right. Only a wrong one can be changed; for it there is help, of which so many steps were taken. */
+  mark(isRight, steps = 0) {
     this.look(isRight);
     this.prediction.isOpen = !isRight;
     this.outcome.replaceChildren(tag(isRight, isRight ? "✓ right" : "✗ not this"));
+    if (!isRight) this.offer(steps);
+  }
+
+  /** Offers the next step of help, and tells before it how far the call gets, where that is `told`. */
+  offer(steps, told) {
+    const words = HELP[steps];
+    this.outcome.replaceChildren(tag(false, "✗ not this"), " ", ...(told ? [drawReason(told)] : []),
+      link(words, `Call ${this.number}, ${words}`, () => this.help(this)));
   }
 
   /** Shows what was said, what the call was answered, and why. */
   show({ reply = "", outcome = "" }, reason = "") {
     const isRight = outcome === "met";
+    this.isShown = true;
     if (this.prediction) this.look(isRight);
     this.prediction?.element.remove();
     const effect = element("button", { type: "button", class: "link" }, "what it changed");
@@ -63,7 +90,7 @@ export class Card {
     const mark = tag(isRight, isRight ? "✓ right" : "✗ wrong");
     this.outcome.replaceChildren(...[
       this.prediction ? element("p", {}, mark, ` you said: ${this.prediction.words || "nothing"}`) : "",
-      element("p", { class: "answered" }, "answered: ", code(reply), " ", dim(wordsOfRefusal(reply)), " ", effect),
+      element("p", { class: "answered" }, "answered: ", code(reply), " ", dim(meaningOf(reply)), " ", effect),
       this.call.because ? element("p", { class: "because" }, this.call.because) : "", ...(reason ? [drawReason(reason), drawBits(reason, this.wordBits)] : []),
     ].filter(Boolean));
   }
@@ -72,5 +99,10 @@ export class Card {
   focus() {
     this.element.scrollIntoView({ block: "center" });
     this.prediction?.focus();
+  }
+
+  /** Puts the focus on what came of the answer. */
+  focusOutcome() {
+    this.outcome.querySelector(".link")?.focus();
   }
 }

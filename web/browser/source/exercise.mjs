@@ -1,6 +1,7 @@
 // An exercise on the page: its sheet, and beside it the state that its questions begin in. What the program answers is shown
 // once every answer is given and marked, by the program itself: an answer is right where its expectation is met.
 import { ASKED, MARKED, SHOWN, Sheet } from "./sheet.mjs";
+import { STEPS_OF_HELP } from "./card.mjs";
 import { STOPPED } from "./program.mjs";
 import { Steps } from "./steps.mjs";
 import { callsOf } from "./report.mjs";
@@ -14,7 +15,7 @@ import { wordBitsOf } from "./places.mjs";
 
 /** What is kept of all exercises, by the texts that ask. */
 const KEPT = "sel4sim.exercises";
-const NEW = { stage: ASKED, answers: {}, marked: {}, tries: 0, atFirst: [], right: 0, checked: {}, wasLeft: false };
+const NEW = { stage: ASKED, answers: {}, marked: {}, tries: 0, atFirst: [], right: 0, checked: {}, wasLeft: false, helped: {} };
 const NARROW = "(max-width: 800px)";
 /** What a retype makes where it makes threads or endpoints. */
 const KINDS_MADE = { threads: "1", endpoints: "2" };
@@ -24,6 +25,19 @@ export function cameOf(text) {
   const { stage, right, of } = keptAt(KEPT)[text] ?? {};
   if (stage === SHOWN && right === of) return "right";
   return stage === MARKED || stage === SHOWN ? "begun" : "";
+}
+
+/** How often help was asked for, in words. */
+function hintsOf(helped) {
+  const hints = Object.values(helped).reduce((sum, steps) => sum + steps, 0);
+  return hints > 0 ? `hints ${hints}` : "";
+}
+
+/** How far a call gets, by the reason that the program gives of its refusal: all of it but the last line. */
+function howFar(reason) {
+  if (reason === undefined) return "No check of the kernel refuses it.";
+  const lines = reason.split("\n").slice(0, -1);
+  return lines.length > 0 ? lines.join("\n") : "A check refuses it, and no lookup of several steps comes before that check.";
 }
 
 /** A trace that ends before a call. */
@@ -59,7 +73,8 @@ export class Exercise {
       mark: () => this.alone(() => this.mark()), check: () => this.alone(() => this.checkOne()), reveal: () => this.alone(() => this.reveal()),
       save: () => this.save(), restart: () => this.restart(), leave: () => this.leave(), next: () => page.openNext(),
       turn: (inTurn) => this.keep({ inTurn }), answered: (card) => this.answered(card), step: (number) => this.showStep(number),
-      see: () => this.heading.scrollIntoView(),
+      see: () => this.heading.scrollIntoView(), rule: (operation) => page.rules.show(operation),
+      help: (card) => this.alone(() => this.help(card)),
     });
   }
 
@@ -158,7 +173,7 @@ export class Exercise {
     const { stage, of, atFirst, inTurn } = this.state;
     const { checked, current } = this;
     const right = current ? checked.filter((number) => this.state.checked[number]).length : this.state.right;
-    this.sheet.show({ stage, right, of, inTurn, atFirst: atFirst.length, current, checked: checked.length, isLast: !this.next });
+    this.sheet.show({ stage, right, given: this.given.length, of, inTurn, atFirst: atFirst.length, current, checked: checked.length, isLast: !this.next });
     if (news.stage) this.drawCourse();
   }
 
@@ -211,7 +226,7 @@ export class Exercise {
     if (!right) return;
     this.keep({ tries: tries + 1, atFirst: tries === 0 ? right : atFirst });
     if (this.state.stage === SHOWN) this.sheet.status.focus();
-    else this.sheet.cards.get(this.sheet.wrong[0]).focus();
+    else this.sheet.cards.get(this.sheet.wrong[0])?.focus();
   }
 
   /** Marks the answers that are as these, and shows all of them where they are right or were asked for: the numbers of the right
@@ -221,12 +236,48 @@ export class Exercise {
     if (!replies) return null;
     const cards = this.sheet.asking.filter(({ number, answer }) => answer && marked[number] === answer);
     const isRight = ({ number }) => replies.get(number)?.outcome === "met";
-    for (const card of cards) card.mark(isRight(card));
+    for (const card of cards) card.mark(isRight(card), this.state.helped[card.number]);
     const right = cards.filter(isRight).map(({ number }) => number);
-    const isShown = this.state.stage === SHOWN || right.length === this.state.of;
+    const isShown = this.state.stage === SHOWN || right.length + this.given.length === this.state.of;
     this.keep({ marked, right: right.length, stage: isShown ? SHOWN : MARKED });
     if (isShown) await this.showAll(replies);
+    else await this.drawHelped(replies);
     return right;
+  }
+
+  /** Helps with a wrong answer, each step counted: the rule, how far the call gets, and then its answer alone. */
+  async help(card) {
+    const { helped, of, right } = this.state;
+    const steps = (helped[card.number] ?? 0) + 1;
+    const replies = await this.replies();
+    if (!replies) return;
+    this.keep({ helped: { ...helped, [card.number]: steps } });
+    if (this.given.length + right === of) {
+      await this.reveal();
+      return;
+    }
+    await this.drawHelped(replies);
+    card.focusOutcome();
+    if (steps === 1) this.page.rules.show(card.call.pairs.get("op"));
+  }
+
+  /** The calls whose answers were shown one by one. */
+  get given() {
+    return Object.entries(this.state.helped).filter(([, steps]) => steps >= STEPS_OF_HELP).map(([number]) => Number(number));
+  }
+
+  /** Shows the help that was asked for with wrong answers. */
+  async drawHelped(replies) {
+    const helped = Object.entries(this.state.helped);
+    const why = helped.length > 0 ? await this.ask("why", this.answeredText) : null;
+    if (why === null) return;
+    const reasons = reasonsByCall(why);
+    for (const [number, steps] of helped) {
+      const [card, reason] = [this.sheet.cards.get(Number(number)), reasons.get(Number(number))];
+      if (steps >= STEPS_OF_HELP) card.show(replies.get(card.number), reason);
+      else if (card.isWrong) card.offer(steps, steps > 1 ? howFar(reason) : undefined);
+    }
+    this.keep({});
   }
 
   /** Shows all answers, though some are wrong. */
@@ -314,12 +365,13 @@ export class Exercise {
 
   /** How the answers came about, in words. */
   get story() {
-    const { right, of, atFirst, tries, stage, inTurn, wasLeft } = this.state;
+    const { right, of, atFirst, tries, stage, inTurn, wasLeft, helped } = this.state;
     const looked = wasLeft ? "the report was looked at" : "";
     if (stage === ASKED) return [`${this.sheet.answers.size} of ${of} answered, not marked`, looked].filter(Boolean).join(", ");
     const later = this.sheet.asking.map(({ number }) => number).filter((number) => !atFirst.includes(number));
     const words = [`${right} of ${of} right`, `${atFirst.length} at the first try${later.length > 0 ? ` (not ${later.join(", ")})` : ""}`,
-      `tries ${tries}`, inTurn ? "one at a time" : "", stage === SHOWN && right < of ? "then shown" : "", looked];
+      `tries ${tries}`, inTurn ? "one at a time" : "", hintsOf(helped), this.given.length > 0 ? `shown one by one ${this.given.join(" ")}` : "",
+      stage === SHOWN && right + this.given.length < of ? "then shown" : "", looked];
     return words.filter(Boolean).join(", ");
   }
 

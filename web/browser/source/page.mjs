@@ -10,6 +10,7 @@ import { POLICY, REPORT, STEPS, TABS } from "./tabs.mjs";
 import { Policy, isPolicy } from "./policy.mjs";
 import { callsOf } from "./report.mjs";
 import { element } from "../../page/source/element.mjs";
+import { Rules } from "./rules.mjs";
 import { Sharing } from "./sharing.mjs";
 import { TooLong, readFragment } from "./share.mjs";
 import { Visits } from "./visits.mjs";
@@ -100,6 +101,7 @@ class Page {
       openLeft: (setup) => this.visits.go(() => this.openAgain(setup)) });
     this.exercise = new Exercise(byId("exercise"), this);
     this.sharing = new Sharing(this);
+    this.rules = new Rules(byId("rules"), data.rules);
     this.tab = REPORT;
     this.timer = null;
     this.round = 0;
@@ -717,6 +719,7 @@ class Page {
     on("letters", () => this.keep());
     on("show-keys", () => byId("keys").showModal());
     on("show-about", () => byId("about").showModal());
+    on("show-rules", () => this.rules.show());
     on("more-about", () => byId("about").showModal());
     on("copy", () => navigator.clipboard?.writeText(byId("command-line").textContent));
     on("save-output", () => this.shown && saveFile(this.shown.answer.output, `${this.title}.${this.shown.tab.name}`));

@@ -1,6 +1,7 @@
 // A prediction: what a reader says a call will be answered, by choosing and not by spelling.
 import { element } from "../../page/source/element.mjs";
 import { PARTS } from "./exercise_text.mjs";
+import { REFUSALS, refusalInWords } from "../../page/source/refusals.mjs";
 
 /** What the operations on messages can be answered; any other one is done or refused. */
 const MESSAGES = {
@@ -10,21 +11,6 @@ const MEANINGS = {
   done: "done", waiting: "the thread waits", delivered: "a message is delivered", dropped: "the message is dropped",
   empty: "nothing is there to receive", refused: "refused",
 };
-/** The refusals, in words. */
-const REFUSALS = [
-  ["1", "no object of this kind or size"], ["2", "the slot is empty, or a right is missing"],
-  ["3", "the wrong kind of capability, or data that cannot be set"], ["4", "a number is out of range"],
-  ["6/1", "the lookup begins at no CNode"], ["6/2", "the source is empty"], ["6/3", "too many bits, or too few"],
-  ["6/4", "bits that are not the guard's"], ["8", "the slot to fill is full"], ["9", "the untyped region has children"],
-  ["10", "not enough memory"], ["100", "no such thread"], ["101", "the thread is not ready"],
-];
-
-/** What a reply that refuses means, in words, or an empty text. */
-export function wordsOfRefusal(reply) {
-  const [, code] = /^refused (\S+)$/u.exec(reply) ?? [];
-  return new Map(REFUSALS).get(code) ?? "";
-}
-
 const option = (value, text) => element("option", { value }, text);
 
 /** What is chosen from to tell a part of a delivery: threads or endpoints; undefined for what is typed. */
@@ -38,7 +24,7 @@ export class Prediction {
     this.parts = asked.last ? PARTS.slice(0, PARTS.indexOf(asked.last) + 1) : [];
     this.kind = this.list("answer", "what is it answered?", [...(MESSAGES[pairs.get("op")] ?? ["done"]), "refused"]
       .map((it) => [it, MEANINGS[it]]));
-    this.code = this.list("reason", "why is it refused?", REFUSALS.map(([code, words]) => [code, `${code} · ${words}`]));
+    this.code = this.list("reason", "why is it refused?", REFUSALS.map(([code]) => [code, `${code} · ${refusalInWords(code)}`]));
     this.more = element("span", { class: "prediction-more" });
     this.element = element("div", { class: "prediction" }, this.kind, this.more);
   }

@@ -21,10 +21,10 @@ function drawButton(words, act, look) {
 }
 
 /** How far one is, in words. */
-function progressOf({ stage, right, of, atFirst, missing, wrong, current, checked }) {
+function progressOf({ stage, right, given, of, atFirst, missing, wrong, current, checked }) {
   if (current) return `${right} of ${checked} right; call ${current} is asked, ${of - checked} to go.`;
   if (stage === SHOWN) return `${right} of ${of} right, ${atFirst} at the first try. Each answer and its reason stand below the call.`;
-  if (wrong.length > 0) return `${right} of ${of} right. Change what is marked ✗: ${wrong.join(", ")}.`;
+  if (wrong.length > 0) return `${right} of ${of} right${given > 0 ? `, ${given} shown` : ""}. Change what is marked ✗: ${wrong.join(", ")}.`;
   return missing.length > 0 ? `${of - missing.length} of ${of} answered; open: ${missing.join(", ")}.` : `All ${of} answered.`;
 }
 

@@ -2,6 +2,7 @@
 import { drawBits } from "./bits.mjs";
 import { callOf, drawCall, drawLine, drawReason, drawRows } from "./report.mjs";
 import { element } from "../../page/source/element.mjs";
+import { meaningOf } from "../../page/source/refusals.mjs";
 
 /** The calls of a text of `why` with their reasons, `{ call, reason }`, and behind them the lines that sum up. */
 function reasonsOf(text) {
@@ -21,7 +22,7 @@ export const reasonsByCall = (text) => new Map(reasonsOf(text).reasons
   .map(({ call, reason }) => [call.number, reason.join("\n")]));
 
 function drawRefused({ call, reason }, go, wordBits) {
-  return element("div", { class: "reasoned" }, drawCall(call, go), drawReason(reason.join("\n")), drawBits(reason.join("\n"), wordBits));
+  return element("div", { class: "reasoned" }, drawCall(call, go), element("p", { class: "meaning dim" }, meaningOf(call.reply)), drawReason(reason.join("\n")), drawBits(reason.join("\n"), wordBits));
 }
 
 /** Draws a text of `why` into an element; `go` is told the number of a call that is chosen, and a word has `wordBits`. */

@@ -29,6 +29,7 @@ import first_minute  # noqa: E402
 import gives_nothing_away  # noqa: E402
 import hearing  # noqa: E402
 import held  # noqa: E402
+import helped  # noqa: E402
 import hostile_texts  # noqa: E402
 import lectures  # noqa: E402
 import nothing_lost  # noqa: E402
@@ -680,7 +681,7 @@ def main():
             test.open()
         same_answers(test, setups)
         marks(test, setups)
-        for check in (same_with_options, typing, *first_minute.CHECKS, *nothing_lost.CHECKS, *gives_nothing_away.CHECKS, *sheets.CHECKS, *teacher.CHECKS,
+        for check in (same_with_options, typing, *first_minute.CHECKS, *nothing_lost.CHECKS, *gives_nothing_away.CHECKS, *helped.CHECKS, *sheets.CHECKS, *teacher.CHECKS,
                       *hearing.CHECKS, *lectures.CHECKS, *drawn.CHECKS, *held.CHECKS, files, tabs, new_tabs, reading, trapped, nothing_leaves):
             check(test, stored)
         if not is_short:

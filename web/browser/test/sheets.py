@@ -82,6 +82,9 @@ def give(test, number, answer):
         else:
             test.browser.insert(value)
         test.browser.press("Tab")
+    # Behind the fields there is the way to the rule.
+    test.wanted(test.browser.value("document.activeElement.textContent") == "rule", f"call {number}: no Tab leads to its rule")
+    test.browser.press("Tab")
 
 
 def press_button(test, words):
@@ -298,6 +301,7 @@ def leaves_sheet(test, _):
     focus_first(test)
     give(test, 1, "done")
     browser.value("[...document.querySelectorAll('.marking button')].find((it) => it.textContent === 'the set-up itself').click()")
+    browser.value("[...document.querySelectorAll('dialog[open] button')].at(-1).click()")
     test.settle()
     test.wanted("expected 0 of 11" in test.text("panel-report"), "the set-up of an exercise is not run")
     test.click("#notice button")

@@ -1,25 +1,10 @@
-// A call as a sentence, and the meaning of its reply's number. The slots in it are found by the page's own lookups.
+// A call as a sentence. The slots in it are found by the page's own lookups.
 import { code, counted, dim } from "./element.mjs";
 import { guardInWords } from "./bit_boxes.mjs";
 import { KINDS_BY_NUMBER, capabilityName, kindWord, nameOfWord, slotName, threadName } from "./names.mjs";
 
 const RIGHTS = "wrgp";
 const MOST_MEMORY_BITS = 20;
-
-/** What the refusals mean, in short; docs/errors.md has them in full. */
-const REFUSALS = {
-  1: "invalid argument", 2: "no capability there, or a right is missing", 3: "illegal operation", 4: "out of range",
-  "6/1": "failed lookup: it starts at no CNode", "6/2": "failed lookup: missing capability",
-  "6/3": "failed lookup: depth mismatch", "6/4": "failed lookup: guard mismatch", 8: "the slot is full: delete first",
-  9: "the untyped has children: revoke first", 10: "not enough memory", 100: "no live thread at this address",
-  101: "the thread is not ready",
-};
-
-/** What a reply means where it is a refusal, or an empty text. */
-export function meaningOf(reply) {
-  const refusal = /^refused (\S+)$/.exec(reply);
-  return refusal ? REFUSALS[refusal[1]] ?? "" : "";
-}
 
 /** The guard that a guard word sets: its size stands in the low bits, its value above them. */
 function guardOf(word, machine) {

@@ -2,7 +2,8 @@
 import { code, counted, dim, element } from "./element.mjs";
 import { capabilityName, kindMark, kindWord, messageName, nameOfObject, signOf, slotName, threadName } from "./names.mjs";
 import { holdsTheSame, isSummedUp } from "./changes.mjs";
-import { meaningOf, sentenceOf } from "./sentence.mjs";
+import { meaningOf } from "./refusals.mjs";
+import { sentenceOf } from "./sentence.mjs";
 import { sumsOf } from "./sums.mjs";
 import { drawWaysOfWords } from "./ways.mjs";
 

@@ -3,7 +3,7 @@
 import { KINDS_BY_NUMBER, kindWord, namesOfWord } from "./names.mjs";
 import { Places } from "./places.mjs";
 import { Run } from "./state.mjs";
-import { meaningOf } from "./sentence.mjs";
+import { meaningOf } from "./refusals.mjs";
 import { namedSlots } from "./lookup.mjs";
 
 const isOfNode = ({ line }) => line.capability?.kind === "cnode";
