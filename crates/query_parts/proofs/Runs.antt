@@ -7,8 +7,9 @@ use Rattle.cap_core.specs.declared.refusal.Refusal.{Refusal}
 use Rattle.cap_core.specs.declared.capability.Cap.TheVariants.{Null}
 use Rattle.cap_core.specs.declared.message.Message.{Message}
 use Rattle.cap_core.specs.Rights.{write_bit, read_bit}
+use Rattle.ipc_core.specs.Records.{SendRecord, ReceiveRecord}
 use Rattle.kernel_forest.specs.Entries.{cap_at}
-use Rattle.kernel_forest.proofs.Trees.Forests.{each-append}
+use Rattle.kernel_forest.proofs.Trees.Forests.{each-append, each-weaker}
 use Rattle.kernel_abstract.specs.declared.call.Call.{Call}
 use Rattle.kernel_abstract.specs.declared.call.Reply.{Reply}
 use Rattle.kernel_abstract.specs.declared.invocation.Service.{Service}
@@ -25,7 +26,7 @@ use Rattle.kernel_abstract.proofs.Reached.Simulation.{reached_is}
 use Rattle.kernel_abstract.proofs.Reached.Runs.{reached_after}
 use Rattle.query_parts.specs.Parts.{Parts, IsWithin, IsClosed, IsSpared}
 use Rattle.query_parts.proofs.Spared.{spared-delete, spared-revoke, spared-derived, spared-moved, spared-objects, spared-space}
-use Rattle.query_parts.specs.Laws.{StaysClosed, LeavesOthers, TakesOnlyNear, AreClosed, IsOfSomePart, IsAllowed, OnlyPasses, MayUse, StayClosed, IsSentWithin, IsReceivedWithin, SendWithin, ReceiveWithin}
+use Rattle.query_parts.specs.Laws.{StaysClosed, LeavesOthers, TakesOnlyNear, AreClosed, IsOfSomePart, IsAllowed, OnlyPasses, MayUse, StayClosed, IsSentWithin, IsReceivedWithin, IsSentByPart, IsReceivedByPart, SendWithin, ReceiveWithin, SendByParts, ReceiveByParts}
 use Rattle.query_parts.proofs.Passed.{IsServed, StaysIn, op_stays}
 use Rattle.query_parts.proofs.Messages.{IsMessage, MayBeMessage, call_passes}
 use Rattle.query_parts.proofs.Changes.{IsChange, change_closed, change_untouched, unchanged, change-clear, change-revoke, change-with_derived, change-with_moved, change-with_space, change-with_objects}
@@ -49,13 +50,22 @@ then_more P a b c h k = (
   (k.1.0 ∙ ap (λ l. l ++ k.0) h.1.0 ∙ append_assoc a h.0 k.0, each-append P h.0 k.0 h.1.1 k.1.1),
 )
 
+more-weaker : {X : Type 0} (P Q : X → Type 0) (a b : List X) → ((x : X) → P x → Q x) → More P a b → More Q a b
+more-weaker P Q a b weaker h = (h.0, (h.1.0, each-weaker P Q weaker h.0 h.1.1))
+
 module _ (p : ProfileName) (parts : Parts) where
+  sent_within : (s : SendRecord) → IsSentByPart p parts s → IsSentWithin p parts s
+  sent_within s (i, (own, may)) k at = subst (λ n. MayUse p parts write_bit n s.endpoint.base s.badge) (some_is i k (sym own ∙ at)) may
+
+  received_within : (a : ReceiveRecord) → IsReceivedByPart p parts a → IsReceivedWithin p parts a
+  received_within a (i, (own, (badge, may))) k at = (badge, subst (λ n. MayUse p parts read_bit n a.endpoint.base badge) (some_is i k (sym own ∙ at)) may)
+
   -- what a call of a thread of a part comes to
   record IsKept (i : ℕ) (A B : State) : Type 0 where
     change : IsChange p parts i A.derivations B.derivations
     spared : IsSpared p parts i A.derivations B.derivations
-    sends : More (IsSentWithin p parts) A.sends B.sends
-    receives : More (IsReceivedWithin p parts) A.receives B.receives
+    sends : More (IsSentByPart p parts) A.sends B.sends
+    receives : More (IsReceivedByPart p parts) A.receives B.receives
 
   kept_where : (i : ℕ) (A : State) (awaited : Bool) (accepted : Outcome) (reply : Reply) → IsKept i A accepted.state →
       IsKept i A A → IsKept i A (where_awaited A awaited accepted reply).state
@@ -68,8 +78,8 @@ module _ (p : ProfileName) (parts : Parts) where
     at_rest = record {
       change = unchanged p parts i A.derivations closed store.slots_distinct;
       spared = λ slot other. inl refl;
-      sends = no_more (IsSentWithin p parts) A.sends;
-      receives = no_more (IsReceivedWithin p parts) A.receives;
+      sends = no_more (IsSentByPart p parts) A.sends;
+      receives = no_more (IsReceivedByPart p parts) A.receives;
     }
 
     sent : (service : Service) (message : Message) → IsServed p parts i write_bit service →
@@ -77,8 +87,8 @@ module _ (p : ProfileName) (parts : Parts) where
     sent service message is = record {
       change = at_rest.change;
       spared = at_rest.spared;
-      sends = one_more (IsSentWithin p parts) A.sends (send_record A thread service message)
-          (λ k at. subst (λ n. MayUse p parts write_bit n service.endpoint service.badge) (some_is i k (sym own ∙ at)) (is.rights, (is.within, is.has)));
+      sends = one_more (IsSentByPart p parts) A.sends (send_record A thread service message)
+          (i, (own, (is.rights, (is.within, is.has))));
       receives = at_rest.receives;
     }
 
@@ -87,8 +97,8 @@ module _ (p : ProfileName) (parts : Parts) where
       change = at_rest.change;
       spared = at_rest.spared;
       sends = at_rest.sends;
-      receives = one_more (IsReceivedWithin p parts) A.receives (receive_record A thread service)
-          (λ k at. (service.badge, subst (λ n. MayUse p parts read_bit n service.endpoint service.badge) (some_is i k (sym own ∙ at)) (is.rights, (is.within, is.has))));
+      receives = one_more (IsReceivedByPart p parts) A.receives (receive_record A thread service)
+          (i, (own, (service.badge, (is.rights, (is.within, is.has)))));
     }
 
     performed_kept : (done : Invocation) → IsEdit p A.derivations done → StaysIn p parts i done → IsKept i A (performed p A thread done).state
@@ -228,7 +238,11 @@ module _ (p : ProfileName) (parts : Parts) where
   step_run : (A : State) (call : Call) → IsReached p A → AreClosed p parts A → IsAllowed parts call → IsRun A (step p A call).state
   step_run A call reached closed (inl (i, own)) =
       let kept = step_kept i A call reached (closed i) own in
-      record { closed = step_closed A call reached closed (i, own); sends = kept.sends; receives = kept.receives }
+      record {
+        closed = step_closed A call reached closed (i, own);
+        sends = more-weaker (IsSentByPart p parts) (IsSentWithin p parts) A.sends (step p A call).state.sends sent_within kept.sends;
+        receives = more-weaker (IsReceivedByPart p parts) (IsReceivedWithin p parts) A.receives (step p A call).state.receives received_within kept.receives;
+      }
   step_run A call reached closed (inr (outside, passes)) = step_outside A call closed outside passes
 
   pub step_allowed : (A : State) (call : Call) → IsReached p A → AreClosed p parts A → IsAllowed parts call → AreClosed p parts (step p A call).state
@@ -257,3 +271,28 @@ module _ (p : ProfileName) (parts : Parts) where
 
   pub receive_within : (A : State) (calls : List Call) → ReceiveWithin p parts A calls
   receive_within A calls reached closed of = (run_kept A calls reached closed of).receives
+
+  -- a run of parts' threads
+  record IsRunOfParts (A B : State) : Type 0 where
+    sends : More (IsSentByPart p parts) A.sends B.sends
+    receives : More (IsReceivedByPart p parts) A.receives B.receives
+
+  run_of_parts : (A : State) (calls : List Call) → IsReached p A → AreClosed p parts A → Each (IsOfSomePart parts) calls →
+      IsRunOfParts A (state_after p A calls)
+  unfolding state_after
+  run_of_parts A [] reached closed of =
+      record { sends = no_more (IsSentByPart p parts) A.sends; receives = no_more (IsReceivedByPart p parts) A.receives }
+  run_of_parts A (call ∷ calls) reached closed of =
+      let B : State = (step p A call).state in
+      let kept = step_kept of.0.0 A call reached (closed of.0.0) of.0.1 in
+      let rest = run_of_parts B calls (reached_after p A (call ∷ []) reached) (step_closed A call reached closed of.0) of.1 in
+      record {
+        sends = then_more (IsSentByPart p parts) A.sends B.sends (state_after p B calls).sends kept.sends rest.sends;
+        receives = then_more (IsReceivedByPart p parts) A.receives B.receives (state_after p B calls).receives kept.receives rest.receives;
+      }
+
+  pub send_by_parts : (A : State) (calls : List Call) → SendByParts p parts A calls
+  send_by_parts A calls reached closed of = (run_of_parts A calls reached closed of).sends
+
+  pub receive_by_parts : (A : State) (calls : List Call) → ReceiveByParts p parts A calls
+  receive_by_parts A calls reached closed of = (run_of_parts A calls reached closed of).receives

@@ -90,6 +90,15 @@ IsSentWithin p parts s = (i : ℕ) → parts.part_of s.thread.base ≡ Some i �
 abbrev pub IsReceivedWithin : ProfileName → Parts → ReceiveRecord → Type 0
 IsReceivedWithin p parts a = (i : ℕ) → parts.part_of a.thread.base ≡ Some i → (badge : Badge) × MayUse p parts read_bit i a.endpoint.base badge
 
+-- a send of a thread that lies in a part, and this part may send to the endpoint with this badge
+abbrev pub IsSentByPart : ProfileName → Parts → SendRecord → Type 0
+IsSentByPart p parts s = (i : ℕ) × ((parts.part_of s.thread.base ≡ Some i) × MayUse p parts write_bit i s.endpoint.base s.badge)
+
+-- a receive of a thread that lies in a part, and this part may receive on the endpoint
+abbrev pub IsReceivedByPart : ProfileName → Parts → ReceiveRecord → Type 0
+IsReceivedByPart p parts a =
+    (i : ℕ) × ((parts.part_of a.thread.base ≡ Some i) × ((badge : Badge) × MayUse p parts read_bit i a.endpoint.base badge))
+
 -- the sends, and the receives, that a state has beyond those of another
 abbrev pub SendsOnly : ProfileName → Parts → State → State → Type 0
 SendsOnly p parts A B =
@@ -108,6 +117,18 @@ SendWithin p parts A calls =
 abbrev pub ReceiveWithin : ProfileName → Parts → State → List Call → Type 0
 ReceiveWithin p parts A calls =
     IsReached p A → AreClosed p parts A → Each (IsAllowed parts) calls → ReceivesOnly p parts A (state_after p A calls)
+
+-- where the threads of closed parts make all calls, each new send is of a thread of some part, which may send so
+abbrev pub SendByParts : ProfileName → Parts → State → List Call → Type 0
+SendByParts p parts A calls =
+    IsReached p A → AreClosed p parts A → Each (IsOfSomePart parts) calls →
+    (more : List SendRecord) × (((state_after p A calls).sends ≡ A.sends ++ more) × Each (IsSentByPart p parts) more)
+
+-- and each new receive is of a thread of some part, which may receive so
+abbrev pub ReceiveByParts : ProfileName → Parts → State → List Call → Type 0
+ReceiveByParts p parts A calls =
+    IsReached p A → AreClosed p parts A → Each (IsOfSomePart parts) calls →
+    (more : List ReceiveRecord) × (((state_after p A calls).receives ≡ A.receives ++ more) × Each (IsReceivedByPart p parts) more)
 
 -- each address of a live thread's control block is a word
 abbrev pub LiveThreadsAreAddressed : ProfileName → ℕ → Shown → Type 0

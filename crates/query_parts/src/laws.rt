@@ -9,7 +9,7 @@ ghost use Rattle.kernel_abstract.specs.Shown.{Shown};
 ghost use Rattle.query_parts.specs.declared.listed.PartMemory.{PartMemory};
 ghost use Rattle.query_parts.specs.declared.listed.PartUse.{PartUse};
 ghost use Rattle.query_parts.specs.Parts.{Parts};
-ghost use Rattle.query_parts.specs.Laws.{StaysClosed, LeavesOthers, TakesOnlyNear, NamesItsOwn, StayClosed, SendWithin, ReceiveWithin, LiveThreadsAreAddressed, JoinedAreClosed};
+ghost use Rattle.query_parts.specs.Laws.{StaysClosed, LeavesOthers, TakesOnlyNear, NamesItsOwn, StayClosed, SendWithin, ReceiveWithin, SendByParts, ReceiveByParts, LiveThreadsAreAddressed, JoinedAreClosed};
 ghost use Rattle.query_parts.specs.Least.{LieInEachOther};
 ghost use Rattle.query_parts.specs.Below.{TakesNothing, TakesNothingOutside, StayNoneBelow, StayOwnBelow};
 ghost use Rattle.query_parts.specs.Delivered.{DeliverWithin, TellWithin};
@@ -25,11 +25,14 @@ pub fn calls_keep_within_their_part()
 {}
 
 /// Whatever calls the threads of closed parts make, in whatever order, every part stays closed. What they send they may
-/// send, by that endpoint and with that badge, and what they receive they may receive.
+/// send, by that endpoint and with that badge, and what they receive they may receive. Where all calls are of threads that lie
+/// in the parts, each new send and each new receive is of such a thread.
 pub fn closed_parts_stay_closed()
     ensures closed { (p : ProfileName) (parts : Parts) (A : State) (calls : List Call) → StayClosed p parts A calls }
     ensures sends { (p : ProfileName) (parts : Parts) (A : State) (calls : List Call) → SendWithin p parts A calls }
     ensures receives { (p : ProfileName) (parts : Parts) (A : State) (calls : List Call) → ReceiveWithin p parts A calls }
+    ensures sends_by_parts { (p : ProfileName) (parts : Parts) (A : State) (calls : List Call) → SendByParts p parts A calls }
+    ensures receives_by_parts { (p : ProfileName) (parts : Parts) (A : State) (calls : List Call) → ReceiveByParts p parts A calls }
 {}
 
 /// Whatever calls the threads of closed parts make, each delivery that a reply tells of is of a send that the part of its
