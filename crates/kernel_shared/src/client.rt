@@ -303,6 +303,16 @@ impl<N: Naming, T: HistoryCopy<N>> Client<N, T> {
     }
 }
 
+/// [`Client::look`], as a function.
+pub fn look<N: Naming, T: HistoryCopy<N>>(client: &mut Client<N, T>, query: Query) -> Option<Answer>
+    ensures some { IfSome result (λ a. IsAnswer N.profile N.opening client.new.front query a) }
+    ensures later { StartsWith client.new.front client.old.front }
+    ensures none { IfNone result (client.new ≡ client.old) }
+    ensures same { (client.new.id ≡ client.old.id) × (client.new.done ≡ client.old.done) × (client.new.stray ≡ client.old.stray) }
+{
+    client.look(query)
+}
+
 /// The reply of the entry at a place, where that is a request's.
 fn found<N: Naming, T: HistoryCopy<N>>(book: &T, place: u32, request: Request) -> Option<Reply>
     ensures stands { IfSome result (λ r. slice_get (T.state book.now) place ≡ Some (client_entry request.client request.number request.call r)) }

@@ -25,11 +25,13 @@ pub mod start;
 pub mod writer_state;
 
 pub use book::{Book, BookFault};
+pub use client::look;
 pub use driving::{DriveFault, Gate, drive};
 pub use entry::Entry;
 pub use naming::Naming;
 pub use query::{Answer, Query};
 pub use settling::{SettleFault, settle};
+pub use shared::give_up;
 pub use start::StartFault;
 
 /// A kernel that client threads share.

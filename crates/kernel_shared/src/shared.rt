@@ -136,3 +136,8 @@ impl<N: Naming, T: HistoryCopy<N>> Shared<N, T> {
         }
     }
 }
+
+/// [`Shared::give_up`], as a function.
+pub fn give_up<N: Naming, T: HistoryCopy<N>, R: Wait>(rt: &R, shared: Shared<N, T>) {
+    shared.give_up(rt)
+}
