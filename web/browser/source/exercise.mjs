@@ -11,6 +11,7 @@ import { drawPrinted } from "./printed.mjs";
 import { exerciseOf, withExpectations } from "./exercise_text.mjs";
 import { keepAt, keptAt } from "./kept.mjs";
 import { reasonsByCall } from "./why.mjs";
+import { traceBefore } from "./trace_text.mjs";
 import { wordBitsOf } from "./places.mjs";
 
 /** What is kept of all exercises, by the texts that ask. */
@@ -38,14 +39,6 @@ function howFar(reason) {
   if (reason === undefined) return "No check of the kernel refuses it.";
   const lines = reason.split("\n").slice(0, -1);
   return lines.length > 0 ? lines.join("\n") : "A check refuses it, and no lookup of several steps comes before that check.";
-}
-
-/** A trace that ends before a call. */
-function traceBefore(trace, number) {
-  const lines = trace.split("\n");
-  const end = lines.findIndex((line) => line.startsWith(`${number} `));
-  const [head, ...rest] = lines.slice(0, end < 0 ? lines.length - 2 : end);
-  return `${[head.replace(/calls \d+$/u, `calls ${number - 1}`), ...rest, "expected 0 of 0"].join("\n")}\n`;
 }
 
 /** The threads and endpoints of a trace, with their names, to choose from; of a kind that later calls make there are none. */

@@ -1,4 +1,5 @@
 // The page: a set-up in an editor, and what the program says of it in tabs. It brings the other modules together.
+import { Branch } from "./branch.mjs";
 import { Editor } from "./editor.mjs";
 import { Examples } from "./examples.mjs";
 import { Exercise } from "./exercise.mjs";
@@ -94,7 +95,9 @@ class Page {
       asked: (...mark) => this.hear(...mark) });
     this.options = new Options(byId("options"), () => this.given());
     this.steps = new Steps({ viewer: this.markup(data.viewer), title: "The run, call by call",
-      listen: (frame) => { this.keys.listenInFrame(frame); this.drawProjected(); }, shown: (number) => this.showCall(number) });
+      listen: (frame) => { this.keys.listenInFrame(frame); this.drawProjected(); },
+      shown: (number) => this.showCall(number), asked: (told) => this.askWhatIf(told) });
+    this.branch = new Branch(this);
     this.visits = new Visits(this, (setup, chosen) => this.openVisited(setup, chosen));
     const places = { list: byId("examples"), dialog: byId("all"), field: byId("search"), found: byId("found") };
     this.examples = new Examples(places, data.topics, { open: (...place) => this.visits.go(() => this.openExample(...place)),
@@ -497,13 +500,20 @@ class Page {
     return "";
   }
 
-  /** What the program answers to other words on what is in the editor. */
-  async answerAlso(words) {
+  /** A call that the set-up does not have is asked for in the steps, or what is to come of those that were. */
+  askWhatIf({ asked, pairs, number }) {
+    if (asked === "keep") this.branch.keep();
+    else if (asked === "take back") this.branch.takeBack();
+    else if (this.isAtRest) this.branch.ask(pairs, number);
+  }
+
+  /** What the program answers to other words on what is in the editor, or on another text. */
+  async answerAlso(words, text = this.editor.text) {
     this.round += 1;
     const { round } = this;
     const late = setTimeout(() => this.tell("running…"), MILLISECONDS_UNTOLD);
     byId("stop").disabled = false;
-    const answer = await this.answerTo(this.tab, new TextEncoder().encode(this.editor.text), words);
+    const answer = await this.answerTo(this.tab, new TextEncoder().encode(text), words);
     clearTimeout(late);
     if (round !== this.round) return STOPPED;
     byId("stop").disabled = true;
@@ -535,7 +545,12 @@ class Page {
 
   /** Marks the lines of the call that the steps show, and brings them into sight. */
   showCall(number) {
-    this.shownCall = number;
+    this.branch.shown(number);
+    this.shownCall = this.branch.isOpen ? this.branch.at : number;
+    if (this.branch.isOpen) {
+      this.editor.unpoint();
+      return;
+    }
     const place = placesOf(this.editor.text, number).call[number - 1];
     if (place && this.tab === STEPS) this.editor.point(place.line, lastLineOf(place));
     else this.editor.unpoint();

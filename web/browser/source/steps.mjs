@@ -2,8 +2,9 @@
 import { element } from "../../page/source/element.mjs";
 
 export class Steps {
-  /** `listen` is told the frame when its page is there, and `shown` the number of each call that it shows. */
-  constructor({ viewer, title, listen, shown }) {
+  /** `listen` is told the frame when its page is there, and `shown` the number of each call that it shows. Where there is `asked`, a call
+      can be asked for there: it is told what is to be done with it. */
+  constructor({ viewer, title, listen, shown, asked }) {
     this.frame = element("iframe", { title });
     this.told = null;
     this.loaded = null;
@@ -14,8 +15,11 @@ export class Steps {
     });
     this.frame.srcdoc = viewer;
     window.addEventListener("message", ({ source, data }) => {
-      if (source === this.frame.contentWindow && Number.isInteger(data.shown)) shown(data.shown);
+      if (source !== this.frame.contentWindow) return;
+      if (Number.isInteger(data.shown)) shown(data.shown);
+      else if (data.asked) asked?.(data);
     });
+    this.canAsk = asked !== undefined;
   }
 
   /** Whether the page of the trace is there. Out of the document the frame has none; put back, it loads anew and is told then. */
@@ -25,7 +29,13 @@ export class Steps {
 
   /** Shows a trace at a call, or at the call that was shown before where none is given. */
   show(trace, name, number) {
-    this.told = { trace, name, number };
+    this.told = { trace, name, number, canAsk: this.canAsk };
+    this.tell(this.told);
+  }
+
+  /** Shows the same trace again, at a call. */
+  showAgain(number) {
+    this.told = { ...this.told, number };
     this.tell(this.told);
   }
 

@@ -62,6 +62,7 @@ function showHeld(page, panel, text) {
 
 /** The page of a trace, in a frame; another set-up is shown from its boot on, or from the call that its address names. */
 function showSteps(page, panel, text) {
+  page.branch.close();
   page.steps.show(text, page.title, page.firstCall);
   page.firstCall = undefined;
   if (page.steps.frame.parentElement !== panel) panel.replaceChildren(page.steps.frame);

@@ -35,6 +35,7 @@ import lectures  # noqa: E402
 import nothing_lost  # noqa: E402
 import sheets  # noqa: E402
 import teacher  # noqa: E402
+import what_if  # noqa: E402
 from tester import SITE, Tester, as_answer, choose_pair, native, opened_at_last_call, option, pick, picked, type_option  # noqa: E402
 
 SUBCOMMANDS = (["check"], ["marks"], ["trace"], ["migrate"], ["why"], ["audit"], ["audit", "--ever"], ["audit", "--never", "2048,4096"], ["explore"],
@@ -682,7 +683,7 @@ def main():
         same_answers(test, setups)
         marks(test, setups)
         for check in (same_with_options, typing, *first_minute.CHECKS, *nothing_lost.CHECKS, *gives_nothing_away.CHECKS, *helped.CHECKS, *sheets.CHECKS, *teacher.CHECKS,
-                      *hearing.CHECKS, *lectures.CHECKS, *drawn.CHECKS, *held.CHECKS, files, tabs, new_tabs, reading, trapped, nothing_leaves):
+                      *hearing.CHECKS, *lectures.CHECKS, *drawn.CHECKS, *what_if.CHECKS, *held.CHECKS, files, tabs, new_tabs, reading, trapped, nothing_leaves):
             check(test, stored)
         if not is_short:
             hostile(test, setups, stored)

@@ -25,11 +25,13 @@ import helped  # noqa: E402
 import lectures  # noqa: E402
 import nothing_lost  # noqa: E402
 import sheets  # noqa: E402
+import what_if  # noqa: E402
 from tester import Tester, option  # noqa: E402
 
 # Those that take a browser of their own, or most of a minute, are left to browser_test.py.
 CHECKS = (*first_minute.CHECKS, *(it for it in nothing_lost.CHECKS if it is not nothing_lost.with_scroll_bars), *gives_nothing_away.CHECKS,
-          *helped.CHECKS, sheets.in_turn, sheets.low_window, sheets.printed_state, lectures.embedded_steps, *drawn.CHECKS, browser_test.nothing_leaves)
+          *helped.CHECKS, sheets.in_turn, sheets.low_window, sheets.printed_state, lectures.embedded_steps, *drawn.CHECKS,
+          *what_if.CHECKS, browser_test.nothing_leaves)
 
 
 def needs():

@@ -45,7 +45,8 @@ function drawCall(trace, step, isTold, current) {
   const { number, changes } = step;
   const count = trace.steps.length;
   const reply = isTold ? step.reply : "";
-  const look = `call${current ? " current" : ""}${reply.startsWith("refused") ? " refused" : ""}`;
+  const isBranch = trace.branch !== undefined && number > trace.branch;
+  const look = `call${current ? " current" : ""}${reply.startsWith("refused") ? " refused" : ""}${isBranch ? " branch" : ""}`;
   const attributes = { class: look, role: "option", id: `call-${number}`, "aria-selected": String(current),
     "aria-setsize": count, "aria-posinset": number + 1, "data-number": number };
   const row = element("div", attributes,

@@ -17,16 +17,22 @@ export function listenToFiles(pickers, open) {
   });
 }
 
-/** Tells `open` the text, the name and the number of the call that a page tells which has this one in a frame, and `show` a
-    number that it tells alone. */
-export function listenToParent(open, show) {
+/** Tells `open` the trace, the name and the number of the call that a page tells which has this one in a frame, `show` a number that it
+    tells alone, and `tell` what is wrong with a call that was asked for. */
+export function listenToParent(open, show, tell) {
   if (window.parent === window) return;
   document.body.dataset.framed = "";
   window.addEventListener("message", ({ source, data }) => {
     if (source !== window.parent) return;
-    if (data.trace === undefined) show(data.number);
-    else open(data.trace, data.number, data.name);
+    if (data.fault !== undefined) tell(data.fault);
+    else if (data.trace === undefined) show(data.number);
+    else open(data);
   });
+}
+
+/** Asks the page around this one for what it does with calls that the run does not have. */
+export function askParent(asked, told = {}) {
+  window.parent.postMessage({ asked, ...told }, "*");
 }
 
 /** Saves a text as a file. */

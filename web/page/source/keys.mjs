@@ -23,7 +23,7 @@ function actionOf(event, page, { list, main, find, keys }) {
   if (key === " ") return inList || target === main ? () => page.player.toggle() : null;
   const actions = {
     n: () => page.showNext(isMissed), r: () => page.showNext(isRevoke), "/": () => find.focus(),
-    "?": () => keys.showModal(), f: () => page.goRound(), h: () => page.toggleHiding(),
+    "?": () => keys.showModal(), f: () => page.goRound(), h: () => page.toggleHiding(), i: page.canAsk ? () => page.whatIf.toggle() : null,
     Escape: page.alone ? () => page.showAlone() : null,
   };
   return actions[key] ?? null;

@@ -9,13 +9,14 @@ import { drawMemory } from "./memory.mjs";
 import { drawReachTable, drawWays } from "./reach_table.mjs";
 import { drawSpaces } from "./spaces.mjs";
 import { drawThreadsAndEndpoints } from "./threads.mjs";
-import { listenToFiles, listenToParent, saveFile, tellParent } from "./files.mjs";
+import { askParent, listenToFiles, listenToParent, saveFile, tellParent } from "./files.mjs";
 import { listenToKeys } from "./keys.mjs";
 import { readAudits } from "./audits.mjs";
 import { element } from "./element.mjs";
 import { pictureOf } from "./picture.mjs";
 import { readTrace } from "./trace.mjs";
 import { redraw } from "./redraw.mjs";
+import { WhatIf } from "./what_if.mjs";
 import { wordsOfSteps } from "./words.mjs";
 
 const byId = (id) => document.getElementById(id);
@@ -48,6 +49,13 @@ class Page {
     this.number = 0;
     this.trace = { steps: [] };
     this.player = new Player(byId("play"), this);
+    this.whatIf = new WhatIf(byId("what-if"), { ask: (pairs) => askParent("call", { pairs, number: this.number }), keep: () => askParent("keep"),
+      takeBack: () => askParent("take back") });
+  }
+
+  /** Whether the page around this one runs calls that are asked for. */
+  get canAsk() {
+    return !byId("ask").hidden;
   }
 
   get last() {
@@ -60,7 +68,7 @@ class Page {
     try {
       const [trace, notice] = fitting(readTrace(text));
       if (trace.steps.length === 0) throw new Error(notice);
-      this.trace = { ...trace, told: wordsOfSteps(trace), audits: readAudits(audits) };
+      this.trace = { ...trace, told: wordsOfSteps(trace), audits: readAudits(audits), branch: this.branchFrom };
       this.views = new Views(this.trace);
       this.say(notice);
     } catch (error) {
@@ -73,6 +81,13 @@ class Page {
     byId("name").title = document.title;
     this.drawFrame();
     this.show(number);
+  }
+
+  /** Opens what the page around this one tells; calls may be asked for, and those behind `branch` were. */
+  openTold({ trace, number, name, branch, canAsk }) {
+    byId("ask").hidden = !canAsk;
+    this.branchFrom = branch;
+    this.open(trace, number ?? this.number, name);
   }
 
   /** Says what is wrong, or nothing. */
@@ -158,6 +173,7 @@ class Page {
     this.drawSpaces();
     this.drawLines();
     this.drawPosition(number);
+    this.whatIf.show(view);
     this.calls.show(this.trace, number, this.isHiding ? number - Number(view.isAsked) : this.last);
     tellParent(number);
   }
@@ -249,6 +265,17 @@ function listenToPointer() {
   });
 }
 
+/** While a call is asked for, a slot or a thread that is pressed in a drawing is taken into it. */
+function listenToPresses(page) {
+  byId("main").addEventListener("click", ({ target }) => {
+    if (!page.whatIf.isOpen || target.closest("button, select, input, summary, #what-if")) return;
+    const [slot, thread] = [target.closest("[data-slot]")?.dataset.slot, target.closest("[data-thread]")?.dataset.thread];
+    if (slot !== undefined) page.whatIf.press(Number(slot));
+    else if (thread !== undefined) page.whatIf.pressThread(Number(thread));
+  });
+  byId("ask").addEventListener("click", () => page.whatIf.toggle());
+}
+
 function listenToControls(page) {
   byId("first").addEventListener("click", () => page.show(0));
   byId("back").addEventListener("click", () => page.show(page.number - 1));
@@ -269,7 +296,8 @@ function listenToControls(page) {
   byId("close-keys").addEventListener("click", () => byId("keys").close());
   listenToKeys(page, { list: byId("list"), main: byId("main"), find: byId("find"), keys: byId("keys") });
   listenToFiles([byId("open"), byId("open-first")], (text, name) => page.open(text, 0, name));
-  listenToParent((text, number, name) => page.open(text, number ?? page.number, name), (number) => page.show(number));
+  listenToParent((told) => page.openTold(told), (number) => page.show(number), (fault) => page.whatIf.tell(fault));
+  listenToPresses(page);
   listenToPointer();
 }
 

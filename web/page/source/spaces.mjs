@@ -43,16 +43,16 @@ function drawCell(view, node, row, words) {
   const number = (row.address - node.base) >> view.trace.machine.slotBits;
   const look = ["cell", mark, ringOf(view, row.address).trim(), !gone && word === undefined ? "far" : "",
     word === String(number) ? "own" : ""];
-  return element("li", { class: look.filter(Boolean).join(" "), title: `slot at address ${row.address}` },
+  return element("li", { class: look.filter(Boolean).join(" "), title: `slot at address ${row.address}`, "data-slot": row.address },
     signOf(mark), element("b", {}, String(number)), nameOfSlot(view, row.address), " ", drawWord(word, number), element("div", {}, content));
 }
 
 /** Cells for empty slots from one number up to another: one for each in a small CNode, else one for all. */
-function drawGap(node, from, to) {
-  const empty = (text) => element("li", { class: "cell empty" }, text);
+function drawGap(view, node, from, to) {
+  const empty = (number, text) => element("li", { class: "cell empty", "data-slot": node.base + (number << view.trace.machine.slotBits) }, text);
   if (from >= to) return [];
-  if (node.slots > FEW_SLOTS) return [empty(`${from}${to - from > 1 ? `–${to - 1}` : ""} empty`)];
-  return Array.from({ length: to - from }, (_, step) => empty(String(from + step)));
+  if (node.slots > FEW_SLOTS) return [empty(from, `${from}${to - from > 1 ? `–${to - 1}` : ""} empty`)];
+  return Array.from({ length: to - from }, (_, step) => empty(from + step, String(from + step)));
 }
 
 /** The cells of a CNode in order. */
@@ -67,7 +67,7 @@ class Cells {
     const changed = markOf(this.view.changes, row) !== "" || this.view.isNamed(row.address);
     const hide = many && this.shown > (changed ? MOST_CHANGED : MOST_UNCHANGED);
     if (!hide) this.unhide();
-    if (!hide || this.hidden.length === 0) this.cells.push(drawGap(this.node, this.next, number));
+    if (!hide || this.hidden.length === 0) this.cells.push(drawGap(this.view, this.node, this.next, number));
     if (hide) this.hidden.push(row);
     else this.cells.push(drawCell(this.view, this.node, row, this.words));
     this.shown += hide ? 0 : 1;
@@ -104,7 +104,7 @@ function drawNode(view, node, words) {
     node.ended ? [element("s", {}, name), " ended"] : name,
     node.base === 0 ? " the root CNode" : nameOfObject(view, node), " ", dim(`${node.slots} slots`), " ",
     lossOf(view, node).map((text) => [element("span", { class: "tag missed" }, text), " "]));
-  return [title, element("ul", { class: "cells" }, cells.cells, drawGap(node, cells.next, node.slots))];
+  return [title, element("ul", { class: "cells" }, cells.cells, drawGap(view, node, cells.next, node.slots))];
 }
 
 function drawRoot(view, thread, chosen) {

@@ -154,7 +154,8 @@ function expectationMark(expectation) {
 /** The sentence, the reply, and why the call is refused: what a screen reader says at each step. */
 export function drawSentence(view) {
   const { step, changes } = view;
-  const sentence = element("p", { id: "sentence" }, sentenceOf(view));
+  const isBranch = view.trace.branch !== undefined && step.number > view.trace.branch;
+  const sentence = element("p", { id: "sentence" }, isBranch ? [element("span", { class: "tag branch" }, "what if"), " "] : null, sentenceOf(view));
   if (step.number === 0) return [sentence];
   if (view.isAsked) return [sentence, element("p", {}, dim("What does it change? The same key, or button, shows it."))];
   const look = step.reply.startsWith("refused") ? "reply refused" : "reply";

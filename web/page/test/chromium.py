@@ -195,6 +195,11 @@ class Chromium:
             for stroke in ("mousePressed", "mouseReleased"):
                 self.call("Input.dispatchMouseEvent", type=stroke, x=left, y=top, button="left", clickCount=count)
 
+    def tap_at(self, left, top):
+        """Taps with a finger at a place of the window."""
+        self.call("Input.dispatchTouchEvent", type="touchStart", touchPoints=[{"x": left, "y": top}])
+        self.call("Input.dispatchTouchEvent", type="touchEnd", touchPoints=[])
+
     def close(self):
         self.session = None
         try:
