@@ -13,11 +13,13 @@ use Rattle.command_check.specs.declared.run.CountedText.{CountedText}
 use Rattle.command_core.specs.Devices.{Gave, GaveAsMany, Took, TookFront}
 use Rattle.command_core.specs.Statuses.{run_status, verdict_status}
 use Rattle.command_core.specs.declared.fault.RunFault.{RunFault}
+use Rattle.command_core.specs.declared.fault.Verdict.{Verdict}
+use Rattle.command_core.specs.declared.fault.Verdict.TheVariants.{Absent}
 use Rattle.command_core.specs.declared.fault.RunFault.TheVariants.{Reading, Writing, Memory}
 use Rattle.command_core.specs.Limits.{input_limit}
 use Rattle.command_core.specs.declared.sink.Sink.{Ghosts as SinkGhosts}
 use Rattle.command_core.specs.declared.source.Source.{Ghosts as SourceGhosts}
-use Rattle.command_files.specs.Strict.{checked}
+use Rattle.command_files.specs.Strict.{check_verdict}
 use Rattle.command_files.specs.declared.tally.Tally.{Tally}
 
 -- ---- the contents of a file: its bytes, or none where it cannot be read
@@ -87,22 +89,22 @@ lines_of line (name ∷ names) (contents ∷ files) = line name contents ++ line
 
 -- ---- the summary
 
--- the exit status of `check` for a file alone, strict or not: a read fails, or it is that of the verdict
-abbrev pub status_alone : Bool → Option (List ℕ) → ℕ
-status_alone strict None = run_status (Err Reading)
-status_alone strict (Some bytes) = verdict_status (checked strict bytes).1
+-- the exit status of a file alone: a read fails, or it is that of the verdict on its bytes
+abbrev pub status_alone : (List ℕ → Verdict) → Option (List ℕ) → ℕ
+status_alone verdict None = run_status (Err Reading)
+status_alone verdict (Some bytes) = verdict_status (verdict bytes)
 
 -- how many of the files have that exit status
-abbrev pub count_with : Bool → ℕ → List (Option (List ℕ)) → ℕ
-count_with strict status files = count_by (λ contents. status_alone strict contents == status) files
+abbrev pub count_with : (List ℕ → Verdict) → ℕ → List (Option (List ℕ)) → ℕ
+count_with verdict status files = count_by (λ contents. status_alone verdict contents == status) files
 
 -- how many files have each exit status
-abbrev pub tally_of : Bool → List (Option (List ℕ)) → Tally
-tally_of strict files = record {
-  met = count_with strict 0 files;
-  unmet = count_with strict 1 files;
-  refused = count_with strict 2 files;
-  unread = count_with strict 3 files;
+abbrev pub tally_of : (List ℕ → Verdict) → List (Option (List ℕ)) → Tally
+tally_of verdict files = record {
+  met = count_with verdict 0 files;
+  unmet = count_with verdict 1 files;
+  refused = count_with verdict 2 files;
+  unread = count_with verdict 3 files;
 }
 
 abbrev pub tally_line : ℕ → Tally → List ℕ
@@ -111,12 +113,12 @@ tally_line files tally =
     ++ (codes " refused " ++ (decimal tally.refused ++ (codes " unread " ++ decimal tally.unread)))))))))
 
 -- a text of several files: what comes before, the line of each file, and what comes after, by how many there are and their tally
-abbrev pub told_text : Bool → List ℕ → (List ℕ → Option (List ℕ) → List ℕ) → (ℕ → Tally → List ℕ) → List (List ℕ) → List (Option (List ℕ)) → List ℕ
-told_text strict head line last names files = (head ++ lines_of line names files) ++ last (length names) (tally_of strict files)
+abbrev pub told_text : (List ℕ → Verdict) → List ℕ → (List ℕ → Option (List ℕ) → List ℕ) → (ℕ → Tally → List ℕ) → List (List ℕ) → List (Option (List ℕ)) → List ℕ
+told_text verdict head line last names files = (head ++ lines_of line names files) ++ last (length names) (tally_of verdict files)
 
 -- what `check` writes: the line of each file, and the summary
 abbrev pub files_text : Bool → List (List ℕ) → List (Option (List ℕ)) → List ℕ
-files_text strict = told_text strict [] file_line tally_line
+files_text strict = told_text (check_verdict strict) [] file_line tally_line
 
 -- ---- the exit status
 
@@ -124,6 +126,10 @@ files_text strict = told_text strict [] file_line tally_line
 abbrev pub tally_status : Tally → ℕ
 tally_status tally =
     if nat_lt 0 tally.unread then 3 else if nat_lt 0 tally.refused then 2 else if nat_lt 0 tally.unmet then 1 else 0
+
+-- a verdict that is never that something is not there: its statuses are those of a tally
+abbrev pub IsNeverAbsent : (List ℕ → Verdict) → Type 0
+IsNeverAbsent verdict = (bytes : List ℕ) → verdict bytes ≡ Absent → ⊥
 
 -- the exit status after a run over several files
 abbrev pub files_status : Result Tally RunFault → ℕ
@@ -137,15 +143,15 @@ greatest (n ∷ rest) = max n (greatest rest)
 
 -- ---- a run over several files
 
--- what is answered, and what the sink took, where `text` is what is written, and `Is` says which contents a name has; a strict tally
--- counts a file with a call that is refused and has no expectation as one that is not met
-pub record IsToldOf {K : Type 0} (strict : Bool) (text : List (List ℕ) → List (Option (List ℕ)) → List ℕ) (Is : List ℕ → Option (List ℕ) → Type 0)
+-- what is answered, and what the sink took, where `verdict` is that on the bytes of a file, `text` what is written, and `Is` says which
+-- contents a name has
+pub record IsToldOf {K : Type 0} (verdict : List ℕ → Verdict) (text : List (List ℕ) → List (Option (List ℕ)) → List ℕ) (Is : List ℕ → Option (List ℕ) → Type 0)
     (to : SinkGhosts K) (names : List (List ℕ)) (sink_old sink_new : K) (result : Result Tally RunFault) : Type 0 where
   -- Ok: the sink took just the text for the contents of the files, and the tally is theirs
   pub ok : IfOk result (λ tally. (files : List (Option (List ℕ)))
       × Each Is names files
       × Took to.taken to.written sink_old sink_new (text names files)
-      × (tally ≡ tally_of strict files))
+      × (tally ≡ tally_of verdict files))
   -- Writing: a write failed; the sink took a beginning of the text
   pub writing : result ≡ Err Writing → to.failed sink_new ≡ true
   pub writing_front : result ≡ Err Writing → (files : List (Option (List ℕ)))
@@ -158,4 +164,4 @@ pub record IsToldOf {K : Type 0} (strict : Bool) (text : List (List ℕ) → Lis
 
 -- a run of `check` over several files, strict or not
 abbrev pub IsCheckOf : {K : Type 0} → Bool → (List ℕ → Option (List ℕ) → Type 0) → SinkGhosts K → List (List ℕ) → K → K → Result Tally RunFault → Type 0
-IsCheckOf strict = IsToldOf strict (files_text strict)
+IsCheckOf strict = IsToldOf (check_verdict strict) (files_text strict)

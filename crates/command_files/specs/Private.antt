@@ -1,21 +1,27 @@
 -- What is known of a file while its line is written. No public clause cites it.
-use Rattle.std.specs.Prelude.{◌≡◌, ◌+◌, ◌==◌, ℕ, Bool, true, cond, codes, List, ◌++◌, Option, Some, None}
+use Rattle.std.specs.Prelude.{◌≡◌, ⊤, ◌+◌, ◌==◌, ℕ, cond, codes, List, ◌++◌, Option, Some, None, option_map}
 use Rattle.std.specs.Fmt.{decimal}
-use Rattle.setup_format.specs.Setups.{setup_of_bytes}
 use Rattle.setup_report.specs.Report.{terminated}
 use Rattle.setup_report.specs.declared.calls.ExpectationCount.{ExpectationCount}
-use Rattle.command_check.specs.Notes.{unexpected_in}
-use Rattle.command_check.specs.Program.{verdict_in}
 use Rattle.command_check.specs.declared.run.CountedText.{CountedText}
 use Rattle.command_core.specs.Statuses.{verdict_status}
-use Rattle.command_files.specs.Files.{HasCountOf, IsFoundFile}
-use Rattle.command_files.specs.Strict.{strict_verdict}
+use Rattle.command_core.specs.declared.fault.Verdict.{Verdict}
+use Rattle.command_files.specs.declared.telling.FileAnswer.{FileAnswer}
 use Rattle.command_files.specs.declared.tally.Tally.{Tally}
 
--- what is made of the contents of a file, with their count, and, where it is strict, with the calls that count
-abbrev pub IsCountedFound : Bool → (List ℕ → CountedText → Type 0) → Option (List ℕ) → Option CountedText → Type 0
-IsCountedFound strict IsMade = IsFoundFile (λ bytes made. IsMade bytes made × HasCountOf (setup_of_bytes bytes) made.count
-    × (strict ≡ true → made.notes.refused.items ≡ unexpected_in (setup_of_bytes bytes)))
+-- what is made of the contents of a file, and the verdict on its bytes
+abbrev pub IsJudgedFound : (List ℕ → Verdict) → (List ℕ → CountedText → Type 0) → Option (List ℕ) → Option FileAnswer → Type 0
+IsJudgedFound verdict IsMade None None = ⊤
+IsJudgedFound verdict IsMade None (Some answer) = ⊥
+IsJudgedFound verdict IsMade (Some bytes) None = ⊥
+IsJudgedFound verdict IsMade (Some bytes) (Some answer) = IsMade bytes answer.told × (answer.verdict ≡ verdict bytes)
+
+-- what is told of a file, and the verdict, where it could be read
+abbrev pub told_in : Option FileAnswer → Option CountedText
+told_in = option_map (λ answer. answer.told)
+
+abbrev pub verdict_found : Option FileAnswer → Option Verdict
+verdict_found = option_map (λ answer. answer.verdict)
 
 abbrev pub count_text : ExpectationCount → List ℕ
 count_text count = terminated (codes "expected " ++ (decimal count.met ++ (codes " of " ++ decimal count.expected)))
@@ -31,9 +37,9 @@ found_line (Some made) = line_with made.text.items made.count
 abbrev pub named_line : List ℕ → Option CountedText → List ℕ
 named_line name found = name ++ (codes ": " ++ found_line found)
 
-abbrev pub found_status : Bool → Option CountedText → ℕ
-found_status strict None = 3
-found_status strict (Some made) = verdict_status (strict_verdict strict made.notes.refused.items (verdict_in made.count))
+abbrev pub found_status : Option Verdict → ℕ
+found_status None = 3
+found_status (Some verdict) = verdict_status verdict
 
 -- the tally with one more file of that exit status
 abbrev pub with_status : ℕ → Tally → Tally

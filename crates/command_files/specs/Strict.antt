@@ -19,6 +19,10 @@ strict_verdict true (call ∷ calls) verdict = verdict
 abbrev pub checked : Bool → List ℕ → List ℕ × Verdict
 checked strict bytes = ((program bytes).0, strict_verdict strict (unexpected_in (setup_of_bytes bytes)) (program bytes).1)
 
+-- the verdict on the bytes of a file
+abbrev pub check_verdict : Bool → List ℕ → Verdict
+check_verdict strict bytes = (checked strict bytes).1
+
 -- the same of a set-up that was read, by the names of its objects
 abbrev pub IsNamedCheck : Bool → ProfileName → ReadView → List ℕ → Verdict → Type 0
 IsNamedCheck strict p read text verdict =

@@ -3,11 +3,13 @@ ghost use Rattle.std.specs.Prelude.{◌≡◌, [], false, map};
 ghost use Rattle.setup_format.specs.Setups.{setup_of_bytes};
 ghost use Rattle.command_check.specs.Program.{IsTextOfSetup};
 ghost use Rattle.command_files.specs.Files.{IsCheckOf, IsInput, file_line, tally_line};
+ghost use Rattle.command_files.specs.Strict.{check_verdict};
 
 use crate::inputs::{Inputs, Listener};
 use crate::lines::{add_line, summary};
+use crate::strict::strict_verdict;
 use crate::tally::Tally;
-use crate::telling::{Telling, tell_files};
+use crate::telling::{FileAnswer, Telling, tell_files};
 use command_check::{CountedText, checked_text};
 use command_core::{RunFault, Sink};
 use std::alloc::{AllocError, Global};
@@ -19,7 +21,7 @@ struct Summary {
 }
 
 impl Telling for Summary {
-    ghost strict = { λ summary. summary.strict };
+    ghost verdict = { λ summary. check_verdict summary.strict };
 
     ghost is_made = { λ summary bytes made. IsTextOfSetup (setup_of_bytes bytes) made };
 
@@ -29,12 +31,11 @@ impl Telling for Summary {
 
     ghost last = { λ summary. tally_line };
 
-    fn is_strict(&self) -> bool {
-        self.strict
-    }
-
-    fn make(&self, alloc: Global, bytes: &[u8]) -> Result<CountedText, AllocError> {
-        checked_text(alloc, bytes)
+    #[tactic(auto, using(crate::proofs::Tallies::judged))]
+    fn make(&self, alloc: Global, bytes: &[u8]) -> Result<FileAnswer, AllocError> {
+        let told = checked_text(alloc, bytes)?;
+        let verdict = strict_verdict(self.strict, told.notes.refused.as_slice(), told.verdict());
+        Ok(FileAnswer { told, verdict })
     }
 
     fn add_head(&self, out: &mut Vec<u8>) -> Result<(), AllocError> {

@@ -13,4 +13,4 @@ pub use checking::check_files;
 pub use inputs::{Inputs, Listener, Used};
 pub use strict::{FileCheck, NamedCheck};
 pub use tally::{Tally, status_is_the_greatest, status_of_files};
-pub use telling::{Telling, tell_files};
+pub use telling::{FileAnswer, Telling, tell_files};

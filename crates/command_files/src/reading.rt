@@ -1,11 +1,10 @@
 //! What is made of one of several files.
 ghost use Rattle.std.specs.Prelude.{◌≡◌, false, IfOk, List, ℕ, Option};
 ghost use Rattle.command_files.specs.Files.{HasContents, IsFile, IsInput, IsStandard};
-ghost use Rattle.command_files.specs.Private.{IsCountedFound};
+ghost use Rattle.command_files.specs.Private.{IsJudgedFound};
 
 use crate::inputs::{Inputs, Listener, Used};
-use crate::telling::Telling;
-use command_check::CountedText;
+use crate::telling::{FileAnswer, Telling, told_in};
 use command_core::{INPUT_LIMIT, RunFault, Source, read_below};
 use std::alloc::{AllocError, Global};
 
@@ -14,9 +13,9 @@ fn make_source<T: Telling, S: Source>(
     alloc: Global,
     telling: &T,
     source: &mut S,
-) -> Result<Option<CountedText>, AllocError>
+) -> Result<Option<FileAnswer>, AllocError>
     requires source { S.failed source.old ≡ false }
-    ensures { IfOk result (λ found. (contents : Option (List ℕ)) × HasContents S.Source source.old source.new contents × IsCountedFound (T.strict telling.now) (T.is_made telling.now) contents found) }
+    ensures { IfOk result (λ found. (contents : Option (List ℕ)) × HasContents S.Source source.old source.new contents × IsJudgedFound (T.verdict telling.now) (T.is_made telling.now) contents found) }
 {
     match read_below(alloc, source, INPUT_LIMIT) {
         Ok(input) => Ok(Some(telling.make(alloc, input.as_slice())?)),
@@ -32,13 +31,13 @@ fn make_standard<I: Inputs, L: Listener<I::Standard, I::File, I::Fault>, T: Tell
     listener: &L,
     telling: &T,
     name: &str,
-) -> Result<Option<CountedText>, AllocError>
+) -> Result<Option<FileAnswer>, AllocError>
     ensures { IfOk result (λ found. (contents : Option (List ℕ))
-        × IsStandard (I.is_standard inputs.now) I.Standard.Source contents × IsCountedFound (T.strict telling.now) (T.is_made telling.now) contents found) }
+        × IsStandard (I.is_standard inputs.now) I.Standard.Source contents × IsJudgedFound (T.verdict telling.now) (T.is_made telling.now) contents found) }
 {
     let mut source = inputs.standard();
     let found = make_source(alloc, telling, &mut source)?;
-    listener.hear(name, &Used::Standard(source), found.as_ref());
+    listener.hear(name, &Used::Standard(source), told_in(&found));
     Ok(found)
 }
 
@@ -49,15 +48,15 @@ fn make_named<I: Inputs, L: Listener<I::Standard, I::File, I::Fault>, T: Telling
     listener: &L,
     telling: &T,
     name: &str,
-) -> Result<Option<CountedText>, AllocError>
+) -> Result<Option<FileAnswer>, AllocError>
     ensures { IfOk result (λ found. (contents : Option (List ℕ))
-        × IsFile (I.is_file inputs.now) (I.is_fault inputs.now) I.File.Source name.now contents × IsCountedFound (T.strict telling.now) (T.is_made telling.now) contents found) }
+        × IsFile (I.is_file inputs.now) (I.is_fault inputs.now) I.File.Source name.now contents × IsJudgedFound (T.verdict telling.now) (T.is_made telling.now) contents found) }
 {
     match inputs.open(name) {
         Ok(file) => {
             let mut source = file;
             let found = make_source(alloc, telling, &mut source)?;
-            listener.hear(name, &Used::File(source), found.as_ref());
+            listener.hear(name, &Used::File(source), told_in(&found));
             Ok(found)
         }
         Err(fault) => {
@@ -74,10 +73,10 @@ pub(crate) fn make_file<I: Inputs, L: Listener<I::Standard, I::File, I::Fault>, 
     listener: &L,
     telling: &T,
     name: &str,
-) -> Result<Option<CountedText>, AllocError>
+) -> Result<Option<FileAnswer>, AllocError>
     ensures { IfOk result (λ found. (contents : Option (List ℕ))
         × IsInput (I.is_standard inputs.now) (I.is_file inputs.now) (I.is_fault inputs.now) I.Standard.Source I.File.Source name.now contents
-        × IsCountedFound (T.strict telling.now) (T.is_made telling.now) contents found) }
+        × IsJudgedFound (T.verdict telling.now) (T.is_made telling.now) contents found) }
 {
     if name == "-" {
         make_standard(alloc, inputs, listener, telling, name)

@@ -1,17 +1,17 @@
 //! How many of several files are met, and the exit status of their check.
-ghost use Rattle.std.specs.Prelude.{◌≡◌, ◌+◌, ◌<◌, ◌^◌, ℕ, Bool, List, [], Option, map, option_map};
-ghost use Rattle.command_files.specs.Files.{files_status, greatest, status_alone, tally_of, tally_status};
+ghost use Rattle.std.specs.Prelude.{◌≡◌, ◌+◌, ◌<◌, ◌^◌, ℕ, Bool, List, [], Option, map};
+ghost use Rattle.command_core.specs.declared.fault.Verdict.{Verdict as VerdictOf};
+ghost use Rattle.command_files.specs.Files.{IsNeverAbsent, files_status, greatest, status_alone, tally_of, tally_status};
 ghost use Rattle.command_files.specs.Private.{found_status, tally_size, with_status};
+ghost use Rattle.command_files.specs.Strict.{check_verdict};
 
-use crate::strict::strict_verdict;
-use command_check::CountedText;
 use command_core::{RunFault, Verdict};
 
 /// How many of several files are met, unmet, refused and unread.
 #[derive(Clone, Copy)]
 pub struct Tally {
-    /// Files that were run, of which each expectation is met; also those that have none. Where the check is strict, no call of theirs
-    /// is refused that has no expectation.
+    /// Files that were run, of which each expectation is met; also those that have none. If the check is strict, no call of theirs
+    /// is refused that has no expectation. Of answers to an exercise: files in which all that is asked is right.
     pub met: usize,
     /// All other files that were run.
     pub unmet: usize,
@@ -24,7 +24,7 @@ pub struct Tally {
 impl Tally {
     /// The tally of no files.
     pub(crate) fn new() -> Tally
-        ensures { (strict : Bool) → result ≡ tally_of strict [] }
+        ensures { (verdict : List ℕ → VerdictOf) → result ≡ tally_of verdict [] }
     {
         Tally {
             met: 0,
@@ -34,20 +34,17 @@ impl Tally {
         }
     }
 
-    /// Counts a file with that text; without one, a file that could not be read.
-    pub(crate) fn count(&mut self, strict: bool, found: Option<&CountedText>)
+    /// Counts a file with that verdict; without one, a file that could not be read.
+    pub(crate) fn count(&mut self, found: Option<Verdict>)
         requires room { tally_size self.old + 1 < 2 ^ 64 }
-        ensures { self.new ≡ with_status (found_status strict (option_map (λ m. m.now) found.entry)) self.old }
+        ensures { self.new ≡ with_status (found_status found) self.old }
     {
-        let Some(made) = found else {
-            self.unread += 1;
-            return;
-        };
-        match strict_verdict(strict, made.notes.refused.as_slice(), made.verdict()) {
-            Verdict::AllMet => self.met += 1,
-            Verdict::NotMet => self.unmet += 1,
-            Verdict::Refused => self.refused += 1,
-            Verdict::Absent => {}
+        match found {
+            None => self.unread += 1,
+            Some(Verdict::AllMet) => self.met += 1,
+            Some(Verdict::NotMet) => self.unmet += 1,
+            Some(Verdict::Refused) => self.refused += 1,
+            Some(Verdict::Absent) => {}
         }
     }
 
@@ -77,7 +74,10 @@ pub fn status_of_files(answer: &Result<Tally, RunFault>) -> u8
     }
 }
 
-/// A law: the exit status of a tally is the greatest of those that `check`, strict or not, has for each of the files alone.
+/// A law: the exit status of a tally is the greatest of those of each of the files alone, of any verdict that is never `Absent`; that of
+/// `check`, strict or not, is such a verdict.
 pub fn status_is_the_greatest()
-    ensures { (strict : Bool) (files : List (Option (List ℕ))) → tally_status (tally_of strict files) ≡ greatest (map (status_alone strict) files) }
+    ensures status { (verdict : List ℕ → VerdictOf) (files : List (Option (List ℕ))) → IsNeverAbsent verdict
+        → tally_status (tally_of verdict files) ≡ greatest (map (status_alone verdict) files) }
+    ensures check { (strict : Bool) → IsNeverAbsent (check_verdict strict) }
 {}

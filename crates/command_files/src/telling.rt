@@ -1,25 +1,55 @@
 //! What is told of several files: a text with a line for each.
 ghost use Rattle.std.specs.Prelude.{◌≡◌, ◌++◌, false, map, option_map, IfOk, OnOk, List, ℕ, Option};
 ghost use Rattle.command_files.specs.Files.{Each, IsInput, IsToldOf, lines_of, tally_of, told_text};
+ghost use Rattle.command_files.specs.Private as spec;
 
 use crate::inputs::{Inputs, Listener};
 use crate::reading::make_file;
 use crate::tally::Tally;
 use command_check::CountedText;
-use command_core::{RunFault, Sink, write_all};
+use command_core::{RunFault, Sink, Verdict, write_all};
 use std::alloc::{AllocError, Global};
+
+/// What is made of a file that was read.
+#[derive(Drop)]
+pub struct FileAnswer {
+    /// What is told of it, with the count of its expectations.
+    pub told: CountedText,
+    /// Whether all is as it is to be, something is not, or the set-up is refused.
+    pub verdict: Verdict,
+}
+
+/// What is told of a file, if it could be read.
+pub(crate) fn told_in(found: &Option<FileAnswer>) -> Option<&CountedText>
+    ensures { option_map (λ m. m.now) result ≡ spec.told_in found.now }
+{
+    match found {
+        Some(answer) => Some(&answer.told),
+        None => None,
+    }
+}
+
+/// The verdict on a file, if it could be read.
+fn verdict_found(found: &Option<FileAnswer>) -> Option<Verdict>
+    ensures { result ≡ spec.verdict_found found.now }
+{
+    match found {
+        Some(answer) => Some(answer.verdict),
+        None => None,
+    }
+}
 
 /// What is told of several files.
 pub trait Telling {
-    ghost use Rattle.std.specs.Prelude.{◌≡◌, ◌++◌, ℕ, Bool, true, List, Option, option_map, IfOk, OnOk};
+    ghost use Rattle.std.specs.Prelude.{◌≡◌, ◌++◌, ℕ, List, Option, option_map, IfOk, OnOk};
     ghost use Rattle.setup_format.specs.Setups.{setup_of_bytes};
-    ghost use Rattle.command_check.specs.Notes.{unexpected_in};
     ghost use Rattle.command_check.specs.declared.run.CountedText.{CountedText};
+    ghost use Rattle.command_core.specs.declared.fault.Verdict.{Verdict};
     ghost use Rattle.command_files.specs.declared.tally.Tally.{Tally};
     ghost use Rattle.command_files.specs.Files.{HasCountOf, IsFoundFile};
 
-    /// A file with a call that is refused, and of which nothing was expected, counts as one that is not met.
-    ghost strict: { Self → Bool };
+    /// The verdict on a file with these bytes.
+    ghost verdict: { Self → List ℕ → Verdict };
 
     /// It is what is made of these bytes.
     ghost is_made: { Self → List ℕ → CountedText → Type 0 };
@@ -33,20 +63,15 @@ pub trait Telling {
     /// What stands behind the lines of so many files, with that tally.
     ghost last: { Self → ℕ → Tally → List ℕ };
 
-    /// Whether a file with a call that is refused, and of which nothing was expected, counts as one that is not met.
-    fn is_strict(&self) -> bool
-        ensures { result ≡ strict self.now };
-
-    /// What is made of the bytes of a file, with the count of its expectations, and, if that counts, with the calls that are refused
-    /// and of which nothing was expected.
+    /// What is made of the bytes of a file, with the count of its expectations, and the verdict.
     ///
     /// # Errors
     ///
     /// Memory was refused.
-    fn make(&self, alloc: Global, bytes: &[u8]) -> Result<CountedText, AllocError>
-        ensures made { IfOk result (is_made self.now bytes.now) }
-        ensures count { IfOk result (λ made. HasCountOf (setup_of_bytes bytes.now) made.count) }
-        ensures refused { IfOk result (λ made. strict self.now ≡ true → made.notes.refused.items ≡ unexpected_in (setup_of_bytes bytes.now)) };
+    fn make(&self, alloc: Global, bytes: &[u8]) -> Result<FileAnswer, AllocError>
+        ensures made { IfOk result (λ answer. is_made self.now bytes.now answer.told) }
+        ensures count { IfOk result (λ answer. HasCountOf (setup_of_bytes bytes.now) answer.told.count) }
+        ensures verdict { IfOk result (λ answer. answer.verdict ≡ verdict self.now bytes.now) };
 
     /// Adds what stands before the lines.
     ///
@@ -97,15 +122,15 @@ fn tell_each<I: Inputs, L: Listener<I::Standard, I::File, I::Fault>, T: Telling>
     ensures { IfOk result (λ made. (files : List (Option (List ℕ)))
         × Each (IsInput (I.is_standard inputs.now) (I.is_file inputs.now) (I.is_fault inputs.now) I.Standard.Source I.File.Source) (map (λ s. s.now) names.now) files
         × (made.0.items ≡ T.head telling.now ++ lines_of (T.line telling.now) (map (λ s. s.now) names.now) files)
-        × (made.1 ≡ tally_of (T.strict telling.now) files)) }
+        × (made.1 ≡ tally_of (T.verdict telling.now) files)) }
 {
     let mut out = Vec::new(alloc);
     telling.add_head(&mut out)?;
     let mut tally = Tally::new();
     for name in names {
         let found = make_file(alloc, inputs, listener, telling, *name)?;
-        telling.add_line(alloc, &mut out, *name, found.as_ref())?;
-        tally.count(telling.is_strict(), found.as_ref());
+        telling.add_line(alloc, &mut out, *name, told_in(&found))?;
+        tally.count(verdict_found(&found));
     }
     Ok((out, tally))
 }
@@ -120,8 +145,8 @@ fn tell_all<I: Inputs, L: Listener<I::Standard, I::File, I::Fault>, T: Telling>(
 ) -> Result<(Vec<u8>, Tally), AllocError>
     ensures { IfOk result (λ made. (files : List (Option (List ℕ)))
         × Each (IsInput (I.is_standard inputs.now) (I.is_file inputs.now) (I.is_fault inputs.now) I.Standard.Source I.File.Source) (map (λ s. s.now) names.now) files
-        × (made.0.items ≡ told_text (T.strict telling.now) (T.head telling.now) (T.line telling.now) (T.last telling.now) (map (λ s. s.now) names.now) files)
-        × (made.1 ≡ tally_of (T.strict telling.now) files)) }
+        × (made.0.items ≡ told_text (T.verdict telling.now) (T.head telling.now) (T.line telling.now) (T.last telling.now) (map (λ s. s.now) names.now) files)
+        × (made.1 ≡ tally_of (T.verdict telling.now) files)) }
 {
     let (lines, tally) = tell_each(alloc, inputs, listener, telling, names)?;
     let mut out = lines;
@@ -145,7 +170,7 @@ pub fn tell_files<I: Inputs, L: Listener<I::Standard, I::File, I::Fault>, T: Tel
     sink: &mut K,
 ) -> Result<Tally, RunFault>
     requires sink { K.failed sink.old ≡ false }
-    ensures { IsToldOf (T.strict telling.now) (told_text (T.strict telling.now) (T.head telling.now) (T.line telling.now) (T.last telling.now))
+    ensures { IsToldOf (T.verdict telling.now) (told_text (T.verdict telling.now) (T.head telling.now) (T.line telling.now) (T.last telling.now))
         (IsInput (I.is_standard inputs.now) (I.is_file inputs.now) (I.is_fault inputs.now) I.Standard.Source I.File.Source)
         K.Sink (map (λ s. s.now) names.now) sink.old sink.new result }
 {

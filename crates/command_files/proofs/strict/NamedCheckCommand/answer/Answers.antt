@@ -1,5 +1,5 @@
 -- The text is the run's by names, and the verdict that of its counts, strict or not.
-use Rattle.std.proofs.Common.{◌∙◌, ap, true}
+use Rattle.std.proofs.Common.{◌∙◌, ap}
 use Rattle.setup_values.specs.Names.{names_view}
 use Rattle.command_check.specs.Program.{named_report}
 use Rattle.command_check.proofs.Runs.{counted_verdict}
