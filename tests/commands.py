@@ -16,6 +16,7 @@ one fail. It needs a C compiler; where there is none, that is told, and the firs
 import concurrent.futures
 import os
 import pathlib
+import re
 import shlex
 import shutil
 import struct
@@ -469,6 +470,11 @@ def expected(words, ample):
     return [(ample[0], b"".join([*lines[:at], ended[at], *lines[at + 1:]]), ample[2]) for at in calls]
 
 
+def words_of(line):
+    """A line of standard error without the place that it tells of."""
+    return re.sub(rb"^.*?(?=(?:error|warning|note): )", b"", line)
+
+
 def is_right(kind, words, ample, answer):
     """Whether a run in which a call failed answers as it has to."""
     status, said, fault = answer
@@ -477,8 +483,8 @@ def is_right(kind, words, ample, answer):
     if kind in ("write", "no byte"):
         return status == 3 and ample[1].startswith(said) and said != ample[1] and fault.startswith(WRITING)
     if answer[:2] == ample[:2]:
-        # Lines of standard error may be left out, but for that of a fault.
-        lines, told = iter(ample[2].splitlines()), fault.splitlines()
+        # Lines of standard error may be left out, and the place of one, but for that of a fault.
+        lines, told = map(words_of, ample[2].splitlines()), list(map(words_of, fault.splitlines()))
         return all(it in lines for it in told) and (ample[0] not in (3, 4) or told[:1] == ample[2].splitlines()[:1])
     return answer in [*expected(words, ample), *[THREAD] * (words[1:2] == ["threads"])]
 
