@@ -58,7 +58,7 @@ export class Branch {
       page.steps.tell({ fault: "Here a call can be added only where each stands on lines of its own." });
       return;
     }
-    const answer = await page.answerAlso(["trace"], text);
+    const answer = await page.runs.answerAlso(["trace"], text);
     if (answer === STOPPED) return;
     const [output, errors] = [answer.output, answer.errors].map((it) => new TextDecoder().decode(it));
     if (answer.status !== 0 && answer.status !== 1) {

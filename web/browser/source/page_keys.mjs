@@ -37,7 +37,7 @@ export class PageKeys {
 
   /** What a key does together with Ctrl. */
   withControl(key) {
-    const print = this.page.tab === STEPS && !this.page.exercise.isOpen ? () => this.page.printStep() : null;
+    const print = this.page.tab === STEPS && !this.page.exercise.isOpen ? () => this.page.lecture.printStep() : null;
     return { Enter: () => this.page.run(), s: () => this.page.save(), p: print }[key];
   }
 
@@ -47,13 +47,13 @@ export class PageKeys {
     if (key === "F1") return () => byId("keys").showModal();
     // What marks an exercise is not stopped: it has no report to stop for.
     if (key === "Escape" && page.program.isRunning && !page.exercise.isOpen) return () => page.stop();
-    if (key === "Escape" && document.body.classList.contains("project") && !page.isStepsAlone) return () => page.project(false);
+    if (key === "Escape" && document.body.classList.contains("project") && !page.lecture.isStepsAlone) return () => page.lecture.project(false);
     if (isTyping || !this.hasLetters) return null;
     if (key === "?") return () => byId("keys").showModal();
     if (page.exercise.isOpen) return null;
     // The tenth tab has the key 0.
     const place = /^\d$/u.test(key) ? (Number(key) + 9) % 10 : TABS.length;
     if (place < TABS.length) return () => page.chooseAt(place);
-    return { e: () => page.edit(), p: () => page.project(true), w: () => page.setWide(!document.body.classList.contains("wide")) }[key] ?? null;
+    return { e: () => page.edit(), p: () => page.lecture.project(true), w: () => page.setWide(!document.body.classList.contains("wide")) }[key] ?? null;
   }
 }

@@ -562,7 +562,7 @@ def reading(test, _):
 def trapped(test, _):
     """A run that the browser ends is told as such, and the set-up is still there."""
     kept = test.browser.value("sel4sim.page.editor.text")
-    test.browser.value("sel4sim.page.show(sel4sim.page.tab, { trap: 'RangeError: too much recursion', milliseconds: 1, memory: 0,"
+    test.browser.value("sel4sim.page.answers.show(sel4sim.page.tab, { trap: 'RangeError: too much recursion', milliseconds: 1, memory: 0,"
                        " output: new Uint8Array(), errors: new Uint8Array() })")
     told = test.text("status") + ": " + test.text("ended")
     test.wanted("ended by the browser: RangeError" in told and "out of stack" in told, f"a trap is told as {told}")

@@ -89,7 +89,7 @@ def projected_sizes(test, _):
     told at the foot."""
     browser = test.browser
     at_call(test, "examples", "two_clients_by_badge", 7)
-    browser.value("sel4sim.page.project(true)")
+    browser.value("sel4sim.page.lecture.project(true)")
     browser.value(f"{INSIDE}.body.dataset.alone = 'forest'")
     found = []
     for width, height in ((960, 540), (1280, 800), (1920, 1080)):
@@ -102,14 +102,14 @@ def projected_sizes(test, _):
     test.wanted(found == sorted(set(found)) and found[-1] >= 2 * found[0] * 0.9, f"the sentences have {found} pixels")
     browser.value(f"delete {INSIDE}.body.dataset.alone")
     browser.call("Emulation.clearDeviceMetricsOverride")
-    browser.value("sel4sim.page.project(false)")
+    browser.value("sel4sim.page.lecture.project(false)")
 
 
 def resized(test, _):
     """Where a window becomes lower, what a step changed is still in sight."""
     browser = test.browser
     at_call(test, "examples", "revocation_of_badged_copies", 8)
-    browser.value(f"sel4sim.page.project(true), {INSIDE}.body.dataset.alone = 'forest'")
+    browser.value(f"sel4sim.page.lecture.project(true), {INSIDE}.body.dataset.alone = 'forest'")
     seen = f"""(() => {{ const inside = {INSIDE}; const [window, first] = ["#forest .forest-scroll", "#forest .node:is(.filled, .emptied)"]
       .map((it) => inside.querySelector(it).getBoundingClientRect()); return first.top >= window.top && first.bottom <= window.bottom; }})()"""
     for height in (1000, 480, 700, 420):
@@ -118,7 +118,7 @@ def resized(test, _):
         test.wanted(browser.value(seen), f"at a height of {height} what changed is not in sight")
     browser.value(f"delete {INSIDE}.body.dataset.alone")
     browser.call("Emulation.clearDeviceMetricsOverride")
-    browser.value("sel4sim.page.project(false)")
+    browser.value("sel4sim.page.lecture.project(false)")
 
 
 # For each word of the call: its boxes, as what they are and their bits, and the slots with a ring.

@@ -80,11 +80,11 @@ def steps_after_a_refusal(test, _):
         pick(test, "refused", "boot_objects_outside")
         test.wanted("set-up refused 205" in test.text("panel-steps"), "a refusal is not told in the steps")
         if is_whole:
-            browser.value("sel4sim.page.project(true)")
+            browser.value("sel4sim.page.lecture.project(true)")
         pick(test, "examples", "two_clients_by_badge")
         steps_come(test, "two_clients_by_badge")
         test.wanted("status 0" in test.text("status") and "refused" not in test.text("panel-steps"), f"behind a refusal the steps show {test.text('panel-steps')}")
-        browser.value("sel4sim.page.project(false)")
+        browser.value("sel4sim.page.lecture.project(false)")
     browser.call("Emulation.clearDeviceMetricsOverride")
     test.wanted(not browser.complaints, f"behind a refusal the page complains: {browser.complaints[:2]}")
     browser.value("(() => { sel4sim.page.tab.draws = sel4sim.page.tab.show; sel4sim.page.tab.show = () => { throw new Error('of a test'); }; })()")

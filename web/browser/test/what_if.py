@@ -158,7 +158,7 @@ def pointed(test, _):
         browser.call("Emulation.setDeviceMetricsOverride", width=width, height=height, deviceScaleFactor=1, mobile=is_phone)
         browser.call("Emulation.setTouchEmulationEnabled", enabled=is_phone)
         at_call(test, "examples", "two_clients_by_badge", 2)
-        browser.value(f"sel4sim.page.project(true), {FORM}.hidden || {button('close')}.click()")
+        browser.value(f"sel4sim.page.lecture.project(true), {FORM}.hidden || {button('close')}.click()")
         time.sleep(0.3)
         if is_phone:
             press(*centre(test, f"{INSIDE}.getElementById('more')"))
@@ -174,7 +174,7 @@ def pointed(test, _):
         test.until(f"{SAID}.includes('thread 4096 first moves root[8]')", f"at {width} what was pressed is not run: {browser.value(SAID)}")
         wide = browser.value(f"[{INSIDE}.documentElement.scrollWidth, {FRAME}.clientWidth]")
         test.wanted(wide[0] <= wide[1], f"at {width} what if overruns its window: {wide}")
-        browser.value("sel4sim.page.project(false)")
+        browser.value("sel4sim.page.lecture.project(false)")
     browser.call("Emulation.setTouchEmulationEnabled", enabled=False)
     browser.call("Emulation.clearDeviceMetricsOverride")
 
