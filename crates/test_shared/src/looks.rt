@@ -9,7 +9,7 @@ use kernel_core::{Call, Inbox, Op, Reply, ThreadState};
 use kernel_shared::fault::SharedFault;
 use kernel_shared::history_copy::HistoryCopy;
 use kernel_shared::settling::Unsettled;
-use kernel_shared::{Answer, Entry, Naming, Query, SettleFault, settle};
+use kernel_shared::{Answer, Entry, Naming, Query, SettleFault, give_up, look, settle};
 use slot_core::MakeStore;
 use std::sync::Wait;
 
@@ -149,7 +149,7 @@ fn comes_out<N: Naming, T: HistoryCopy<N>, R: Wait>(
     match step {
         Step::Calls(call, reply) => shared.call(rt, client, call).ok() == Some(reply),
         Step::FindsFull(call) => finds_full(rt, shared, client, call),
-        Step::Sees(query, answer) => client.look(query) == Some(answer),
+        Step::Sees(query, answer) => look(client, query) == Some(answer),
     }
 }
 
@@ -202,7 +202,7 @@ pub fn one_client_missing<N: Naming, S: MakeStore<Wide>, W: MakeWaiters<Wide>, R
     mut clients: Vec<Caller<N, S, W>>,
 ) -> bool {
     let Some(client) = clients.pop() else {
-        shared.give_up(rt);
+        give_up(rt, shared);
         return false;
     };
     match settle(rt, shared, clients) {
