@@ -7,7 +7,7 @@ export const REFUSALS = [
   ["6/1", "InvalidRoot", "the lookup begins at no CNode"], ["6/2", "MissingCapability", "the source, or the CNode to fill, is missing"],
   ["6/3", "DepthMismatch", "too many bits, or too few"], ["6/4", "GuardMismatch", "bits that are not the guard's"],
   ["8", "DeleteFirst", "the slot to fill is full"], ["9", "RevokeFirst", "the untyped region has children"],
-  ["10", "NotEnoughMemory", "the objects do not fit"], ["100", "", "no such thread"], ["101", "", "the thread is not ready"],
+  ["10", "NotEnoughMemory", "the objects do not fit"], ["100", "", "no live thread at this address"], ["101", "", "the thread is not ready"],
 ];
 
 const inWords = ([, name, words]) => [name, words].filter(Boolean).join(": ");

@@ -50,6 +50,7 @@ FAULTS = (
 FAULTS_OF_LOOKUPS = (
     ("a copy is taken from the first CNode alone", "cnode_in_cnode", "lookup.mjs",
      'if (inner.capability.kind === "cnode") walk(inner.capability, left);', ""),
+    ("the way of a word lacks a bit", "cnode_in_cnode", "ways.mjs", 'drawBitBox("slot-bits", bits,', 'drawBitBox("slot-bits", bits.slice(1),'),
 )
 
 # The same for the further checks.
@@ -58,7 +59,7 @@ FURTHER_FAULTS = (
     ("the bar scrolls away on a phone", modes.phone, "style.css",
      "header { position: sticky;", "header { position: static;"),
     ("the forest is not alone", modes.forest_alone, "style.css",
-     "body[data-alone] main > :not(#what) { display: none; }", ""),
+     "body[data-alone] main > :not(#what, #what-if), .foot { display: none; }", ""),
     ("replies stand in the list though effects are hidden", modes.hidden_effects, "page.mjs",
      "this.isHiding ? number - Number(view.isAsked) : this.last", "this.last"),
 )
