@@ -639,6 +639,12 @@ def in_firefox(program, folder, stored):
         browser.value("sel4sim.page.editor.text = 'format = 2\\nlable = 1\\n'")
         test.settle()
         test.wanted(browser.value("document.querySelectorAll('.faulty').length") == 1, "firefox: a fault is not marked")
+        test.forget()
+        pick(test, "examples", "send_then_receive")
+        test.click("#tab-steps")
+        nothing_lost.refused_then_good(test)
+        for check in (gives_nothing_away.double_click_in_firefox, what_if.each_operation, what_if.branch):
+            check(test, stored)
         print("firefox: " + ("with faults" if test.faults else "all right"), flush=True)
         return test.faults
     finally:

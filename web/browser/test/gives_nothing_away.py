@@ -49,15 +49,25 @@ def double_click(test, _):
     browser = test.browser
     for width, height, pause in PRESSES:
         browser.call("Emulation.setDeviceMetricsOverride", width=width, height=height, deviceScaleFactor=1, mobile=width < 400)
-        test.forget()
-        answer_all(test, NAME, wrong=(2, 3))
-        press_twice(test, pause)
-        at_rest(test)
-        when = f"after two presses {pause} s apart at {width}"
-        is_still_asked(test, NAME, when)
-        test.wanted(browser.value("document.querySelectorAll('.card.wrong').length") == 2, f"{when} nothing is marked")
-        test.wanted(browser.value(f"{DIALOG} === null"), f"{when} it is asked whether to show the answers")
+        marks_alone(test, pause, f"after two presses {pause} s apart at {width}")
     browser.call("Emulation.clearDeviceMetricsOverride")
+
+
+def marks_alone(test, pause, when):
+    """Two presses mark, and show no answer."""
+    test.forget()
+    answer_all(test, NAME, wrong=(2, 3))
+    press_twice(test, pause)
+    at_rest(test)
+    is_still_asked(test, NAME, when)
+    test.wanted(test.browser.value("document.querySelectorAll('.card.wrong').length") == 2, f"{when} nothing is marked")
+    test.wanted(test.browser.value(f"{DIALOG} === null"), f"{when} it is asked whether to show the answers")
+
+
+def double_click_in_firefox(test, _):
+    """The same in a window of the size that it has."""
+    for pause in (0, 0.05):
+        marks_alone(test, pause, f"in firefox, after two presses {pause} s apart")
 
 
 def double_click_all_right(test, _):

@@ -70,6 +70,18 @@ def fault_keeps_steps(test, _):
     test.wanted(browser.value("document.querySelector('.old') === null"), "an answer stays dimmed")
 
 
+def refused_then_good(test, is_whole=False):
+    """A set-up that is refused is opened in the steps, and then a good one."""
+    pick(test, "refused", "boot_objects_outside")
+    test.wanted("set-up refused 205" in test.text("panel-steps"), "a refusal is not told in the steps")
+    if is_whole:
+        test.browser.value("sel4sim.page.lecture.project(true)")
+    pick(test, "examples", "two_clients_by_badge")
+    steps_come(test, "two_clients_by_badge")
+    test.wanted("status 0" in test.text("status") and "refused" not in test.text("panel-steps"), f"behind a refusal the steps show {test.text('panel-steps')}")
+    test.browser.value("sel4sim.page.lecture.project(false)")
+
+
 def steps_after_a_refusal(test, _):
     """The steps of a set-up come behind one that was refused, also where others were looked at between, and with the key of the whole
     window; an answer that cannot be drawn is shown as it was written, and not as the one before it."""
@@ -77,14 +89,7 @@ def steps_after_a_refusal(test, _):
     at_step(test, 2)
     for width, is_whole in ((1280, False), (390, False), (1280, True)):
         browser.call("Emulation.setDeviceMetricsOverride", width=width, height=800, deviceScaleFactor=1, mobile=width < 400)
-        pick(test, "refused", "boot_objects_outside")
-        test.wanted("set-up refused 205" in test.text("panel-steps"), "a refusal is not told in the steps")
-        if is_whole:
-            browser.value("sel4sim.page.lecture.project(true)")
-        pick(test, "examples", "two_clients_by_badge")
-        steps_come(test, "two_clients_by_badge")
-        test.wanted("status 0" in test.text("status") and "refused" not in test.text("panel-steps"), f"behind a refusal the steps show {test.text('panel-steps')}")
-        browser.value("sel4sim.page.lecture.project(false)")
+        refused_then_good(test, is_whole)
     browser.call("Emulation.clearDeviceMetricsOverride")
     test.wanted(not browser.complaints, f"behind a refusal the page complains: {browser.complaints[:2]}")
     browser.value("(() => { sel4sim.page.tab.draws = sel4sim.page.tab.show; sel4sim.page.tab.show = () => { throw new Error('of a test'); }; })()")
