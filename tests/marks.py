@@ -8,7 +8,9 @@ alone. The table is read as CSV, also with file names that have commas, quotatio
 
 `marks --of` each exercise, and of each key in its place, is asked for the key, for the exercise, for keys with answers that are
 cut short, taken out or wrong, and for other set-ups: with a call more or less, another word, memory or name. Its rows have to be
-those that a model here makes of the files and the report.
+those that a model here makes of the files and the report. The exit status is that of the rows: 0 where each is all right, and else the
+greatest of 1 for one that is not, or is of another set-up, 2 for a set-up that is refused, or each where the exercise is, and 3 for a
+file that cannot be read. What the files themselves expect does not count.
 """
 import csv
 import io
@@ -163,6 +165,18 @@ def row_of(program, exercise, answers):
     return [str(sum(mark == "right" for _, mark in marks)), str(len(marks)), *numbers, ""]
 
 
+def status_of(row):
+    """The exit status of a row without its name, alone."""
+    note = row[-1]
+    if not note:
+        return 0 if row[0] == row[1] else 1
+    return 1 if note.startswith("differs ") else 3 if note == "cannot be read" else 2
+
+
+def without_answers(text):
+    return re.sub(r',\s*expect = "[^"]*"', "", text)
+
+
 def answers_of(key, exercise):
     """Answers that may be handed in: their names and texts."""
     yield "key", key
@@ -172,6 +186,8 @@ def answers_of(key, exercise):
     yield "named", re.sub(r'"(delivered \d+ from \d+ to \d+ badge) [^"]*"', r'"\1"', key)
     yield "wrong", EXPECT.sub(r'\1"dropped by nobody"', key, count=2)
     yield "taken out", re.sub(r',\s*expect = "[^"]*"', "", key, count=1)
+    yield "gone", without_answers(key)
+    yield "other", without_answers(key).replace("memory_bits = 16", "memory_bits = 17", 1)
     end = key.rindex("]")
     yield "more", key[:end] + '{ thread = 2048, op = "suspend", cap = 2 },\n' + key[end:]
     yield "less", key[:key.rindex("{ thread")] + "]\n"
@@ -181,6 +197,15 @@ def answers_of(key, exercise):
     yield "memory", key.replace("memory_bits = 16", "memory_bits = 17", 1)
     yield "name", key.replace("root = 1", "root = 2", 1)
     yield "client", key.replace("format = 2", "format = 2\nlimit = 60000", 1)
+
+
+def faults_of_statuses(program, path, place, of):
+    """The exit status by an exercise that is in `of`: all right, nothing answered, another set-up, a set-up that is refused, no file."""
+    (place / "refused.toml").write_text("format = 3")
+    for names, status in [(["key", "key"], 0), (["key", "gone"], 1), (["key", "other"], 1), (["gone", "refused.toml"], 2),
+                          (["refused.toml", "none.toml"], 3)]:
+        if table(program, ["--of", of, *(place / name for name in names)])[0] != status:
+            yield f"{path}: of {' and '.join(names)} the exit status is not {status}"
 
 
 def faults_by_exercises(program, folder):
@@ -195,13 +220,16 @@ def faults_by_exercises(program, folder):
                 of.write_text(asked)
                 rows = [[str(file), *row_of(program, asked, text)] for file, text in files if file.name != "client"]
                 rows.append([str(files[-1][0]), *rows[0][1:]])
-                if table(program, ["--of", of, *(file for file, _ in files)])[1] != [HEAD_OF, *rows]:
+                if table(program, ["--of", of, *(file for file, _ in files)]) != (1, [HEAD_OF, *rows]):
                     yield f"{path}: other marks by {'the key' if asked == key else 'the exercise'}"
-                alone = table(program, ["--of", of], text=key.encode())[1]
-                if alone != [HEAD_OF, ["-", *rows[0][1:]]]:
+                if table(program, ["--of", of], text=key.encode()) != (0, [HEAD_OF, ["-", *rows[0][1:]]]):
                     yield f"{path}: other marks of standard input"
+                for (file, _), row in zip(files, rows):
+                    if table(program, ["--of", of, file]) != (status_of(row[1:]), [HEAD_OF, row]):
+                        yield f"{path}: other marks of {file.name} alone"
+            yield from faults_of_statuses(program, path, pathlib.Path(place), of)
             of.write_text("format = 3")
-            if table(program, ["--of", of, files[0][0]])[1] != [HEAD_OF, [str(files[0][0]), "", "", "", "", "", "exercise refused"]]:
+            if table(program, ["--of", of, files[0][0]]) != (2, [HEAD_OF, [str(files[0][0]), "", "", "", "", "", "exercise refused"]]):
                 yield f"{path}: an exercise that is refused marks"
             if run(program, "marks", "--of", pathlib.Path(place, "none"), files[0][0]) != (3, ""):
                 yield f"{path}: an exercise that cannot be read marks"

@@ -6,3 +6,4 @@ pub mod Questions
 pub mod Counted
 pub mod Fronts
 pub mod Places
+mod Statuses

@@ -1,5 +1,5 @@
 -- The marks of answers that were handed in: a table in the form of CSV, with a row for each file.
-use Rattle.std.specs.Prelude.{codes, ℕ, not, count_by, if◌then◌else◌, List, [], ◌++◌, false, Option, Some, None, Result, Ok, Err}
+use Rattle.std.specs.Prelude.{codes, ℕ, ◌==◌, not, count_by, if◌then◌else◌, List, [], ◌++◌, Option, Some, None, Result, Ok, Err}
 use Rattle.std.specs.Fmt.{decimal}
 use Rattle.cap_core.specs.declared.profile.ProfileName.{ProfileName}
 use Rattle.kernel_abstract.specs.declared.call.Reply.{Reply}
@@ -8,6 +8,8 @@ use Rattle.setup_format.specs.Setups.{read_of_bytes}
 use Rattle.setup_format.specs.Views.{ReadView}
 use Rattle.command_check.specs.Program.{replies_to}
 use Rattle.command_core.specs.declared.fault.RunFault.{RunFault}
+use Rattle.command_core.specs.declared.fault.Verdict.{Verdict}
+use Rattle.command_core.specs.declared.fault.Verdict.TheVariants.{AllMet, NotMet, Refused}
 use Rattle.command_core.specs.declared.sink.Sink.{Ghosts as SinkGhosts}
 use Rattle.command_files.specs.Files.{IsToldOf, told_text}
 use Rattle.command_files.specs.declared.tally.Tally.{Tally}
@@ -55,19 +57,39 @@ answer_contents_cells exercise (Some bytes) = answer_cells_for exercise (read_of
 abbrev pub answer_row : Option ReadView → List ℕ → Option (List ℕ) → List ℕ
 answer_row exercise name contents = field name ++ (codes "," ++ (answer_contents_cells exercise contents ++ codes "\n"))
 
--- ---- the table
+-- ---- the verdict
 
-abbrev pub answer_head : List ℕ
-answer_head = codes "file,right,of,wrong,too short,open,note\n"
+-- all that is asked is right, or something is not
+abbrev pub marks_verdict : List Mark → Verdict
+marks_verdict marks = if right_count marks == asked_count marks then AllMet else NotMet
+
+-- on a set-up, by an exercise: refused, where the exercise is; another set-up is not right
+abbrev pub verdict_by : Option ReadView → ReadView → List Reply → Verdict
+verdict_by None read replies = Refused
+verdict_by (Some exercise) read replies =
+    if is_same exercise.setup read.setup then marks_verdict (marks_by exercise.setup.calls read.setup.calls replies) else NotMet
+
+abbrev pub verdict_for : Option ReadView → Result ReadView Fault → Verdict
+verdict_for exercise (Ok read) = verdict_by exercise read (replies_to read.setup.profile read.setup)
+verdict_for exercise (Err fault) = Refused
 
 -- the set-up of an exercise, where it is not refused
 abbrev pub exercise_in : Result ReadView Fault → Option ReadView
 exercise_in (Ok read) = Some read
 exercise_in (Err fault) = None
 
-abbrev pub answer_table_text : List ℕ → List (List ℕ) → List (Option (List ℕ)) → List ℕ
-answer_table_text exercise = told_text false answer_head (answer_row (exercise_in (read_of_bytes exercise))) (λ files tally. [])
+-- on the bytes of a file, by those of an exercise
+abbrev pub answers_verdict : List ℕ → List ℕ → Verdict
+answers_verdict exercise bytes = verdict_for (exercise_in (read_of_bytes exercise)) (read_of_bytes bytes)
 
--- a run of `marks --of` over files, by the bytes of an exercise
+-- ---- the table
+
+abbrev pub answer_head : List ℕ
+answer_head = codes "file,right,of,wrong,too short,open,note\n"
+
+abbrev pub answer_table_text : List ℕ → List (List ℕ) → List (Option (List ℕ)) → List ℕ
+answer_table_text exercise = told_text (answers_verdict exercise) answer_head (answer_row (exercise_in (read_of_bytes exercise))) (λ files tally. [])
+
+-- a run of `marks --of` over files, by the bytes of an exercise; its status is that of the marks
 abbrev pub AreMarkedBy : {K : Type 0} → List ℕ → (List ℕ → Option (List ℕ) → Type 0) → SinkGhosts K → List (List ℕ) → K → K → Result Tally RunFault → Type 0
-AreMarkedBy exercise = IsToldOf false (answer_table_text exercise)
+AreMarkedBy exercise = IsToldOf (answers_verdict exercise) (answer_table_text exercise)

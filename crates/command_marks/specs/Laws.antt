@@ -1,11 +1,17 @@
--- What the marks tell of the report, that they tell no reply, and that another set-up is told by a place.
-use Rattle.std.specs.Prelude.{◌≡◌, ◌≢◌, ◌↔◌, codes, List, ℕ, length, Some, false}
+-- What the marks tell of the report, that they tell no reply, that another set-up is told by a place, and which marks end with status 0.
+use Rattle.std.specs.Prelude.{◌≡◌, ◌≢◌, ◌↔◌, codes, List, ℕ, length, Option, Some, Ok, true, false}
+use Rattle.std.specs.List.{All}
 use Rattle.kernel_abstract.specs.declared.call.Reply.{Reply}
+use Rattle.setup_format.specs.Setups.{read_of_bytes}
 use Rattle.setup_format.specs.Views.{CallView, ReadView}
 use Rattle.setup_report.specs.Report.{met_count}
 use Rattle.setup_report.specs.Text.{begins_as, expectation_text, reply_text}
+use Rattle.command_check.specs.Program.{replies_to}
+use Rattle.command_files.specs.Files.{tally_of, tally_status}
+use Rattle.command_marks.specs.declared.mark.Mark.{Mark}
 use Rattle.command_marks.specs.declared.mark.Mark.TheVariants.{Right}
-use Rattle.command_marks.specs.Against.{is_same, is_short, mark_by_question}
+use Rattle.command_marks.specs.Against.{is_same, is_short, mark_by_question, marks_by}
+use Rattle.command_marks.specs.Answers.{answers_verdict, asked_count, right_count}
 use Rattle.command_marks.specs.Differences.{differs_text}
 use Rattle.command_marks.specs.Marks.{mark_of, marks_of, numbers_of}
 
@@ -27,3 +33,24 @@ AreThoseOfTheExercise =
 -- of each set-up that is another one than the exercise a place is named, and not only that it differs
 abbrev pub HasPlaceWhereItDiffers : Type 0
 HasPlaceWhereItDiffers = (exercise read : ReadView) → is_same exercise.setup read.setup ≡ false → differs_text exercise read ≢ codes "differs"
+
+-- the marks of a set-up's run by the questions of an exercise
+abbrev pub marks_between : ReadView → ReadView → List Mark
+marks_between exercise read = marks_by exercise.setup.calls read.setup.calls (replies_to read.setup.profile read.setup)
+
+-- a file is read as the exercise's set-up, and all that is asked is right
+pub record IsAllRight (exercise : List ℕ) (contents : Option (List ℕ)) : Type 0 where
+  pub bytes : List ℕ
+  pub contents_are : contents ≡ Some bytes
+  pub asked : ReadView
+  pub exercise_is : read_of_bytes exercise ≡ Ok asked
+  pub given : ReadView
+  pub file_is : read_of_bytes bytes ≡ Ok given
+  pub same : is_same asked.setup given.setup ≡ true
+  pub right : right_count (marks_between asked given) ≡ asked_count (marks_between asked given)
+
+-- `marks --of` ends with status 0 exactly where each file is such a one
+abbrev pub EndsByTheMarks : Type 0
+EndsByTheMarks =
+    (exercise : List ℕ) (files : List (Option (List ℕ)))
+    → (tally_status (tally_of (answers_verdict exercise) files) ≡ 0) ↔ All (IsAllRight exercise) files

@@ -12,6 +12,7 @@ use Rattle.command_check.specs.Program.{replies_to}
 use Rattle.command_core.specs.declared.fault.RunFault.{RunFault}
 use Rattle.command_core.specs.declared.sink.Sink.{Ghosts as SinkGhosts}
 use Rattle.command_files.specs.Files.{IsToldOf, told_text}
+use Rattle.command_files.specs.Strict.{check_verdict}
 use Rattle.command_files.specs.declared.tally.Tally.{Tally}
 use Rattle.command_marks.specs.declared.mark.Mark.{Mark}
 use Rattle.command_marks.specs.declared.mark.Mark.TheVariants.{Open, Wrong}
@@ -71,8 +72,8 @@ abbrev pub head : List ℕ
 head = codes "file,right,of,wrong,open,note\n"
 
 abbrev pub table_text : List (List ℕ) → List (Option (List ℕ)) → List ℕ
-table_text = told_text false head row (λ files tally. [])
+table_text = told_text (check_verdict false) head row (λ files tally. [])
 
--- a run of `marks` over several files
+-- a run of `marks` over several files; its status is that of `check`
 abbrev pub IsMarksOf : {K : Type 0} → (List ℕ → Option (List ℕ) → Type 0) → SinkGhosts K → List (List ℕ) → K → K → Result Tally RunFault → Type 0
-IsMarksOf = IsToldOf false table_text
+IsMarksOf = IsToldOf (check_verdict false) table_text

@@ -16,8 +16,8 @@ use crate::mark::{Mark, is_mark, numbers_of};
 use crate::table::ListText;
 use cap_core::{Narrow, Profile, ProfileName, Wide};
 use command_check::{CountedText, run_calls};
-use command_core::{Notes, RunFault, Sink};
-use command_files::{Inputs, Listener, Tally, Telling, tell_files};
+use command_core::{Notes, RunFault, Sink, Verdict};
+use command_files::{FileAnswer, Inputs, Listener, Tally, Telling, tell_files};
 use ipc_core::{LinkedWaiters, MakeWaiters};
 use kernel_core::Reply;
 use setup_format::{ReadSetup, SetupFault, read};
@@ -75,6 +75,17 @@ fn cells(alloc: Global, marks: &[Mark]) -> Result<Vec<u8>, AllocError>
     Ok(out.into_bytes())
 }
 
+/// The verdict on the marks of a file's answers.
+fn marks_verdict(marks: &[Mark]) -> Verdict
+    ensures { result ≡ spec.marks_verdict marks.now }
+{
+    if right_count(marks) == asked_count(marks) {
+        Verdict::AllMet
+    } else {
+        Verdict::NotMet
+    }
+}
+
 /// What stands behind the name of a file whose set-up is another one.
 fn differing_cells(
     alloc: Global,
@@ -88,55 +99,63 @@ fn differing_cells(
     Ok(cells)
 }
 
-/// What stands behind the name of a file whose set-up was run, given the replies to its calls.
+/// What stands behind the name of a file whose set-up was run, given the replies to its calls, and the verdict.
 #[tactic(auto, using(crate::proofs::Same::same_lengths))]
 fn cells_by(
     alloc: Global,
     exercise: Option<&ReadSetup>,
     read: &ReadSetup,
     replies: &[Reply],
-) -> Result<Vec<u8>, AllocError>
+) -> Result<(Vec<u8>, Verdict), AllocError>
     requires { length replies.now ≡ length read.now.setup.calls }
-    ensures { IfOk result (λ text. text.items ≡ spec.cells_by (option_map (λ s. read_view s.now) exercise.entry) (read_view read.now) replies.now) }
+    ensures cells { IfOk result (λ made. made.0.items ≡ spec.cells_by (option_map (λ s. read_view s.now) exercise.entry) (read_view read.now) replies.now) }
+    ensures verdict { IfOk result (λ made. made.1 ≡ spec.verdict_by (option_map (λ s. read_view s.now) exercise.entry) (read_view read.now) replies.now) }
 {
     let Some(exercise) = exercise else {
-        return Vec::from_slice(alloc, EXERCISE_REFUSED);
+        let cells = Vec::from_slice(alloc, EXERCISE_REFUSED)?;
+        return Ok((cells, Verdict::Refused));
     };
     if !is_same(&exercise.setup, &read.setup) {
-        return differing_cells(alloc, exercise, read);
+        let cells = differing_cells(alloc, exercise, read)?;
+        return Ok((cells, Verdict::NotMet));
     }
     let marks = marks_by(alloc, &exercise.setup, &read.setup, replies)?;
-    cells(alloc, marks.as_slice())
+    let cells = cells(alloc, marks.as_slice())?;
+    Ok((cells, marks_verdict(marks.as_slice())))
 }
 
-/// Runs the set-up in a profile: what stands behind the name of its file, and how many of its expectations are met.
+/// Runs the set-up in a profile: what stands behind the name of its file, how many of its expectations are met, and the verdict.
 #[tactic(auto, using(crate::proofs::Sequences::replies_length))]
 fn run_setup<P: Profile, S: MakeStore<P>, W: MakeWaiters<P>>(
     alloc: Global,
     exercise: Option<&ReadSetup>,
     read: &ReadSetup,
-) -> Result<CountedText, AllocError>
+) -> Result<FileAnswer, AllocError>
     requires { IsPlan P.profile read.now.setup.plan }
-    ensures text { IfOk result (λ made. made.text.items ≡ spec.answer_cells_in P.profile (option_map (λ s. read_view s.now) exercise.entry) (read_view read.now)) }
-    ensures count { IfOk result (λ made. HasCounts P.profile read.now.setup made.count) }
+    ensures text { IfOk result (λ made. made.told.text.items ≡ spec.answer_cells_in P.profile (option_map (λ s. read_view s.now) exercise.entry) (read_view read.now)) }
+    ensures count { IfOk result (λ made. HasCounts P.profile read.now.setup made.told.count) }
+    ensures verdict { IfOk result (λ made. made.verdict ≡ spec.verdict_by (option_map (λ s. read_view s.now) exercise.entry) (read_view read.now) (replies_to P.profile read.now.setup)) }
 {
     let (_, replies) = run_calls::<P, S, W>(alloc, &read.setup)?;
     let count = expectations(alloc, &read.setup, replies.as_slice())?;
-    Ok(CountedText {
-        text: cells_by(alloc, exercise, read, replies.as_slice())?,
+    let (text, verdict) = cells_by(alloc, exercise, read, replies.as_slice())?;
+    let told = CountedText {
+        text,
         count: Some(count),
         notes: Notes::none(alloc),
-    })
+    };
+    Ok(FileAnswer { told, verdict })
 }
 
-/// What stands behind the name of a file with these bytes, and how many of its expectations are met.
+/// What stands behind the name of a file with these bytes, how many of its expectations are met, and the verdict.
 fn run_bytes(
     alloc: Global,
     exercise: Option<&ReadSetup>,
     bytes: &[u8],
-) -> Result<CountedText, AllocError>
-    ensures text { IfOk result (λ made. made.text.items ≡ spec.answer_cells_for (option_map (λ s. read_view s.now) exercise.entry) (read_of_bytes bytes.now)) }
-    ensures count { IfOk result (λ made. HasCountOf (setup_in (read_of_bytes bytes.now)) made.count) }
+) -> Result<FileAnswer, AllocError>
+    ensures text { IfOk result (λ made. made.told.text.items ≡ spec.answer_cells_for (option_map (λ s. read_view s.now) exercise.entry) (read_of_bytes bytes.now)) }
+    ensures count { IfOk result (λ made. HasCountOf (setup_in (read_of_bytes bytes.now)) made.told.count) }
+    ensures verdict { IfOk result (λ made. made.verdict ≡ spec.verdict_for (option_map (λ s. read_view s.now) exercise.entry) (read_of_bytes bytes.now)) }
 {
     match read(alloc, bytes) {
         Ok(read) => match read.setup.profile() {
@@ -150,10 +169,13 @@ fn run_bytes(
             }
         },
         Err(SetupFault::Memory) => Err(AllocError),
-        Err(_) => Ok(CountedText {
-            text: Vec::from_slice(alloc, REFUSED)?,
-            count: None,
-            notes: Notes::none(alloc),
+        Err(_) => Ok(FileAnswer {
+            told: CountedText {
+                text: Vec::from_slice(alloc, REFUSED)?,
+                count: None,
+                notes: Notes::none(alloc),
+            },
+            verdict: Verdict::Refused,
         }),
     }
 }
@@ -165,7 +187,7 @@ struct Answers<'a> {
 }
 
 impl Telling for Answers<'_> {
-    ghost strict = { λ table. false };
+    ghost verdict = { λ table bytes. spec.verdict_for (option_map (λ s. read_view s.now) table.exercise) (read_of_bytes bytes) };
 
     ghost is_made = { λ table bytes made. made.text.items ≡ spec.answer_cells_for (option_map (λ s. read_view s.now) table.exercise) (read_of_bytes bytes) };
 
@@ -175,12 +197,8 @@ impl Telling for Answers<'_> {
 
     ghost last = { λ table files tally. [] };
 
-    fn is_strict(&self) -> bool {
-        false
-    }
-
     #[tactic(auto, using(crate::proofs::Counted::counted))]
-    fn make(&self, alloc: Global, bytes: &[u8]) -> Result<CountedText, AllocError> {
+    fn make(&self, alloc: Global, bytes: &[u8]) -> Result<FileAnswer, AllocError> {
         run_bytes(alloc, self.exercise, bytes)
     }
 
@@ -231,6 +249,9 @@ fn exercise_in(alloc: Global, bytes: &[u8]) -> Result<Option<ReadSetup>, AllocEr
 /// numbers of the calls whose answers are wrong, say less than is asked for, or are not given. Nothing is marked of a set-up that
 /// is another one in more than what its calls expect; its row says where it differs first. Nothing is marked either where the
 /// exercise is refused.
+///
+/// A file counts as met if it is the exercise's set-up and all that is asked is right, and as refused if its set-up or the exercise is
+/// refused; any other file that was read counts as unmet. What the file itself expects does not count.
 ///
 /// # Errors
 /// As of `mark_files`.

@@ -17,7 +17,7 @@ pub use answers::mark_answers;
 pub use command::Marks;
 pub use laws::{
     another_set_up_has_a_place, answers_are_right_where_they_say_enough,
-    marks_are_those_of_the_report,
+    marks_are_those_of_the_report, status_0_says_that_all_is_right,
 };
 pub use mark::Mark;
 pub use table::mark_files;

@@ -4,6 +4,7 @@ ghost use Rattle.kernel_abstract.specs.Plan.{IsPlan};
 ghost use Rattle.setup_format.specs.Setups.{setup_of_bytes};
 ghost use Rattle.command_check.specs.Program.{HasCounts};
 ghost use Rattle.command_files.specs.Files.{HasCountOf, IsInput};
+ghost use Rattle.command_files.specs.Strict.{check_verdict};
 ghost use Rattle.command_marks.specs.Table as spec;
 
 use crate::field::add_field;
@@ -12,7 +13,7 @@ use crate::marking::{Marked, mark_setup};
 use cap_core::{Narrow, Profile, ProfileName, Wide};
 use command_check::CountedText;
 use command_core::{Notes, RunFault, Sink};
-use command_files::{Inputs, Listener, Tally, Telling, tell_files};
+use command_files::{FileAnswer, Inputs, Listener, Tally, Telling, tell_files};
 use ipc_core::{LinkedWaiters, MakeWaiters};
 use setup_format::{Setup, SetupFault, read_setup};
 use setup_report::NumbersText;
@@ -107,7 +108,7 @@ fn run_bytes(alloc: Global, bytes: &[u8]) -> Result<CountedText, AllocError>
 struct Table;
 
 impl Telling for Table {
-    ghost strict = { λ table. false };
+    ghost verdict = { λ table. check_verdict false };
 
     ghost is_made = { λ table bytes made. made.text.items ≡ spec.cells_for (setup_of_bytes bytes) };
 
@@ -117,12 +118,11 @@ impl Telling for Table {
 
     ghost last = { λ table files tally. [] };
 
-    fn is_strict(&self) -> bool {
-        false
-    }
-
-    fn make(&self, alloc: Global, bytes: &[u8]) -> Result<CountedText, AllocError> {
-        run_bytes(alloc, bytes)
+    #[tactic(auto, using(crate::proofs::Counted::judged))]
+    fn make(&self, alloc: Global, bytes: &[u8]) -> Result<FileAnswer, AllocError> {
+        let told = run_bytes(alloc, bytes)?;
+        let verdict = told.verdict();
+        Ok(FileAnswer { told, verdict })
     }
 
     fn add_head(&self, out: &mut Vec<u8>) -> Result<(), AllocError> {
