@@ -13,7 +13,7 @@ stored = $(setups)/examples/send_then_receive.toml
 # So many set-ups have all their orders made one by one.
 orders = 100
 # The crates whose named wrong bodies CI tries: those that are proved soonest.
-named = cap_core mem_core slot_core cspace_core ipc_core kernel_delete
+named = cap_core mem_core cspace_core kernel_delete
 
 # lists the targets
 help:
