@@ -80,7 +80,8 @@ export class Addresses {
     page.tab = STEPS;
     page.openExample(...FIRST_EXAMPLE);
     page.firstCall = 1;
-    page.setWide(matchMedia(NARROW_WINDOW).matches);
+    page.isFirstView = matchMedia(NARROW_WINDOW).matches;
+    page.setWide(page.isFirstView);
     byId("welcome").hidden = false;
   }
 }

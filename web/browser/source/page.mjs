@@ -69,6 +69,7 @@ class Page {
     this.rules = new Rules(byId("rules"), data.rules);
     this.tab = REPORT;
     this.opened = 0;
+    this.isFirstView = false;
     this.asOpened = "";
     this.firstCall = 0;
     this.shownCall = 0;
@@ -109,6 +110,7 @@ class Page {
   async open(text, name, options = {}, isEdited = false, policy = "") {
     const left = this.isChanged ? this.setup : null;
     byId("welcome").hidden = true;
+    this.endFirstView();
     this.setName(name);
     this.options.reset(options);
     this.editor.text = text;
@@ -272,11 +274,18 @@ class Page {
   }
 
   choose(tab) {
+    this.endFirstView();
     this.tab = tab;
     this.editor.unpoint();
     this.drawChosen();
     this.keep();
     this.run();
+  }
+
+  /** The set-up that the first view hides on a phone is there again. */
+  endFirstView() {
+    if (this.isFirstView) this.setWide(false);
+    this.isFirstView = false;
   }
 
   /** Chooses a tab by its place, and puts the focus there. */

@@ -24,6 +24,7 @@ def welcomed(test, _):
         test.click("#welcome-report")
         test.settle()
         test.wanted(browser.value("document.body.dataset.tab") == "report", "the first line does not lead to the report")
+        test.wanted(browser.value("document.getElementById('editor').offsetParent !== null"), f"at {width} the set-up stays hidden")
     browser.call("Emulation.clearDeviceMetricsOverride")
     test.forget()
     test.click("#welcome-exercise")
