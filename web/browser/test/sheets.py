@@ -159,7 +159,7 @@ def shows_replies(test, name, answers):
         test.wanted(reply == replies_of(name)[number][1], f"{name}: call {number} is told as {reply}")
         test.wanted(has_reason == reply.startswith("refused"), f"{name}: call {number}, {reply}: a reason {has_reason}")
     number = max(answers)
-    browser.value(f"[...document.querySelectorAll('.card')].find((it) => it.value === {number}).querySelector('.link').click()")
+    browser.value(f"[...document.querySelectorAll('.card')].find((it) => it.value === {number}).querySelector('.outcome .link').click()")
     test.until(f"{FRAME}.getElementById('position').textContent.startsWith('call {number} of ')", f"{name}: no way to call {number}")
 
 
