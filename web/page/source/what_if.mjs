@@ -82,8 +82,16 @@ export class WhatIf {
     document.body.toggleAttribute("data-asking", isOpen);
     if (isOpen) {
       this.show(this.view);
+      this.startAt(this.view.named);
       this.operation.focus();
     }
+  }
+
+  /** Begins with the slot that the call before was about, where it named one. */
+  startAt({ source, target, invoked }) {
+    const slot = [source, target, invoked].find((address) => address !== null && address !== undefined);
+    if (slot !== undefined) this.slot.value = String(slot);
+    this.tell();
   }
 
   /** Has the lists show the state of a view, and by which thread the call is made: at first the one that made the last call. */
