@@ -8,7 +8,6 @@ use Rattle.cap_core.specs.declared.profile.ProfileName.TheVariants.{Wide}
 use Rattle.cap_core.specs.declared.rights.Rights.{Rights}
 use Rattle.cap_core.specs.Rights.{write_bit, read_bit, grant_bit, grant_reply_bit}
 use Rattle.setup_values.specs.declared.values.Wrong.{Wrong}
-
 use Rattle.setup_values.specs.Kinds as kinds
 use Rattle.setup_policy.specs.declared.file.Word.{Word}
 use Rattle.setup_policy.specs.declared.file.Word.TheVariants as w

@@ -1,5 +1,6 @@
 //! The file of a policy: what it says, why it is refused, where in its text an entry stands, and what its words mean in a set-up's
-//! state. What it reads is tested, and no clause says what it is.
+//! state. A clause says what the text of a file that is read says; what its words mean, and why it is refused, is tested but for
+//! threads and endpoints.
 #![tactic(auto)]
 
 mod fault;

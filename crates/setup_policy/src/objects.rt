@@ -207,7 +207,8 @@ impl<'a> Objects<'a> {
 
     /// Whether another region, of another size, begins where this one does.
     fn is_one_of_several(self, region: Object) -> bool {
-        self.live.iter().any(|live| live.kind == Kind::Region && live.base == region.base
+        self.live.iter().any(|live| live.kind == Kind::Region
+            && live.base == region.base
             && live.bits != region.bits)
     }
 

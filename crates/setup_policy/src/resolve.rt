@@ -119,12 +119,7 @@ impl<P: Profile, S: CapStore<P> + Drop, W: Waiters<P> + Drop> Resolver<'_, P, S,
         Ok(())
     }
 
-    fn add_group(
-        &self,
-        policy: &mut Policy,
-        group: &GroupEntry,
-        actor: u64,
-    ) -> Result<(), Refusal>
+    fn add_group(&self, policy: &mut Policy, group: &GroupEntry, actor: u64) -> Result<(), Refusal>
         ensures grant { policy.new.grant ≡ policy.old.grant }
         ensures calls { policy.new.calls ≡ policy.old.calls }
     {

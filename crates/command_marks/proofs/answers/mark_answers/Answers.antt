@@ -16,9 +16,9 @@ viewed (Some read) = refl
 pub returns-in-Ok : goal.returns-in-Ok
 returns-in-Ok g c =
     subst (λ (exercise : Option ReadView).
-        IsToldOf (λ bytes. verdict_for exercise (read_of_bytes bytes))
-        (told_text (λ bytes. verdict_for exercise (read_of_bytes bytes)) answer_head (answer_row exercise) (λ files tally. []))
-        (IsInput (g.I.Inputs.is_standard c.args.inputs.now) (g.I.Inputs.is_file c.args.inputs.now) (g.I.Inputs.is_fault c.args.inputs.now) g.I.Standard.Source g.I.File.Source)
-        g.K.Sink (map (λ s. s.now) c.args.names.now) c.args.sink.now c.tell_files.new.sink c.tell_files.result)
+    IsToldOf (λ bytes. verdict_for exercise (read_of_bytes bytes))
+    (told_text (λ bytes. verdict_for exercise (read_of_bytes bytes)) answer_head (answer_row exercise) (λ files tally. []))
+    (IsInput (g.I.Inputs.is_standard c.args.inputs.now) (g.I.Inputs.is_file c.args.inputs.now) (g.I.Inputs.is_fault c.args.inputs.now) g.I.Standard.Source g.I.File.Source)
+    g.K.Sink (map (λ s. s.now) c.args.names.now) c.args.sink.now c.tell_files.new.sink c.tell_files.result)
     (viewed c.as_ref.result ∙ (ap (option_map read_view) c.as_ref.ensures.value ∙ c.in-Ok.ensures))
     c.tell_files.ensures
