@@ -84,7 +84,7 @@ IsWithinProfile p (Untyped base bits free) = IsLawfulUntyped p bits free
 IsWithinProfile p (CNode base radix guard) = IsLawfulNode p radix guard
 IsWithinProfile p _ = ⊤
 
--- a capability other than Null that may stand in a slot of a memory of 2^memory bytes
+-- a capability other than Null that a slot of a memory of 2^memory bytes may hold
 pub record IsLawful (p : ProfileName) (memory : ℕ) (cap : Cap) : Type 0 where
   pub full : is_null cap ≡ false
   pub placed : IsPlaced p memory cap

@@ -22,14 +22,14 @@ abbrev pub IsAuditedAt : Bool → Option ℕ → Option ℕ → ProfileName → 
 IsAuditedAt by_name None after p read text verdict = (text ≡ []) × (verdict ≡ Absent)
 IsAuditedAt by_name (Some slot) after p read text verdict = IsStateAnswer (IsAudited by_name slot) after p read text verdict
 
--- the audit of the slot that a word stands for; nothing, where it stands for none
+-- the audit of the slot that a word means; nothing, if it means none
 abbrev pub IsSlotAudited : List ℕ → Bool → Option ℕ → ProfileName → ReadView → List ℕ → Verdict → Type 0
 IsSlotAudited word by_name after p read text verdict =
     IsAuditedAt by_name (slot_meant p read.names read.setup.plan word) after p read text verdict
 
 -- ---- of a whole state, without the threads that are trusted to make no more calls
 
--- the audit without the threads that some words stand for; nothing, where one stands for no thread
+-- the audit without the threads that some words mean; nothing, if one means no thread
 abbrev pub IsStateAudited : List (List ℕ) → Bool → ProfileName → Names → SetupView → ℕ → State → List ℕ → Verdict → Type 0
 IsStateAudited words by_name p names setup made A text verdict =
     MatchBool (are_meant Thread p names setup.plan (shown A) words)

@@ -38,11 +38,11 @@ pub record NameTheSame (t u : ThreadSlots) : Type 0 where
   pub reached : t.reached.items ≡ u.reached.items
   pub held : t.held.items ≡ u.held.items
 
--- where a thread is told as another one, that one is listed, and both can name the same
+-- if a thread is shown as another one, that one is listed, and both can name the same
 abbrev pub IsToldRight : List ThreadSlots → ThreadSlots → ℕ → Type 0
 IsToldRight list t first = told_as list t ≡ Some first → (u : ThreadSlots) × (Contains list u × ((u.thread ≡ first) × NameTheSame t u))
 
--- of threads that can name the same, and something, one alone is not told as another one
+-- of threads that can name the same, and something, only one is not shown as another one
 abbrev pub IsToldOnce : List ThreadSlots → ThreadSlots → ThreadSlots → Type 0
 IsToldOnce list t u =
     Contains list t → told_as list t ≡ None → told_as list u ≡ None → NameTheSame t u → (length t.reached.items == 0) ≡ false → t.thread ≡ u.thread

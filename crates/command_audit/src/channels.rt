@@ -44,10 +44,6 @@ fn words_of(
 
 /// The words of threads that lead to endpoints' capabilities, each thread's together; of threads that can name just the same,
 /// those of the first one. `filled` has all full slots, as `full_slots` of `query_reach` gives them.
-///
-/// # Errors
-///
-/// Memory was refused.
 pub fn channel_words(
     alloc: Global,
     filled: &[FullSlot],
@@ -140,10 +136,6 @@ fn add_unserved(
 }
 
 /// Adds who can send to whom, and behind that who can receive where no other thread can send.
-///
-/// # Errors
-///
-/// Memory was refused.
 pub fn add_channels(
     alloc: Global,
     out: &mut String,

@@ -105,10 +105,6 @@ fn add_ended<P: Profile, S: CapStore<P> + Drop, W: Waiters<P> + Drop>(
 
 /// The capabilities in full slots of a state that name objects which no slot of a later one names. `old` has the full slots
 /// before, and `left` those of the kernel after.
-///
-/// # Errors
-///
-/// Memory was refused.
 pub fn ended_caps<P: Profile, S: CapStore<P> + Drop, W: Waiters<P> + Drop>(
     alloc: Global,
     old: &[Derivation],
@@ -229,10 +225,6 @@ fn add_regions(
 
 /// Adds a line for each object that capabilities name: threads, endpoints, CNodes and untyped regions, each kind by rising
 /// address.
-///
-/// # Errors
-///
-/// Memory was refused.
 pub fn add_ends(
     alloc: Global,
     out: &mut String,

@@ -12,10 +12,6 @@ use std::fmt::Write;
 
 /// Adds the first line: the version of the audit's form, how large the set-up is, how many of its calls are made, and the
 /// slot that is asked for, where one is.
-///
-/// # Errors
-///
-/// Memory was refused.
 pub fn add_head(
     out: &mut String,
     naming: &Naming<'_>,

@@ -24,10 +24,6 @@ use std::fmt::Write;
 
 /// A kernel of its own that shows the state after a revoke of a full slot, by its address, whether or not a thread can name
 /// it.
-///
-/// # Errors
-///
-/// Memory was refused.
 pub fn revoked<P: Profile, S: MakeStore<P>, W: MakeWaiters<P>>(
     alloc: Global,
     kernel: &Kernel<P, S, W>,
@@ -80,10 +76,6 @@ fn add_lines(
 
 /// Adds what a revoke of a slot does: how many slots it empties, and which objects end. `rows` has the full slots of the
 /// kernel before it, and `new` is the one after it.
-///
-/// # Errors
-///
-/// Memory was refused.
 pub fn add_revoke<P: Profile, S: DerivationStore<P> + Drop, W: Waiters<P> + Drop>(
     alloc: Global,
     out: &mut String,
@@ -161,10 +153,6 @@ fn is_told(trusted: &[u64], others: &[ThreadSlots], slot: u64) -> bool
 }
 
 /// Of the full slots those of which a revoke is told.
-///
-/// # Errors
-///
-/// Memory was refused.
 pub fn told_rows<P: Profile>(
     alloc: Global,
     trusted: &[u64],
@@ -180,10 +168,6 @@ pub fn told_rows<P: Profile>(
 }
 
 /// Adds what a revoke of each of some full slots with children would do. `rows` has all full slots.
-///
-/// # Errors
-///
-/// Memory was refused.
 pub fn add_revokes<P: Profile, S: MakeStore<P> + DerivationStore<P>, W: MakeWaiters<P>>(
     alloc: Global,
     out: &mut String,

@@ -38,10 +38,6 @@ pub struct Heading<'a> {
 /// The audit of a kernel's state: the names by which it was spelt, who is trusted, what each other live thread can name, who of
 /// them can send to whom, and what a revoke of each full slot with children would do; where threads are trusted, of each that one
 /// of the others can name.
-///
-/// # Errors
-///
-/// Memory was refused.
 pub fn whole_audit<P: Profile, S: MakeStore<P> + DerivationStore<P>, W: MakeWaiters<P>>(
     alloc: Global,
     heading: Heading<'_>,
@@ -82,10 +78,6 @@ pub fn whole_audit<P: Profile, S: MakeStore<P> + DerivationStore<P>, W: MakeWait
 
 /// What a revoke of one full slot, by its address, would do to a kernel's state behind so many calls of a set-up, with all
 /// that it would change.
-///
-/// # Errors
-///
-/// Memory was refused.
 pub fn audit_of_slot<P: Profile, S: MakeStore<P> + DerivationStore<P>, W: MakeWaiters<P>>(
     alloc: Global,
     naming: &Naming<'_>,

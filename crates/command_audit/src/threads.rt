@@ -70,10 +70,6 @@ pub fn can_name(thread: &ThreadSlots, slot: u64) -> bool
 }
 
 /// What each of some threads can name. `filled` has all full slots, as `full_slots` of `query_reach` gives them.
-///
-/// # Errors
-///
-/// Memory was refused.
 pub fn thread_slots<P: Profile>(
     alloc: Global,
     filled: &[FullSlot],
@@ -202,10 +198,6 @@ fn add_one<P: Profile, S: CapStore<P> + Drop, W: Waiters<P> + Drop>(
 
 /// Adds what threads do, and below each thread a line for each full slot that it can name, or one that says which of them can
 /// name just that.
-///
-/// # Errors
-///
-/// Memory was refused.
 pub fn add_threads<P: Profile, S: CapStore<P> + Drop, W: Waiters<P> + Drop>(
     out: &mut String,
     naming: &Naming<'_>,
@@ -222,10 +214,6 @@ pub fn add_threads<P: Profile, S: CapStore<P> + Drop, W: Waiters<P> + Drop>(
 }
 
 /// Adds what the names are the addresses of, and a line for each trusted thread.
-///
-/// # Errors
-///
-/// Memory was refused.
 pub fn add_opening(
     out: &mut String,
     names: &[Name],
@@ -267,10 +255,6 @@ fn is_in(list: &[u64], number: u64) -> bool
 }
 
 /// The live threads that are not trusted.
-///
-/// # Errors
-///
-/// Memory was refused.
 pub fn others(
     alloc: Global,
     threads: &BTreeSet<u64>,

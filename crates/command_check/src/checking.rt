@@ -7,16 +7,12 @@ ghost use Rattle.command_core.specs.Runs.{IsRun};
 
 use crate::run::{CountedText, counted_text_of, text_of};
 use cap_core::{Narrow, Wide};
-use command_core::{Answer, Engine, Found, RunFault, Sink, Source, run_engine};
+use command_core::{Answer, Engine, RunFault, Sink, Source, Verdict, run_engine};
 use ipc_core::LinkedWaiters;
 use slot_core::LinkedStore;
 use std::alloc::{AllocError, Global};
 
 /// The text that is written for the bytes of an input, and the count of the expectations, by the linked forms.
-///
-/// # Errors
-///
-/// Memory was refused.
 pub fn checked_text(alloc: Global, bytes: &[u8]) -> Result<CountedText, AllocError>
     ensures text { IfOk result (IsTextOfSetup (setup_of_bytes bytes.now)) }
     ensures refused { IfOk result (λ made. made.notes.refused.items ≡ unexpected_in (setup_of_bytes bytes.now)) }
@@ -35,6 +31,8 @@ pub struct Checker;
 
 impl Engine for Checker {
     ghost means = { λ checker input text verdict. program input ≡ (text, verdict) };
+
+    ghost tells = { λ checker input notes. notes.refused.items ≡ unexpected_in (setup_of_bytes input) };
 
     fn make(&self, alloc: Global, input: &[u8]) -> Result<Answer, RunFault> {
         text_of::<
@@ -57,12 +55,12 @@ pub fn check<S: Source, K: Sink>(
     alloc: Global,
     source: &mut S,
     sink: &mut K,
-) -> Result<Found, RunFault>
+) -> Result<Verdict, RunFault>
     requires source { S.failed source.old ≡ false }
     requires sink { K.failed sink.old ≡ false }
     ensures run { IsRun (λ input text verdict. program input ≡ (text, verdict))
         S.Source K.Sink source.old source.new sink.old sink.new result }
     ensures never_thread { result ≢ Err RunFault.Thread }
 {
-    run_engine(alloc, &Checker, source, sink)
+    run_engine(alloc, &Checker, source, sink).map(|found| found.verdict)
 }

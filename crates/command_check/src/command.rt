@@ -23,10 +23,6 @@ pub trait Command {
 
     /// The text that is to be written of the set-up, the verdict, and what standard error tells. A kernel that it boots can be of
     /// these stores.
-    ///
-    /// # Errors
-    ///
-    /// Memory was refused.
     fn answer<P: Profile, S: SaveStore<P> + DerivationStore<P>, W: SaveWaiters<P>>(
         &self,
         alloc: Global,

@@ -6,6 +6,7 @@ mod checking;
 mod command;
 mod migrating;
 mod notes;
+mod numbers;
 mod run;
 mod state;
 
@@ -13,9 +14,10 @@ pub use checking::{Checker, check, checked_text};
 pub use command::{Command, OnSetup};
 pub use command_core::{
     Answer, CallNote, DeviceFault, Engine, Found, INPUT_LIMIT, Notes, ReaderSource, RunFault, Sink,
-    Source, Verdict, WriterSink, read_below, run_engine, status_of, write_all,
+    Source, Verdict, WriterSink, read_below, run_engine, status_of, status_of_found, write_all,
 };
-pub use migrating::{Migrator, table_text};
+pub use migrating::{Migrator, migrate_run, table_text};
 pub use notes::{add_unmet, notes_on, unmet_calls};
+pub use numbers::{expected_of, number_at, numbers_of_clients};
 pub use run::{CountedText, counted_text_of, refused, run_calls, run_setup, text_of, verdict_on};
 pub use state::{Behind, OnState, StateCommand};

@@ -1,11 +1,12 @@
 //! The engine that writes a set-up of format 1 as one of format 2.
-ghost use Rattle.std.specs.Prelude.{◌≡◌, IfOk, Ok};
+ghost use Rattle.std.specs.Prelude.{◌≡◌, ◌≢◌, false, IfOk, Ok};
 ghost use Rattle.toml.specs.View.{table_view};
 ghost use Rattle.setup_format.specs.Setups.{document_of};
 ghost use Rattle.command_check.specs.Migrations.{IsMigration};
+ghost use Rattle.command_core.specs.Runs.{IsRun};
 
 use crate::run::refused;
-use command_core::{Answer, Engine, RunFault, Verdict};
+use command_core::{Answer, Engine, RunFault, Sink, Source, Verdict, run_engine};
 use setup_format::SetupFault;
 use setup_migrate::migrate;
 use setup_values::table_is_within;
@@ -59,4 +60,24 @@ impl Engine for Migrator {
     fn make(&self, alloc: Global, input: &[u8]) -> Result<Answer, RunFault> {
         migration_of(alloc, input).map_err(|_| RunFault::Memory)
     }
+}
+
+/// Reads the source to its end, and writes to the sink the set-up of format 2 that stands for the one of format 1 that it holds, or
+/// the line of a refusal.
+///
+/// # Errors
+/// `Reading` where a read failed in this call, or where `INPUT_LIMIT` bytes came without an end; nothing is written
+/// then. `Writing` where a write failed or took no byte; a front of the text was written then. `Memory`; nothing is
+/// written then.
+pub fn migrate_run<S: Source, K: Sink>(
+    alloc: Global,
+    source: &mut S,
+    sink: &mut K,
+) -> Result<Verdict, RunFault>
+    requires source { S.failed source.old ≡ false }
+    requires sink { K.failed sink.old ≡ false }
+    ensures run { IsRun IsMigration S.Source K.Sink source.old source.new sink.old sink.new result }
+    ensures never_thread { result ≢ Err RunFault.Thread }
+{
+    run_engine(alloc, &Migrator, source, sink).map(|found| found.verdict)
 }

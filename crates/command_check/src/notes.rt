@@ -56,10 +56,6 @@ fn is_met(shown: &str, expected: &str) -> bool
 }
 
 /// Adds what is told of a call, where its reply is not the expected one. Of an expectation that asks nothing is told.
-///
-/// # Errors
-///
-/// Memory was refused.
 pub fn add_unmet(
     alloc: Global,
     unmet: &mut Vec<CallNote>,
@@ -82,10 +78,6 @@ pub fn add_unmet(
 }
 
 /// The calls of a set-up whose expectation is not met, given the reply to each and the count of their expectations.
-///
-/// # Errors
-///
-/// Memory was refused.
 pub fn unmet_calls(
     alloc: Global,
     setup: &Setup,
@@ -119,10 +111,6 @@ fn asking_calls(alloc: Global, setup: &Setup) -> Result<Vec<usize>, AllocError> 
 
 /// What standard error tells of the calls of a set-up, given the reply to each and the count of their expectations: which were
 /// refused where nothing was expected, whose expectation is not met, and which ask what the reply is.
-///
-/// # Errors
-///
-/// Memory was refused.
 pub fn notes_on(
     alloc: Global,
     setup: &Setup,

@@ -71,10 +71,6 @@ fn boot<P: Profile, S: MakeStore<P>, W: MakeWaiters<P>>(
 }
 
 /// Boots a kernel from the set-up's plan and makes its calls: the kernel then, and the replies.
-///
-/// # Errors
-///
-/// Memory was refused.
 #[inline(never)]
 #[tactic(auto, unfolding(crate::specs::Program::replies_to, crate::specs::Program::end_state))]
 pub fn run_calls<P: Profile, S: MakeStore<P>, W: MakeWaiters<P>>(
@@ -149,10 +145,6 @@ pub fn refused(alloc: Global, fault: &SetupFault) -> Result<Answer, AllocError>
 /// The text that the program writes for the bytes of its input, and the count of the expectations. The kernel has the words
 /// of the set-up's profile: `S` and `W` are the stores of a wide kernel, `T` and `V` those of a narrow one. The text is the
 /// same whatever stores it is made of.
-///
-/// # Errors
-///
-/// Memory was refused.
 pub fn counted_text_of<
     S: MakeStore<Wide> + DerivationStore<Wide>,
     W: MakeWaiters<Wide>,
@@ -177,10 +169,6 @@ pub fn counted_text_of<
 }
 
 /// The text that the program writes for the bytes of its input, and the verdict, as `counted_text_of` gives them.
-///
-/// # Errors
-///
-/// Memory was refused.
 pub fn text_of<
     S: MakeStore<Wide> + DerivationStore<Wide>,
     W: MakeWaiters<Wide>,

@@ -42,10 +42,6 @@ pub trait StateCommand {
     ghost answers: { Self → ProfileName → Names → SetupView → ℕ → State → List ℕ → Verdict → Type 0 };
 
     /// The text that is to be written, by the kernel that the first calls led to, the verdict, and what standard error tells.
-    ///
-    /// # Errors
-    ///
-    /// Memory was refused.
     fn answer<P: Profile, S: MakeStore<P> + DerivationStore<P>, W: MakeWaiters<P>>(
         &self,
         alloc: Global,

@@ -1,6 +1,5 @@
 -- The program's exit status after a run, and what it says of a fault.
 use Rattle.std.specs.Prelude.{ℕ, List, codes, Result, Ok, Err}
-use Rattle.command_core.specs.declared.answer.Found.{Found}
 use Rattle.command_core.specs.declared.fault.Verdict.{Verdict}
 use Rattle.command_core.specs.declared.fault.Verdict.TheVariants.{AllMet, NotMet, Refused, Absent}
 use Rattle.command_core.specs.declared.fault.RunFault.{RunFault}
@@ -14,8 +13,8 @@ verdict_status Refused = 2
 verdict_status Absent = 4
 
 -- the exit status of a run
-abbrev pub run_status : Result Found RunFault → ℕ
-run_status (Ok found) = verdict_status found.verdict
+abbrev pub run_status : Result Verdict RunFault → ℕ
+run_status (Ok verdict) = verdict_status verdict
 run_status (Err fault) = 3
 
 -- the text of a fault of a run

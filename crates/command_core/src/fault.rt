@@ -1,5 +1,6 @@
 //! How a run of the program ends.
 ghost use Rattle.std.specs.Prelude.{◌≡◌};
+ghost use Rattle.command_core.specs.Runs.{verdict_of};
 ghost use Rattle.command_core.specs.Statuses.{run_status};
 
 use crate::answer::Found;
@@ -66,8 +67,18 @@ impl RunFault {
 }
 
 /// The program's exit status: that of the verdict, 3 after a fault.
-pub fn status_of(answer: &Result<Found, RunFault>) -> u8
+pub fn status_of(answer: &Result<Verdict, RunFault>) -> u8
     ensures { result ≡ run_status answer.now }
+{
+    match answer {
+        Ok(verdict) => verdict.status(),
+        Err(_) => 3,
+    }
+}
+
+/// The program's exit status by what a run found: that of its verdict, 3 after a fault.
+pub fn status_of_found(answer: &Result<Found, RunFault>) -> u8
+    ensures { result ≡ run_status (verdict_of answer.now) }
 {
     match answer {
         Ok(found) => found.verdict.status(),

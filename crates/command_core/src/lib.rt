@@ -15,7 +15,7 @@ mod streams;
 pub use answer::{Answer, CallNote, Found, Notes, PolicyNote};
 pub use device::DeviceFault;
 pub use engines::{Engine, run_engine};
-pub use fault::{RunFault, Verdict, status_of};
+pub use fault::{RunFault, Verdict, status_of, status_of_found};
 pub use kept::{KeptReader, KeptWriter};
 pub use limits::{INPUT_LIMIT, limit_is_that_of_the_definitions};
 pub use sink::{Sink, WriterSink};

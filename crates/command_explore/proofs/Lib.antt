@@ -10,4 +10,3 @@ pub mod Entries
 pub mod NoLonger
 pub mod Limits
 pub mod Replay
-pub mod Numbered

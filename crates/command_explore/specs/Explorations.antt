@@ -18,7 +18,7 @@ with_verdict report = (report.0, explore_verdict report.1)
 unfoldable pub explored_in : Bool → ProfileName → Names → ℕ → ℕ → SetupView → List ℕ × Verdict
 explored_in by_name p names first states setup = with_verdict (explored_report by_name p names setup first states)
 
--- a text and a verdict are the report on every order of a set-up's calls; where `by_name` says so, threads and endpoints are told
+-- a text and a verdict are the report on every order of a set-up's calls; if `by_name` says so, threads and endpoints are written
 -- by their names
 abbrev pub IsExploration : ℕ → ℕ → Bool → ProfileName → ReadView → List ℕ → Verdict → Type 0
 IsExploration first states by_name p read text verdict = (text, verdict) ≡ explored_in by_name p read.names first states read.setup

@@ -11,7 +11,7 @@ mod witnessing;
 pub use exploring::{Explore, ExploreOptions};
 pub use groups::ExploreGroups;
 pub use report::{
-    AnswerText, ExploredText, Witness, calls_of_clients, expected_of, explored_report,
-    first_clients, groups_report, make_witness, number_at, numbers_of_clients,
+    AnswerText, ExploredText, Witness, calls_of_clients, explored_report, first_clients,
+    groups_report, make_witness,
 };
 pub use witnessing::WriteWitness;

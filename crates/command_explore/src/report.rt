@@ -22,8 +22,6 @@ pub use answers::AnswerText;
 pub use clients::{calls_of_clients, first_clients};
 pub use groups::groups_report;
 pub use making::make_witness;
-pub use numbers::{number_at, numbers_of_clients};
 pub use run::{ExploredText, explored_report};
 pub use tables::copy_of_table;
-pub use unmet::expected_of;
 pub use witness::Witness;

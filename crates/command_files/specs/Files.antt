@@ -89,7 +89,7 @@ lines_of line (name ∷ names) (contents ∷ files) = line name contents ++ line
 
 -- ---- the summary
 
--- the exit status of a file alone: a read fails, or it is that of the verdict on its bytes
+-- the exit status of a single file: a read fails, or it is that of the verdict on its bytes
 abbrev pub status_alone : (List ℕ → Verdict) → Option (List ℕ) → ℕ
 status_alone verdict None = run_status (Err Reading)
 status_alone verdict (Some bytes) = verdict_status (verdict bytes)

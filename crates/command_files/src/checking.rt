@@ -1,6 +1,7 @@
 //! The check of several files.
 ghost use Rattle.std.specs.Prelude.{◌≡◌, [], false, map};
 ghost use Rattle.setup_format.specs.Setups.{setup_of_bytes};
+ghost use Rattle.command_check.specs.Notes.{unexpected_in};
 ghost use Rattle.command_check.specs.Program.{IsTextOfSetup};
 ghost use Rattle.command_files.specs.Files.{IsCheckOf, IsInput, file_line, tally_line};
 ghost use Rattle.command_files.specs.Strict.{check_verdict};
@@ -24,6 +25,8 @@ impl Telling for Summary {
     ghost verdict = { λ summary. check_verdict summary.strict };
 
     ghost is_made = { λ summary bytes made. IsTextOfSetup (setup_of_bytes bytes) made };
+
+    ghost tells = { λ summary bytes notes. notes.refused.items ≡ unexpected_in (setup_of_bytes bytes) };
 
     ghost head = { λ summary. [] };
 

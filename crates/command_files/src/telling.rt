@@ -44,6 +44,7 @@ pub trait Telling {
     ghost use Rattle.std.specs.Prelude.{◌≡◌, ◌++◌, ℕ, List, Option, option_map, IfOk, OnOk};
     ghost use Rattle.setup_format.specs.Setups.{setup_of_bytes};
     ghost use Rattle.command_check.specs.declared.run.CountedText.{CountedText};
+    ghost use Rattle.command_core.specs.declared.answer.Notes.{Notes};
     ghost use Rattle.command_core.specs.declared.fault.Verdict.{Verdict};
     ghost use Rattle.command_files.specs.declared.tally.Tally.{Tally};
     ghost use Rattle.command_files.specs.Files.{HasCountOf, IsFoundFile};
@@ -53,6 +54,9 @@ pub trait Telling {
 
     /// It is what is made of these bytes.
     ghost is_made: { Self → List ℕ → CountedText → Type 0 };
+
+    /// Standard error tells this of a file with these bytes.
+    ghost tells: { Self → List ℕ → Notes → Type 0 } = { λ _ _ _. Unit {0} };
 
     /// What stands before the lines.
     ghost head: { Self → List ℕ };
@@ -64,28 +68,17 @@ pub trait Telling {
     ghost last: { Self → ℕ → Tally → List ℕ };
 
     /// What is made of the bytes of a file, with the count of its expectations, and the verdict.
-    ///
-    /// # Errors
-    ///
-    /// Memory was refused.
     fn make(&self, alloc: Global, bytes: &[u8]) -> Result<FileAnswer, AllocError>
         ensures made { IfOk result (λ answer. is_made self.now bytes.now answer.told) }
         ensures count { IfOk result (λ answer. HasCountOf (setup_of_bytes bytes.now) answer.told.count) }
-        ensures verdict { IfOk result (λ answer. answer.verdict ≡ verdict self.now bytes.now) };
+        ensures verdict { IfOk result (λ answer. answer.verdict ≡ verdict self.now bytes.now) }
+        ensures tells { IfOk result (λ answer. tells self.now bytes.now answer.told.notes) };
 
     /// Adds what stands before the lines.
-    ///
-    /// # Errors
-    ///
-    /// Memory was refused.
     fn add_head(&self, out: &mut Vec<u8>) -> Result<(), AllocError>
         ensures { OnOk result (out.new.items ≡ out.old.items ++ head self.now) };
 
     /// Adds the line of the file of that name, by what was made of it; where nothing was, it could not be read.
-    ///
-    /// # Errors
-    ///
-    /// Memory was refused.
     fn add_line(
         &self,
         alloc: Global,
@@ -97,10 +90,6 @@ pub trait Telling {
             → out.new.items ≡ out.old.items ++ line self.now name.now contents) };
 
     /// Adds what stands behind the lines.
-    ///
-    /// # Errors
-    ///
-    /// Memory was refused.
     fn add_last(
         &self,
         alloc: Global,

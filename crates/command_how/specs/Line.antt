@@ -17,7 +17,7 @@ happening_text Message = codes "message"
 happening_text Hold = codes "hold"
 happening_text Loss = codes "loss"
 
--- why no calls are told
+-- why no calls are written
 abbrev pub answer_text : NoWitness → List ℕ
 answer_text Excluded = codes "excluded"
 answer_text ExcludedByFlow = codes "excluded by flow"

@@ -19,21 +19,41 @@ use ipc_core::{MakeWaiters, Waiters};
 use kernel_core::Kernel;
 use query_parts::{Parts, PartsFault};
 use setup_format::Setup;
+use setup_marks::is_for_flows;
 use setup_report::{ObjectKind, StateRows, are_meant, object_meant, state_rows};
 use setup_values::Name;
 use slot_core::{CapStore, DerivationStore, MakeStore};
 use std::alloc::{AllocError, Global};
 
 /// How many copies of the kernel are tried where no number is given.
-pub const STATES: u64 = 2_000;
+const STATES: u64 = 2_000;
+
+/// How many copies of the kernel are tried, by the number that is given.
+pub fn most_of(states: Option<u64>) -> u64
+    ensures { result ≡ spec.most_of states }
+{
+    states.unwrap_or(STATES)
+}
+
+/// Why no calls are looked for in a set-up of `import --flows`: a thread uses there what no call of it can name.
+pub fn flows_absent(alloc: Global) -> Result<Answer, AllocError>
+    ensures { IfOk result (λ made. spec.IsNothing made.text.items made.verdict) }
+{
+    let absent = String::from_str(
+        alloc,
+        "--how: made by import --flows: no calls are looked for; audit --never has the chain",
+    )?;
+    Ok(Answer::absent(alloc, absent))
+}
 
 /// What is asked behind the first calls of a set-up: whether it can happen from the thread `from` to the thread `to`; by messages but by the endpoints `by`, with a badge where one is given; where the threads `without` make no more calls; and
 /// by so many copies of the kernel at most. Each thread and each endpoint is given by its address, by its name, or by a slot of the
 /// root CNode (`object_meant`).
 ///
 /// The verdict is `AllMet` where the text is a witness: a set-up that makes the first calls, then others that show it, and meets all
-/// that it expects; `NotMet` with a line where it is excluded, or no calls are found; or `Absent` with nothing written: where a word stands for nothing of its kind, where no thread is live at `from` or at `to`, and where both
-/// are one.
+/// that it expects; `NotMet` with a line where it is excluded, or no calls are found; or `Absent` with nothing written: where
+/// `import --flows` made the set-up, where a word stands for nothing of its kind, where no thread is live at `from` or at `to`, and
+/// where both are one.
 #[derive(Clone, Copy, Drop)]
 pub struct How<'a> {
     pub what: Happening,
@@ -106,7 +126,7 @@ impl How<'_> {
             memory: parts.memory.as_slice(),
             without: without.as_slice(),
         };
-        let most = self.states.unwrap_or(STATES);
+        let most = most_of(self.states);
         let (text, verdict) = told::<P, S, W>(alloc, behind, kernel, &asked, most)?;
         Ok(Answer::new(alloc, text, verdict))
     }
@@ -233,6 +253,9 @@ impl How<'_> {
         ensures { IfOk result (λ answer. spec.IsHowBy (spec.how_words self.now) P.profile (names_view behind.now.names.now) behind.now.setup.now behind.now.made
             kernel.now answer.text.items answer.verdict) }
     {
+        if is_for_flows(behind.names) {
+            return flows_absent(alloc);
+        }
         if self.has_asked::<P, S, W>(behind.names, behind.setup, kernel) {
             self.answer_meant::<P, S, W>(alloc, behind, kernel)
         } else {

@@ -8,7 +8,7 @@ mod line;
 mod table;
 mod telling;
 
-pub use asking::{How, STATES};
+pub use asking::{How, flows_absent, most_of};
 pub use command_how_witness::Happening;
 pub use line::NoWitness;
 pub use telling::{Outcome, outcome_of};

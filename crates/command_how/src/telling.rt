@@ -102,7 +102,7 @@ fn tested<P: Profile, S: MakeStore<P> + DerivationStore<P>, W: MakeWaiters<P>>(
 ) -> Result<Outcome, AllocError>
     requires plan { IsPlan P.profile behind.now.setup.now.plan }
     requires made { behind.now.made ≤ length behind.now.setup.now.calls }
-    ensures { IfOk result (spec.IsFound P.profile (asking_of asked.now) behind.now.setup.now behind.now.made) }
+    ensures { IfOk result (λ outcome. (most : ℕ) → spec.IsFound P.profile (asking_of asked.now) most behind.now.setup.now behind.now.made outcome) }
 {
     let (setup, made) = (behind.setup, behind.made);
     if is_witness_text::<P, S, W>(alloc, text.as_slice(), setup, made, asked)? {
@@ -123,12 +123,13 @@ fn sought<P: Profile, S: MakeStore<P> + DerivationStore<P>, W: MakeWaiters<P>>(
     requires plan { IsPlan P.profile behind.now.setup.now.plan }
     requires made { behind.now.made ≤ length behind.now.setup.now.calls }
     requires memory { (memory : ℕ) × IsInMemory P.profile memory kernel.now }
-    ensures { IfOk result (spec.IsFound P.profile (asking_of asked.now) behind.now.setup.now behind.now.made) }
+    ensures { IfOk result (spec.IsFound P.profile (asking_of asked.now) most behind.now.setup.now behind.now.made) }
 {
     match find::<P, S, W>(alloc, kernel, asked, most)? {
         Found::Calls(found) => {
             let text = text_of::<P, S, W>(alloc, behind, kernel, asked, found)?;
-            tested::<P, S, W>(alloc, behind, asked, text)
+            let outcome = tested::<P, S, W>(alloc, behind, asked, text)?;
+            Ok(outcome)
         }
         Found::None => Ok(Outcome::Without(NoWitness::NotFound)),
         Found::Limit => Ok(Outcome::Without(NoWitness::NotFoundOf(most))),
@@ -146,7 +147,7 @@ fn sought_unless_flow<P: Profile, S: MakeStore<P> + DerivationStore<P>, W: MakeW
     requires plan { IsPlan P.profile behind.now.setup.now.plan }
     requires made { behind.now.made ≤ length behind.now.setup.now.calls }
     requires memory { (memory : ℕ) × IsInMemory P.profile memory kernel.now }
-    ensures { IfOk result (spec.IsFoundUnlessFlow P.profile (asking_of asked.now) kernel.now behind.now.setup.now behind.now.made) }
+    ensures { IfOk result (spec.IsFoundUnlessFlow P.profile (asking_of asked.now) most kernel.now behind.now.setup.now behind.now.made) }
 {
     if is_excluded_by_flow::<P, S, W>(alloc, kernel, asked)? {
         return Ok(Outcome::Without(NoWitness::ExcludedByFlow));
@@ -174,10 +175,6 @@ fn excludes<P: Profile, S: MakeStore<P> + DerivationStore<P>, W: MakeWaiters<P>>
 }
 
 /// What comes of a question of two threads, by so many copies of the kernel at most.
-///
-/// # Errors
-///
-/// Memory was refused.
 pub fn outcome_of<P: Profile, S: MakeStore<P> + DerivationStore<P>, W: MakeWaiters<P>>(
     alloc: Global,
     behind: &Behind<'_>,
@@ -189,7 +186,7 @@ pub fn outcome_of<P: Profile, S: MakeStore<P> + DerivationStore<P>, W: MakeWaite
     requires made { behind.now.made ≤ length behind.now.setup.now.calls }
     requires memory { (memory : ℕ) × IsInMemory P.profile memory kernel.now }
     ensures { IfOk result (λ outcome. (uses : List PartUseOf) → AreRightParts P.profile kernel.now asked.now.without.now asked.now.memory.now uses
-        → spec.IsOutcome P.profile (asking_of asked.now) uses kernel.now behind.now.setup.now behind.now.made outcome) }
+        → spec.IsOutcome P.profile (asking_of asked.now) most uses kernel.now behind.now.setup.now behind.now.made outcome) }
 {
     if excludes::<P, S, W>(alloc, kernel, asked)? {
         return Ok(Outcome::Without(NoWitness::Excluded));
@@ -210,7 +207,7 @@ pub fn told<P: Profile, S: MakeStore<P> + DerivationStore<P>, W: MakeWaiters<P>>
     requires made { behind.now.made ≤ length behind.now.setup.now.calls }
     requires memory { (memory : ℕ) × IsInMemory P.profile memory kernel.now }
     ensures { IfOk result (λ answer. (uses : List PartUseOf) → AreRightParts P.profile kernel.now asked.now.without.now asked.now.memory.now uses
-        → spec.IsHowTold P.profile (names_view behind.now.names.now) (asking_of asked.now) uses kernel.now behind.now.setup.now behind.now.made answer.0.items answer.1) }
+        → spec.IsHowTold P.profile (names_view behind.now.names.now) (asking_of asked.now) most uses kernel.now behind.now.setup.now behind.now.made answer.0.items answer.1) }
 {
     match outcome_of::<P, S, W>(alloc, behind, kernel, asked, most)? {
         Outcome::Witness(text) => Ok((text, Verdict::AllMet)),

@@ -97,8 +97,8 @@ pub record TakesFrom (memory : List PartMemory) (v : Shown) (from to : ℕ) : Ty
   pub from_in : part_at memory from ≡ Some part
   pub lost : MayLose memory v part (part_at memory to)
 
--- it is not ruled out: of a message where `--never` says that it is possible; of a hold where both lie in one part; of a loss where the one lies in a part,
--- and the other in none, in this one, or in one of which a full slot stands below one of this one's
+-- it is not ruled out: of a message if `--never` says that it is possible; of a hold if both lie in one part; of a loss if the one lies in a part, and the
+-- other in none, in this one, or in one of which a full slot is below one of this one's
 abbrev pub IsInside : ProfileName → Asking → Shown → Happening → Type 0
 IsInside p q v Message = IsNeverSaid p q v Possible
 IsInside p q v Hold = SharesPart q.memory q.from q.to

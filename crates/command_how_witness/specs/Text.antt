@@ -1,5 +1,5 @@
 -- A text that is a witness: what it is read as.
-use Rattle.std.specs.Prelude.{◌≡◌, ◌≤◌, ℕ, nat_le, List, map, take, drop, length, slice_get, is_some, Ok, Some}
+use Rattle.std.specs.Prelude.{◌≡◌, ◌≤◌, ℕ, nat_le, Bool, cond, List, map, take, drop, length, slice_get, Ok, Option, Some, None}
 use Rattle.cap_core.specs.declared.profile.ProfileName.{ProfileName}
 use Rattle.kernel_abstract.specs.declared.call.Call.{Call}
 use Rattle.kernel_abstract.specs.declared.call.Reply.{Reply}
@@ -9,6 +9,7 @@ use Rattle.setup_format.specs.Views.{SetupView, CallView}
 use Rattle.setup_format.specs.Setups.{setup_of_bytes}
 use Rattle.setup_report.specs.Behind.{state_behind}
 use Rattle.setup_report.specs.Report.{met_count, expectation_count}
+use Rattle.setup_report.specs.Text.{reply_text}
 use Rattle.command_how_witness.specs.Witness.{Asking, IsShown}
 
 abbrev pub witness_calls : SetupView → List Call
@@ -30,9 +31,15 @@ pub record BeginsAs (setup other : SetupView) (made : ℕ) : Type 0 where
   pub plan : setup.plan ≡ other.plan
   pub calls : first_witness_calls made setup ≡ first_witness_calls made other
 
--- the calls behind the first ones have an expectation, and no others
-abbrev pub ExpectLater : ℕ → SetupView → Type 0
-ExpectLater made setup = (i : ℕ) (call : CallView) → slice_get setup.calls i ≡ Some call → is_some call.expect ≡ nat_le made i
+-- a call behind the first ones expects the whole text of its reply, and a first one nothing
+abbrev pub later_expectation : Bool → Reply → Option (List ℕ)
+later_expectation is_later reply = cond is_later (Some (reply_text reply)) None
+
+-- so does each call of a set-up, with these replies
+abbrev pub ExpectLater : ℕ → SetupView → List Reply → Type 0
+ExpectLater made setup replies =
+    (i : ℕ) (call : CallView) (reply : Reply) → slice_get setup.calls i ≡ Some call → slice_get replies i ≡ Some reply
+    → call.expect ≡ later_expectation (nat_le made i) reply
 
 -- all that its calls expect is met
 abbrev pub AreMet : ProfileName → SetupView → Type 0
@@ -41,7 +48,7 @@ AreMet p setup = met_count setup.calls (witness_replies p setup) ≡ expectation
 -- a set-up goes on where another stands behind so many calls; from there its calls show what is asked, and it meets all that it expects
 pub record IsWitness (p : ProfileName) (q : Asking) (other : SetupView) (made : ℕ) (setup : SetupView) : Type 0 where
   pub begins : BeginsAs setup other made
-  pub expects : ExpectLater made setup
+  pub expects : ExpectLater made setup (witness_replies p setup)
   pub shows : IsShown p q (state_behind p other made) (later_calls made setup)
   pub met : AreMet p setup
 

@@ -20,10 +20,6 @@ fn is_free(trusted: &[u64], thread: u64) -> bool
 }
 
 /// Whether flows say that it can't happen from the state of a kernel, whatever parts there are.
-///
-/// # Errors
-///
-/// Memory was refused.
 pub fn is_excluded_by_flow<P: Profile, S: MakeStore<P> + DerivationStore<P>, W: MakeWaiters<P>>(
     alloc: Global,
     kernel: &Kernel<P, S, W>,

@@ -359,10 +359,6 @@ fn is_loss_shown<P: Profile, S: MakeStore<P> + DerivationStore<P>, W: MakeWaiter
 }
 
 /// Whether calls show what is asked for, from the state of a kernel on.
-///
-/// # Errors
-///
-/// Memory was refused.
 pub fn is_shown<P: Profile, S: MakeStore<P> + DerivationStore<P>, W: MakeWaiters<P>>(
     alloc: Global,
     kernel: &Kernel<P, S, W>,

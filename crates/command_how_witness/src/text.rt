@@ -1,5 +1,5 @@
 //! The test of a text that is to be a witness: it is read again, and its calls are made.
-ghost use Rattle.std.specs.Prelude.{◌≡◌, ◌≤◌, true, IfOk, length};
+ghost use Rattle.std.specs.Prelude.{◌≡◌, ◌≤◌, true, IfOk, length, option_copied};
 ghost use Rattle.kernel_abstract.specs.Boot.{boot as boot_state};
 ghost use Rattle.kernel_abstract.specs.Plan.{IsPlan};
 ghost use Rattle.kernel_abstract.specs.State.{shown};
@@ -12,7 +12,7 @@ use cap_core::Profile;
 use ipc_core::MakeWaiters;
 use kernel_core::{BootPlan, Call, Kernel, Reply};
 use setup_format::{Setup, SetupFault, read_setup};
-use setup_report::{expectations, kernel_after};
+use setup_report::{Naming, ReplyText, expectations, kernel_after};
 use slot_core::{DerivationStore, MakeStore};
 use std::alloc::{AllocError, Global};
 
@@ -91,31 +91,59 @@ fn replies_to<P: Profile, S: MakeStore<P>, W: MakeWaiters<P>>(
     Ok(replies)
 }
 
-/// Whether all is met that the calls of a set-up expect.
+/// Whether a call behind the first ones expects the whole text of its reply, or a first one expects nothing.
+fn expects(
+    alloc: Global,
+    expected: Option<&str>,
+    is_later: bool,
+    reply: Reply,
+) -> Result<bool, AllocError>
+    ensures { IfOk result (λ is. is ≡ true → option_copied expected.entry ≡ spec.later_expectation is_later reply) }
+{
+    let Some(expected) = expected else {
+        return Ok(!is_later);
+    };
+    let naming = &Naming::plain();
+    let whole = ReplyText { naming, reply }.to_string(alloc)?;
+    Ok(is_later && expected == whole.as_str())
+}
+
+/// Whether each call of a set-up behind its first ones expects the whole text of its reply, and no other call expects anything.
+fn expect_later(
+    alloc: Global,
+    setup: &Setup,
+    made: usize,
+    replies: &[Reply],
+) -> Result<bool, AllocError>
+    requires { length replies.now ≡ length setup.now.calls }
+    ensures { IfOk result (λ is. is ≡ true → spec.ExpectLater made setup.now replies.now) }
+{
+    let count = setup.calls().len();
+    for i in 0..count {
+        if !expects(alloc, setup.expect(i), made <= i, replies[i])? {
+            return Ok(false);
+        }
+    }
+    Ok(true)
+}
+
+/// Whether the calls of a set-up expect what a witness expects behind so many first calls, and all of it is met.
 #[tactic(auto, using(crate::proofs::Runs::length_replies_to))]
 fn are_met<P: Profile, S: MakeStore<P>, W: MakeWaiters<P>>(
     alloc: Global,
     setup: &Setup,
+    made: usize,
 ) -> Result<bool, AllocError>
     requires { IsPlan P.profile setup.now.plan }
-    ensures { IfOk result (λ are. are ≡ true → spec.AreMet P.profile setup.now) }
+    ensures expects { IfOk result (λ are. are ≡ true → spec.ExpectLater made setup.now (spec.witness_replies P.profile setup.now)) }
+    ensures met { IfOk result (λ are. are ≡ true → spec.AreMet P.profile setup.now) }
 {
     let replies = replies_to::<P, S, W>(alloc, setup)?;
+    if !expect_later(alloc, setup, made, replies.as_slice())? {
+        return Ok(false);
+    }
     let count = expectations(alloc, setup, replies.as_slice())?;
     Ok(count.met == count.expected)
-}
-
-/// Whether each call of a set-up behind its first ones has an expectation, and no other call has one.
-fn expect_later(setup: &Setup, made: usize) -> bool
-    ensures { result ≡ true → spec.ExpectLater made setup.now }
-{
-    let count = setup.calls().len();
-    for i in 0..count {
-        if setup.expect(i).is_some() != (made <= i) {
-            return false;
-        }
-    }
-    true
 }
 
 /// Whether a set-up is a witness of what is asked of another.
@@ -130,21 +158,17 @@ fn is_witness<P: Profile, S: MakeStore<P> + DerivationStore<P>, W: MakeWaiters<P
     requires made { made ≤ length other.now.calls }
     ensures { IfOk result (λ is. is ≡ true → spec.IsWitness P.profile (asking_of asked.now) other.now made setup.now) }
 {
-    if !begins_as(setup, other, made) || !expect_later(setup, made) {
+    if !begins_as(setup, other, made) {
         return Ok(false);
     }
     let kernel = kernel_after::<P, S, W>(alloc, other, made)?;
     if !is_shown::<P, S, W>(alloc, &kernel, asked, later_calls(setup, made))? {
         return Ok(false);
     }
-    are_met::<P, S, W>(alloc, setup)
+    are_met::<P, S, W>(alloc, setup, made)
 }
 
 /// Whether a text is read as a set-up that goes on where another stands behind so many of its calls, and shows what is asked.
-///
-/// # Errors
-///
-/// Memory was refused.
 pub fn is_witness_text<P: Profile, S: MakeStore<P> + DerivationStore<P>, W: MakeWaiters<P>>(
     alloc: Global,
     text: &[u8],

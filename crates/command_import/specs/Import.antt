@@ -1,5 +1,6 @@
 -- What is written of a layout.
-use Rattle.std.specs.Prelude.{◌≡◌, ⊤, ℕ, Bool, true, false, codes, List, [], ◌++◌, length, Ok}
+use Rattle.std.specs.Prelude.{◌≡◌, ℕ, Bool, true, false, codes, List, [], ◌++◌, length, Ok}
+use Rattle.std.specs.Fmt.{decimal}
 use Rattle.std.specs.List.{list_all}
 use Rattle.kernel_abstract.specs.State.{shown}
 use Rattle.setup_format.specs.Views.{ReadView}
@@ -8,16 +9,20 @@ use Rattle.setup_report.specs.Behind.{state_behind}
 use Rattle.setup_layout.specs.declared.layout.Layout.{Layout}
 use Rattle.command_core.specs.declared.fault.Verdict.{Verdict}
 use Rattle.command_core.specs.declared.fault.Verdict.TheVariants.{AllMet, NotMet, Refused, Absent}
+use Rattle.setup_layout.specs.declared.layout.Reading.{Reading}
+use Rattle.setup_marks.specs.Marks.{is_for_flows}
+use Rattle.command_import.specs.Asked.{IsReadAs}
 use Rattle.command_import.specs.Laid.{IsLaidOut}
 use Rattle.command_import.specs.Listing.{listing_lines}
 use Rattle.command_import.specs.Told.{has_word}
 
--- a text is read as a set-up of the layout's profile, the state after its calls is laid out as the layout, and the names of the layout
--- are words, so that lines tell them
+-- a text is read as a set-up of the layout's profile, which has the mark of one in which each object counts just where the layout is so
+-- read, the state after its calls is laid out as the layout, and the names of the layout are words, so that lines tell them
 pub record ComesTo (layout : Layout) (text : List ℕ) : Type 0 where
   pub read : ReadView
   pub is_read : read_of_bytes text ≡ Ok read
   pub profile : read.setup.profile ≡ layout.profile
+  pub marked : is_for_flows read.names ≡ layout.flows
   pub names : list_all has_word layout.objects.items ≡ true
   pub laid_out : IsLaidOut read.setup.profile read.setup.plan layout (shown (state_behind read.setup.profile read.setup (length read.setup.calls)))
 
@@ -25,15 +30,19 @@ pub record ComesTo (layout : Layout) (text : List ℕ) : Type 0 where
 abbrev pub IsSetUpOf : Layout → List ℕ → Type 0
 IsSetUpOf layout text = ComesTo layout text × ((rest : List ℕ) × (text ≡ listing_lines (codes "# ") layout ++ rest))
 
--- such a text of some layout; or, where it is asked for, the listing of one
-abbrev pub IsImportText : Bool → List ℕ → Type 0
-IsImportText false text = (layout : Layout) × IsSetUpOf layout text
-IsImportText true text = (layout : Layout) × (text ≡ listing_lines [] layout)
+-- such a text of some layout that is read as it is asked for; or, where that is asked for, the listing of one
+abbrev pub IsImportText : Reading → Bool → List ℕ → Type 0
+IsImportText reading false text = (layout : Layout) × (IsReadAs reading layout × IsSetUpOf layout text)
+IsImportText reading true text = (layout : Layout) × (IsReadAs reading layout × (text ≡ listing_lines [] layout))
 
--- what is written of an input: a set-up of a layout, or the listing that is asked for; nothing, where the set-up that was made does not
--- come to the layout; and a line, where the layout has faults
-abbrev pub IsImported : Bool → List ℕ → Verdict → Type 0
-IsImported listing text AllMet = IsImportText listing text
-IsImported listing text NotMet = ⊥
-IsImported listing text Refused = ⊤
-IsImported listing text Absent = text ≡ []
+-- the line of a layout with faults, the first of which stands in some line
+abbrev pub IsRefusal : List ℕ → Type 0
+IsRefusal text = (line : ℕ) × (text ≡ codes "layout refused at " ++ (decimal line ++ codes "\n"))
+
+-- what is written of an input: a set-up of a layout, or the listing that is asked for; nothing, if the set-up that was made does not
+-- give the layout; and only its line, if the layout has faults
+abbrev pub IsImported : Reading → Bool → List ℕ → Verdict → Type 0
+IsImported reading listing text AllMet = IsImportText reading listing text
+IsImported reading listing text NotMet = ⊥
+IsImported reading listing text Refused = IsRefusal text
+IsImported reading listing text Absent = text ≡ []

@@ -1,5 +1,6 @@
 pub mod Laid
 pub mod Listing
 pub mod Told
+pub mod Asked
 pub mod Import
 pub mod Private

@@ -28,7 +28,7 @@ fn kind_number(kind: Kind) -> u8
 }
 
 /// Whether two objects of a layout are one object.
-fn is_same(one: &Object, other: &Object) -> bool
+pub fn is_same(one: &Object, other: &Object) -> bool
     ensures { result ≡ spec.are_same_object one.now other.now }
 {
     kind_number(one.kind) == kind_number(other.kind)
@@ -365,10 +365,6 @@ fn passes<P: Profile, S: DerivationStore<P> + MakeStore<P>, W: MakeWaiters<P>>(
 }
 
 /// Whether a kernel that was booted from a plan is laid out as a layout.
-///
-/// # Errors
-///
-/// Memory was refused.
 pub fn is_laid_out<P: Profile, S: DerivationStore<P> + MakeStore<P>, W: MakeWaiters<P>>(
     alloc: Global,
     plan: &BootPlan,

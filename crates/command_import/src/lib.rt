@@ -2,6 +2,7 @@
 //! slot. A text is written only where the program read it, ran it, and found its end laid out as the layout.
 #![tactic(auto)]
 
+mod asked;
 mod calls;
 mod laid_out;
 mod laws;

@@ -188,10 +188,6 @@ fn add_pairs(
 
 /// What was read of a layout, in its own names: what each slot holds, the threads that make no calls, and which slot is derived from
 /// which, each in a line behind a prefix.
-///
-/// # Errors
-///
-/// Memory was refused.
 pub fn listing_text(alloc: Global, layout: &Layout, prefix: &str) -> Result<String, AllocError>
     ensures { IfOk result (λ text. string_bytes text ≡ spec.listing_lines prefix.now layout.now) }
 {

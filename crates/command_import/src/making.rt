@@ -5,10 +5,13 @@ ghost use Rattle.kernel_abstract.specs.State.{shown};
 ghost use Rattle.setup_format.specs.Read.{read_view};
 ghost use Rattle.setup_format.specs.Setups.{read_of_bytes};
 ghost use Rattle.setup_report.specs.Behind.{state_behind};
-ghost use Rattle.command_import.specs.Import.{ComesTo, IsImported};
+ghost use Rattle.command_import.specs.Asked.{IsReadAs};
+ghost use Rattle.command_import.specs.Import.{ComesTo, IsImported, IsRefusal, IsSetUpOf};
+ghost use Rattle.command_import.specs.Private.{IsFor, IsWritten};
 ghost use Rattle.command_import.specs.Listing.{listing_lines};
 ghost use Rattle.command_import.specs.Laid.{IsLaidOut};
 
+use crate::asked::is_read_as;
 use crate::laid_out::is_laid_out;
 use crate::listing::{are_words, listing_text};
 use crate::text::setup_text;
@@ -17,6 +20,7 @@ use command_core::{Answer, Engine, RunFault, Verdict};
 use ipc_core::{LinkedWaiters, MakeWaiters};
 use setup_format::{ReadSetup, Setup, SetupFault, read};
 use setup_layout::{Layout, Places, ReadLayout, Reading};
+use setup_marks::is_for_flows;
 use setup_report::kernel_after;
 use setup_system::read_any_layout;
 use slot_core::{DerivationStore, LinkedStore, MakeStore};
@@ -48,6 +52,15 @@ fn accepted(alloc: Global, text: &[u8]) -> Result<Option<ReadSetup>, AllocError>
     }
 }
 
+/// Whether a set-up that was read is for the machine of a layout and marked as the layout is, and each name of the layout is a word.
+fn is_for(layout: &Layout, made: &ReadSetup) -> bool
+    ensures { IsTrue result → IsFor layout.now (read_view made.now) }
+{
+    made.setup.profile() == layout.profile
+        && is_for_flows(made.names.as_slice()) == layout.flows
+        && are_words(layout.objects.as_slice())
+}
+
 /// Whether a text is read as a set-up of the layout's profile, whose calls come to the layout.
 fn comes_from<P: Profile, S: DerivationStore<P> + MakeStore<P>, W: MakeWaiters<P>>(
     alloc: Global,
@@ -60,7 +73,7 @@ fn comes_from<P: Profile, S: DerivationStore<P> + MakeStore<P>, W: MakeWaiters<P
     let Some(made) = accepted(alloc, text)? else {
         return Ok(false);
     };
-    if made.setup.profile() != layout.profile || !are_words(layout.objects.as_slice()) {
+    if !is_for(layout, &made) {
         return Ok(false);
     }
     comes_to::<P, S, W>(alloc, layout, &made.setup)
@@ -82,7 +95,8 @@ fn does_come_to(alloc: Global, layout: &Layout, text: &[u8]) -> Result<bool, All
 
 /// What is written of a layout with faults.
 fn refused(alloc: Global, layout: &Layout) -> Result<Answer, AllocError>
-    ensures { IfOk result (λ made. made.verdict ≡ Verdict.Refused) }
+    ensures verdict { IfOk result (λ made. made.verdict ≡ Verdict.Refused) }
+    ensures line { IfOk result (λ made. IsRefusal made.text.items) }
 {
     let line = match layout.faults.told.first() {
         Some(fault) => fault.spot.line,
@@ -94,7 +108,7 @@ fn refused(alloc: Global, layout: &Layout) -> Result<Answer, AllocError>
 
 /// What is written of a layout whose listing is asked for.
 fn listed(alloc: Global, layout: &Layout) -> Result<Answer, AllocError>
-    ensures { IfOk result (λ made. IsImported true made.text.items made.verdict) }
+    ensures { IfOk result (λ made. IsWritten (λ text. text ≡ listing_lines [] layout.now) made.text.items made.verdict) }
 {
     let text = listing_text(alloc, layout, "")?;
     Ok(Answer::new(alloc, text.into_bytes(), Verdict::AllMet))
@@ -103,7 +117,7 @@ fn listed(alloc: Global, layout: &Layout) -> Result<Answer, AllocError>
 /// A text that lists the slots of a layout at its beginning, where it is read as a set-up whose calls come to the layout; else nothing.
 fn tested(alloc: Global, layout: &Layout, text: Vec<u8>) -> Result<Answer, AllocError>
     requires { (rest : List ℕ) × (text.items ≡ listing_lines (codes "# ") layout.now ++ rest) }
-    ensures { IfOk result (λ made. IsImported false made.text.items made.verdict) }
+    ensures { IfOk result (λ made. IsWritten (IsSetUpOf layout.now) made.text.items made.verdict) }
 {
     let comes = does_come_to(alloc, layout, text.as_slice())?;
     if comes {
@@ -113,11 +127,11 @@ fn tested(alloc: Global, layout: &Layout, text: Vec<u8>) -> Result<Answer, Alloc
 }
 
 /// The text of a set-up of a layout, which begins with a list of what its slots hold.
-fn text_of(alloc: Global, layout: &Layout, places: &Places) -> Result<String, AllocError>
-    ensures { IfOk result (λ text. (rest : List ℕ) × (string_bytes text ≡ listing_lines (codes "# ") layout.now ++ rest)) }
+fn text_of(alloc: Global, read: &ReadLayout, places: &Places) -> Result<String, AllocError>
+    ensures { IfOk result (λ text. (rest : List ℕ) × (string_bytes text ≡ listing_lines (codes "# ") read.now.layout ++ rest)) }
 {
-    let rest = setup_text(alloc, layout, places)?;
-    let mut text = listing_text(alloc, layout, "# ")?;
+    let rest = setup_text(alloc, read, places)?;
+    let mut text = listing_text(alloc, &read.layout, "# ")?;
     text.push_str(rest.as_str())?;
     Ok(text)
 }
@@ -130,24 +144,40 @@ pub struct Importer {
     pub listing: bool,
 }
 
+/// What is written of a layout without faults: its listing where that is asked for, or else a set-up.
+fn written(
+    alloc: Global,
+    read: &ReadLayout,
+    places: &Places,
+    listing: bool,
+) -> Result<Answer, AllocError>
+    ensures listed { listing ≡ true → IfOk result (λ made. IsWritten (λ text. text ≡ listing_lines [] read.now.layout) made.text.items made.verdict) }
+    ensures tested { listing ≡ false → IfOk result (λ made. IsWritten (IsSetUpOf read.now.layout) made.text.items made.verdict) }
+{
+    if listing {
+        return listed(alloc, &read.layout);
+    }
+    let text = text_of(alloc, read, places)?;
+    tested(alloc, &read.layout, text.into_bytes())
+}
+
 impl Importer {
     /// What is written of a layout that was read.
     fn made_of(self, alloc: Global, read: &ReadLayout) -> Result<Answer, AllocError>
-        ensures { IfOk result (λ made. IsImported self.listing made.text.items made.verdict) }
+        ensures { IfOk result (λ made. IsImported self.reading self.listing made.text.items made.verdict) }
     {
         let Some(places) = &read.places else {
             return refused(alloc, &read.layout);
         };
-        if self.listing {
-            return listed(alloc, &read.layout);
+        if !is_read_as(self.reading, &read.layout) {
+            return Ok(Answer::new(alloc, Vec::new(alloc), Verdict::Absent));
         }
-        let text = text_of(alloc, &read.layout, places)?;
-        tested(alloc, &read.layout, text.into_bytes())
+        written(alloc, read, places, self.listing)
     }
 
     /// What is written of the input.
     fn made(self, alloc: Global, input: &[u8]) -> Result<Answer, AllocError>
-        ensures { IfOk result (λ made. IsImported self.listing made.text.items made.verdict) }
+        ensures { IfOk result (λ made. IsImported self.reading self.listing made.text.items made.verdict) }
     {
         let read = read_any_layout(alloc, input, self.reading)?;
         self.made_of(alloc, &read)
@@ -155,7 +185,7 @@ impl Importer {
 }
 
 impl Engine for Importer {
-    ghost means = { λ importer input text verdict. IsImported importer.listing text verdict };
+    ghost means = { λ importer input text verdict. IsImported importer.reading importer.listing text verdict };
 
     fn make(&self, alloc: Global, input: &[u8]) -> Result<Answer, RunFault> {
         self.made(alloc, input).map_err(|_| RunFault::Memory)

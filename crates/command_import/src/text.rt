@@ -1,8 +1,8 @@
 //! The text of a set-up.
 use crate::calls::Calls;
-use crate::names::add_names;
+use crate::names::{add_names, add_whole_names};
 use cap_core::ProfileName;
-use setup_layout::{Layout, Places, Remarks};
+use setup_layout::{Layout, Places, ReadLayout, Remarks};
 use std::alloc::{AllocError, Global};
 use std::fmt::Write;
 
@@ -58,11 +58,8 @@ fn calls_of<'a>(
 }
 
 /// The text of a set-up whose calls make a layout.
-///
-/// # Errors
-///
-/// Memory was refused.
-pub fn setup_text(alloc: Global, layout: &Layout, places: &Places) -> Result<String, AllocError> {
+pub fn setup_text(alloc: Global, read: &ReadLayout, places: &Places) -> Result<String, AllocError> {
+    let layout = &read.layout;
     let calls = calls_of(alloc, layout, places)?;
     let mut out = String::new(alloc);
     let (objects, count) = (layout.objects.len(), calls.count);
@@ -71,8 +68,9 @@ pub fn setup_text(alloc: Global, layout: &Layout, places: &Places) -> Result<Str
         "#\n# The layout has {objects} objects. The first {count} calls are the loader's, which makes it: above stands what its slots hold then."
     )?;
     add_notes(&mut out, &layout.notes)?;
+    add_whole_names(&mut out, layout, read.names.list.as_slice())?;
     add_sizes(&mut out, layout.profile, places)?;
-    add_names(alloc, &mut out, layout, places)?;
+    add_names(&mut out, read, places)?;
     out.push_str(calls.text.as_str())?;
     Ok(out)
 }

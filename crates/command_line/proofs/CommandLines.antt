@@ -15,12 +15,12 @@ use Rattle.clap.specs.Walk.{answers_to, nothing_held, stop_after, walk_from}
 use Rattle.clap.specs.declared.builder.command.Command.{Command}
 use Rattle.clap.specs.declared.error.Error.{Error}
 use Rattle.clap.specs.declared.error.kind.ErrorKind.{ErrorKind}
-use Rattle.clap.specs.declared.error.kind.ErrorKind.TheVariants.{OutOfMemory, DisplayHelp}
+use Rattle.clap.specs.declared.error.kind.ErrorKind.TheVariants.{OutOfMemory}
 use Rattle.clap.specs.declared.parser.matches.ArgMatches.{ArgMatches}
 use Rattle.clap.specs.declared.parser.matches.ArgMatches.TheViews.{out-ArgMatches, out-SubCommand}
 use Rattle.clap.proofs.OnLiterals.{clap_on_literals}
 use Rattle.clap.proofs.WalkLemmas.{both}
-use Rattle.command_line.specs.CommandLine.{IsCommand, command, file_of, files_of, job_named, job_of, lists_one, more_behind, more_given, several_of, takes_several, Explains, ExplainsMatches, StandsFor}
+use Rattle.command_line.specs.CommandLine.{IsCommand, command, file_of, files_of, job_named, job_of, lists_one, more_behind, more_given, several_of, takes_several, AsksForText, Explains, ExplainsMatches, StandsFor}
 use Rattle.command_line.proofs.NoHelp.{IsNoHelp, walk_stops}
 use Rattle.command_line.specs.declared.arguments.Job.{Job}
 use Rattle.command_line.specs.declared.arguments.Job.TheVariants.{Check, Marks}
@@ -128,13 +128,14 @@ among : (kinds : Kinds) (e : Error) → HasKind kinds e → (kind_of e ≡ OutOf
 among kinds e (inl memory) other = absurd (other memory)
 among kinds e (inr found) other = found
 
-is_help_no_memory : (k : ErrorKind) → k ≡ DisplayHelp → k ≡ OutOfMemory → ⊥
-is_help_no_memory k help memory = cc
+asks_no_memory : (k : ErrorKind) → AsksForText k → k ≡ OutOfMemory → ⊥
+asks_no_memory k (inl help) memory = cc
+asks_no_memory k (inr version) memory = cc
 
 pub explained : (words : List Text) (e : Error) (fault : LineFault) → HasKind (fault_of command words) e → (takes command words ≡ true → kind_of e ≡ OutOfMemory) → StandsFor (kind_of e) fault → Explains words fault
 explained words e (Help text) kinds passes stands =
-    let other = is_help_no_memory (kind_of e) stands in
-    (not_taken _ _ passes other, subst (λ k. IsAmong k (fault_of command words)) stands (among _ e kinds other))
+    let other = asks_no_memory (kind_of e) stands in
+    (not_taken _ _ passes other, (kind_of e, among _ e kinds other, stands))
 explained words e Refused kinds passes stands =
     (not_taken _ _ passes stands.1, (kind_of e, among _ e kinds stands.1, stands.0))
 explained words e (Conflict text) kinds passes stands = absurd stands

@@ -1,10 +1,11 @@
 -- The program's command as clap's definition, and what clap's matches for the words say.
-use Rattle.std.specs.Prelude.{◌≡◌, ◌≢◌, ◌<◌, ◌^◌, ◌&&◌, ◌||◌, ⊤, Bool, nat_le, count_by, unwrap_or, true, false, not, codes, ℕ, List, [], ◌∷◌, Option, Some, None, is_some, option_map, if◌then◌else◌, IfOk, Result}
+use Rattle.std.specs.Prelude.{◌≡◌, ◌≢◌, ◌⊎◌, ◌<◌, ◌^◌, ◌&&◌, ◌||◌, ⊤, Bool, nat_le, count_by, unwrap_or, true, false, not, codes, ℕ, List, [], ◌∷◌, Option, Some, None, is_some, option_map, if◌then◌else◌, IfOk, Result}
 use Rattle.std.specs.Str.Parse.{IsNumeral, digits_value, without_leading_plus}
 use Rattle.std.specs.Borrow.{Bor}
 use Rattle.std.specs.Option.{option_or}
 use Rattle.std.specs.Str.{bytes_eq}
 use Rattle.clap.specs.Words.{App, Kinds, Row, Rule, Text, all_of, app_of, rule_of, first_of, matches_of, new_app, new_rule, with_rule, with_subcommand, subcommand_of, takes, fault_of, IsAmong}
+use Rattle.clap.specs.Simple.{on_top}
 use Rattle.clap.specs.Walk.{texts}
 use Rattle.clap.specs.declared.builder.arg.Arg.{Arg}
 use Rattle.clap.specs.declared.builder.command.Command.{Command}
@@ -12,7 +13,7 @@ use Rattle.clap.specs.declared.builder.command.Command.TheViews.{out-Command}
 use Rattle.clap.specs.declared.builder.action.ArgAction.TheVariants as action
 use Rattle.clap.specs.declared.builder.value_parser.ValueParser.TheVariants.{Unsigned}
 use Rattle.clap.specs.declared.error.kind.ErrorKind.{ErrorKind}
-use Rattle.clap.specs.declared.error.kind.ErrorKind.TheVariants.{DisplayHelp, OutOfMemory}
+use Rattle.clap.specs.declared.error.kind.ErrorKind.TheVariants.{DisplayHelp, DisplayVersion, OutOfMemory}
 use Rattle.command_line.specs.declared.arguments.Job.{Job}
 use Rattle.command_line.specs.declared.arguments.Job.TheVariants.{Check, Trace, Threads, Migrate, Why, Audit, Explore, Tree, New, Marks, Import}
 use Rattle.command_line.specs.declared.arguments.LineFault.{LineFault}
@@ -35,13 +36,9 @@ Extends more before after = (app : App) → IfOk before (IsCommand app) → IfOk
 abbrev pub file_rule : Rule
 file_rule = new_rule (codes "FILE")
 
--- `--version` and `-V`, which ask for the help, since its first lines tell the version
-abbrev pub version_rule : Rule
-version_rule = record (new_rule (codes "version")) {
-  long = Some (codes "version");
-  short = Some 86;
-  action = Some action.Help;
-}
+-- a command that has a version, for which clap adds `--version` and `-V`
+abbrev pub with_version : App → App
+with_version = on_top (λ s. record s { has_version = true })
 
 -- the argument FILES behind FILE, of which each use takes one more
 abbrev pub more_files_rule : Rule
@@ -51,9 +48,9 @@ more_files_rule = record (new_rule (codes "FILES")) { action = Some action.Appen
 abbrev pub with_file : Text → App
 with_file name = with_rule (new_app name) file_rule
 
--- `sel4sim` with FILE, FILES and `--version`; clap adds its own subcommand `help`, which no line that is taken has
+-- `sel4sim` with FILE, FILES and a version; clap adds its own subcommand `help`, which no line that is taken has
 abbrev pub bare_command : App
-bare_command = with_rule (with_rule (with_rule (new_app (codes "sel4sim")) file_rule) more_files_rule) version_rule
+bare_command = with_rule (with_rule (with_version (new_app (codes "sel4sim"))) file_rule) more_files_rule
 
 -- a command with one more subcommand
 abbrev pub and_subcommand : App → App → App
@@ -123,8 +120,8 @@ new_command =
 
 abbrev pub import_command : App
 import_command =
-    with_rule (with_rule (with_rule (with_file (codes "import")) (number_rule (codes "shrink"))) (flag_rule (codes "listing")))
-    (flag_rule (codes "flows"))
+    with_rule (with_rule (with_rule (with_rule (with_file (codes "import")) (number_rule (codes "shrink"))) (flag_rule (codes "listing")))
+    (flag_rule (codes "flows"))) (text_rule (codes "rights"))
 
 -- `sel4sim`, with its first subcommands: those that take several files, `trace` and `migrate`
 abbrev pub plain_command : App
@@ -200,7 +197,7 @@ abbrev pub files_of : List Row → Option (Text × List Row) → List Text
 files_of above None = several_of false (file_of above None) (more_files_in above)
 files_of above (Some met) = several_of (lists_one met.0 met.1) (file_of above (Some met)) (more_behind met.0 met.1)
 
--- a hyphen, which stands for standard input, is there at most once
+-- a hyphen, which means standard input, is there at most once
 abbrev pub reads_once : List Text → Bool
 reads_once names = nat_le (count_by (λ name. bytes_eq name (codes "-")) names) 1
 
@@ -252,6 +249,7 @@ pub record HasOptions (rows : List Row) (options : Options) : Type 0 where
   pub listing : options.listing ≡ is_set (first_of (codes "listing") rows)
   pub of : option_map (λ s. s.now) options.of ≡ first_of (codes "of") rows
   pub flows : options.flows ≡ is_set (first_of (codes "flows") rows)
+  pub rights : option_map (λ s. s.now) options.rights ≡ first_of (codes "rights") rows
 
 -- `--ever` and `--never` tell of all calls to come
 abbrev pub is_of_parts : Options → Bool
@@ -275,13 +273,40 @@ agrees_how options =
     && ((asks_threads options || not (options.message || (options.hold || options.loss)))
     && (asks_message options || not (is_some options.badge)))))
 
+-- an option's text is a hyphen
+abbrev pub is_hyphen_given : Option Text → Bool
+is_hyphen_given None = false
+is_hyphen_given (Some text) = bytes_eq text (codes "-")
+
+-- `--policy` and `--of` name files: none of them has a hyphen
+abbrev pub names_files : Options → Bool
+names_files options = not (is_hyphen_given (option_map (λ s. s.now) options.policy) || is_hyphen_given (option_map (λ s. s.now) options.of))
+
+-- `--rights` takes `all` or `least`
+abbrev pub says_least : Option Text → Bool
+says_least None = false
+says_least (Some text) = bytes_eq text (codes "least")
+
+abbrev pub is_rights : Option Text → Bool
+is_rights None = true
+is_rights (Some text) = bytes_eq text (codes "all") || bytes_eq text (codes "least")
+
+-- the least rights are asked for, where a `.system` file says none
+abbrev pub takes_least : Options → Bool
+takes_least options = says_least (option_map (λ s. s.now) options.rights)
+
+-- the rights that are asked for, if any are, are all or the least
+abbrev pub knows_rights : Options → Bool
+knows_rights options = is_rights (option_map (λ s. s.now) options.rights)
+
 -- `--ends` goes not with `--witness`
 abbrev pub agrees_orders : Options → Bool
-agrees_orders options = not (options.ends && is_some options.witness) && agrees_how options
+agrees_orders options = not (options.ends && is_some options.witness) && (names_files options && (knows_rights options && agrees_how options))
 
 -- the options go together: `--ever` and `--never` not with each other, and not with `--slot`; `--slot` not with `--without`; `--names`
 -- not with `--how` or `--witness`; `--messages` needs one of the first two, and `--by` needs `--never` or a question of messages;
--- `--draft` needs `--ever`, and goes not with `--names`; `--policy` goes with none of these
+-- `--draft` needs `--ever`, and goes not with `--names`; `--policy` goes with none of these; a file that an option names is no hyphen;
+-- `--rights` takes `all` or `least`
 unfoldable pub agrees : Options → Bool
 agrees options =
     not (options.ever && is_some options.never)
@@ -299,6 +324,10 @@ abbrev pub own_rows : Option (Text × List Row) → List Row
 own_rows None = []
 own_rows (Some met) = met.1
 
+-- the words name a subcommand
+abbrev pub names_command : List Text → Bool
+names_command words = is_some (subcommand_of command words)
+
 -- the job that clap's matches for the words give, and the file
 abbrev pub job_asked : List Text → Option Job
 job_asked words = job_of (subcommand_of command words)
@@ -311,9 +340,17 @@ file_asked words = file_of (matches_of command words) (subcommand_of command wor
 abbrev pub several_asked : List Text → List Text
 several_asked words = files_of (matches_of command words) (subcommand_of command words)
 
--- clap has another fault than a call for help for the words
+-- words of that fault ask for a text: the help, or the version
+abbrev pub AsksForText : ErrorKind → Type 0
+AsksForText kind = (kind ≡ DisplayHelp) ⊎ (kind ≡ DisplayVersion)
+
+-- a fault that clap has for the words asks for the help or for the version
+abbrev pub CallsForText : Kinds → Type 0
+CallsForText kinds = (kind : ErrorKind) × IsAmong kind kinds × AsksForText kind
+
+-- clap has another fault for the words
 abbrev pub HasOtherFault : Kinds → Type 0
-HasOtherFault kinds = (kind : ErrorKind) × IsAmong kind kinds × (kind ≢ DisplayHelp)
+HasOtherFault kinds = (kind : ErrorKind) × IsAmong kind kinds × ¬ (AsksForText kind)
 
 -- the options that matches give do not go together, or a hyphen is there twice
 abbrev pub HasConflictIn : List Row → Option (Text × List Row) → Type 0
@@ -324,10 +361,10 @@ HasConflictIn above met =
 abbrev pub HasConflict : List Text → Type 0
 HasConflict words = (fault_of command words ≡ []) × HasConflictIn (matches_of command words) (subcommand_of command words)
 
--- the command doesn't take the words, and their fault by clap's definition can be a call for help, or can be another; or
--- it takes them, and the options do not go together, or a hyphen is there twice
+-- the command doesn't take the words, and their fault by clap's definition can ask for the help or for the version, or can be
+-- another; or it takes them, and the options do not go together, or a hyphen is there twice
 abbrev pub Explains : List Text → LineFault → Type 0
-Explains words (Help text) = (takes command words ≡ false) × IsAmong DisplayHelp (fault_of command words)
+Explains words (Help text) = (takes command words ≡ false) × CallsForText (fault_of command words)
 Explains words Refused = (takes command words ≡ false) × HasOtherFault (fault_of command words)
 Explains words (Conflict text) = HasConflict words
 Explains words Memory = ⊤
@@ -341,7 +378,7 @@ ExplainsMatches above met Memory = ⊤
 
 -- the fault that stands for an error of clap
 abbrev pub StandsFor : ErrorKind → LineFault → Type 0
-StandsFor kind (Help text) = kind ≡ DisplayHelp
-StandsFor kind Refused = (kind ≢ DisplayHelp) × (kind ≢ OutOfMemory)
+StandsFor kind (Help text) = AsksForText kind
+StandsFor kind Refused = ¬ (AsksForText kind) × (kind ≢ OutOfMemory)
 StandsFor kind (Conflict text) = ⊥
 StandsFor kind Memory = ⊤

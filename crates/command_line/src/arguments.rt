@@ -97,13 +97,17 @@ pub struct Options<'a> {
     pub of: Option<&'a str>,
     /// Whether `--flows` of `import` is there: each object that a kernel here lacks counts.
     pub flows: bool,
+    /// `--rights` of `import`: `all` or `least`.
+    pub rights: Option<&'a str>,
 }
 
 /// A command line that was taken: what to do, by which options, and with which file or files; without a file, with standard
 /// input.
 #[derive(Drop)]
 pub struct Line<'a> {
-    /// What to do.
+    /// Whether a command is named.
+    pub names_command: bool,
+    /// What to do: what the command says, and where none is named, a check.
     pub job: Job,
     /// What the options say.
     pub options: Options<'a>,
@@ -116,7 +120,7 @@ pub struct Line<'a> {
 /// Why a command line is not taken.
 #[derive(Debug, Drop, Error)]
 pub enum LineFault {
-    /// It asks for help, whose text this is.
+    /// It asks for help, or for the version, whose text this is.
     #[error("{0}")]
     Help(String),
     /// It is none that the program takes.
@@ -128,6 +132,20 @@ pub enum LineFault {
     /// Memory ran out.
     #[error("out of memory")]
     Memory,
+}
+
+impl Options<'_> {
+    ghost use Rattle.command_line.specs.CommandLine.{takes_least as takes_least_definition};
+
+    /// Whether `--rights least` is there.
+    pub fn takes_least(&self) -> bool
+        ensures { result ≡ takes_least_definition self.now }
+    {
+        match self.rights {
+            Some(rights) => rights == "least",
+            None => false,
+        }
+    }
 }
 
 impl LineFault {

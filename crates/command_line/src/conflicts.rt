@@ -1,6 +1,6 @@
 //! Options that do not go together.
-ghost use Rattle.std.specs.Prelude.{◌≡◌, not, is_some};
-ghost use Rattle.command_line.specs.CommandLine.{agrees, agrees_orders};
+ghost use Rattle.std.specs.Prelude.{◌≡◌, not, is_some, option_map};
+ghost use Rattle.command_line.specs.CommandLine.{agrees, agrees_orders, is_hyphen_given, is_rights};
 
 use crate::arguments::Options;
 use crate::how::{asks_message, conflict_of_how};
@@ -24,12 +24,40 @@ const DRAFT_ALONE: &str = "--draft goes with --ever alone, and not with --names"
 
 const POLICY_ALONE: &str = "--policy goes with --after, --how and --states alone";
 
-/// What is said of options of orders, or of questions how, that do not go together.
+const NO_HYPHEN: &str = "--policy and --of name a file; for standard input write /dev/stdin";
+
+/// Whether an option that names a file has a hyphen, which stands for standard input in place of FILE alone.
+fn has_hyphen(name: Option<&str>) -> bool
+    ensures { result ≡ is_hyphen_given (option_map (λ s. s.now) name.entry) }
+{
+    match name {
+        Some(name) => name == "-",
+        None => false,
+    }
+}
+
+const RIGHTS: &str = "--rights: all or least is accepted";
+
+/// Whether `--rights` takes its word.
+fn takes_rights(rights: Option<&str>) -> bool
+    ensures { result ≡ is_rights (option_map (λ s. s.now) rights.entry) }
+{
+    match rights {
+        Some(rights) => rights == "all" || rights == "least",
+        None => true,
+    }
+}
+
+/// What is said of options of orders, of files, or of questions how, that do not go together.
 fn conflict_of_orders(options: &Options) -> Option<&'static str>
     ensures { is_some result ≡ not (agrees_orders options.now) }
 {
     if options.ends && options.witness.is_some() {
         Some(ENDS_WITH_WITNESS)
+    } else if has_hyphen(options.policy) || has_hyphen(options.of) {
+        Some(NO_HYPHEN)
+    } else if !takes_rights(options.rights) {
+        Some(RIGHTS)
     } else {
         conflict_of_how(options)
     }

@@ -2,6 +2,7 @@
 #![tactic(auto)]
 
 mod arguments;
+mod built;
 mod conflicts;
 mod how;
 mod reading;

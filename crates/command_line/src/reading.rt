@@ -4,20 +4,16 @@ ghost use Rattle.std.specs.Str.{bytes_eq};
 ghost use Rattle.clap.specs.Words.{App, Rule, app_of, fault_of, first_of, found_of, rows_of, subcommand_of, subcommand_rows_of, with_rule};
 ghost use Rattle.clap.specs.Values.{kind_of};
 ghost use Rattle.clap.specs.Walk.{texts};
-ghost use Rattle.command_line.specs.CommandLine.{Explains, ExplainsMatches, Extends, HasOptions, IsArgument, IsCommand, Says, StandsFor, agrees, and_subcommand as and_command, audit_command, bare_command, check_command, command as definition, explore_command, file_asked, file_of, file_rule, files_of, flag_rule, import_command, is_set, job_asked, job_named, job_of, lists_one as lists_one_definition, marks_command, more_behind as more_behind_definition, more_files_in, more_files_rule, more_given, new_command, number_rule, own_rows, plain_command, reads_once, several_asked, several_of, text_rule, threads_command, trace_command, tree_command, version_rule, why_command, with_file as with_file_definition};
+ghost use Rattle.command_line.specs.CommandLine.{Explains, ExplainsMatches, Extends, HasOptions, IsArgument, IsCommand, Says, StandsFor, agrees, and_subcommand as and_command, audit_command, bare_command, check_command, command as definition, explore_command, file_asked, file_of, file_rule, files_of, flag_rule, import_command, is_set, job_asked, job_named, job_of, lists_one as lists_one_definition, marks_command, more_behind as more_behind_definition, more_files_in, more_files_rule, more_given, names_command, new_command, number_rule, own_rows, plain_command, reads_once, several_asked, several_of, text_rule, threads_command, trace_command, tree_command, why_command, with_file as with_file_definition};
 
 use crate::arguments::{Job, Line, LineFault, Options};
+use crate::built::{ABOUT, VERSION};
 use crate::conflicts::conflict_of;
 use crate::how::and_how;
 use clap::builder::ValueParser;
 use clap::error::ErrorKind;
 use clap::{Arg, ArgAction, ArgMatches, Command, Error};
 use std::alloc::{AllocError, Global};
-
-/// The first lines of the help, which tell the version.
-const ABOUT: &str = "\
-Simulates the capability part of the seL4 microkernel
-Proved with Rattle, logic dac8208d650f15bf; a build by make run is not proved";
 
 /// The last lines of the help.
 const AFTER_HELP: &str = "\
@@ -47,11 +43,16 @@ Examples:
   sel4sim import system.cdl      a set-up of a layout that is capDL text
 
 Exit status:
-  0  every expectation is met, or there is none
-  1  an expectation is not met
-  2  the set-up is refused
+  0  every expectation is met, or there is none; the policy is kept; it is
+     excluded (--never); the calls are found (--how)
+  1  an expectation is not met, or with --strict a call is refused that has
+     none; the policy is broken; it is possible (--never); no calls are found,
+     or it is excluded (--how); clients end stuck, or not every order was
+     explored (explore); not every call is made (threads)
+  2  the set-up, the policy or the layout is refused
   3  reading or writing failed, memory ran out, or a thread was not started
-  4  the command line is refused, or names what the set-up does not have
+  4  the command line is refused, or names what the set-up does not have;
+     what was made of a layout does not come to it (import)
 
 Pages: docs/first-set-up.md, and below the installation share/doc/sel4sim";
 
@@ -105,27 +106,16 @@ fn with_file<'a>(alloc: Global, name: &'a str, about: &'a str) -> Result<Command
     and_argument(Ok(Command::new(alloc, name).about(about)), file(alloc))
 }
 
-/// The option `--version`.
-fn version<'a>(alloc: Global) -> Arg<'a>
-    ensures { IsArgument version_rule result }
-{
-    Arg::new(alloc, "version")
-        .long("version")
-        .short('V')
-        .action(ArgAction::Help)
-        .help("Print help, which begins with the version")
-}
-
-/// The command without the subcommands. Clap adds its own, `help`.
+/// The command without the subcommands. Clap adds its own, `help`, and the option `--version`.
 fn bare<'a>(alloc: Global) -> Result<Command<'a>, AllocError>
     ensures { IfOk result (IsCommand bare_command) }
 {
     let command = Command::new(alloc, "sel4sim")
+        .version(VERSION)
         .about(ABOUT)
         .after_help(AFTER_HELP);
     let with_file = and_argument(Ok(command), file(alloc));
-    let with_more = and_argument(with_file, more_files(alloc));
-    and_argument(with_more, version(alloc))
+    and_argument(with_file, more_files(alloc))
 }
 
 /// An option that takes a number, by its long name.
@@ -363,7 +353,14 @@ fn import<'a>(alloc: Global) -> Result<Command<'a>, AllocError>
         "flows",
         "Count each object that a set-up lacks, each answer and each Grant",
     );
-    and_argument(with_listing, flows)
+    let with_flows = and_argument(with_listing, flows);
+    let rights = text(
+        alloc,
+        "rights",
+        "RIGHTS",
+        "Take these where a .system file says no rights: all, or least [default: all]",
+    );
+    and_argument(with_flows, rights)
 }
 
 /// The subcommand `check`, which takes several files.
@@ -493,6 +490,7 @@ fn options_in<'a>(matches: &ArgMatches<'a>) -> Options<'a>
         listing: flag_given(matches, "listing"),
         of: text_given(matches, "of"),
         flows: flag_given(matches, "flows"),
+        rights: text_given(matches, "rights"),
     }
 }
 
@@ -551,6 +549,7 @@ fn lists_one(name: &str, matches: &ArgMatches) -> bool
 
 /// What the matches ask for where they name no subcommand.
 fn bare_line<'a>(alloc: Global, matches: &ArgMatches<'a>) -> Result<Line<'a>, AllocError>
+    ensures named { IfOk result (λ l. l.names_command ≡ false) }
     ensures job { IfOk result (λ l. job_of None ≡ Some l.job) }
     ensures options { IfOk result (λ l. HasOptions (own_rows None) l.options) }
     ensures file { IfOk result (λ l. file_of (rows_of (found_of matches.now)) None ≡ option_map (λ s. s.now) l.file) }
@@ -559,6 +558,7 @@ fn bare_line<'a>(alloc: Global, matches: &ArgMatches<'a>) -> Result<Line<'a>, Al
     let file = matches.get_str("FILE");
     let several = several_in(alloc, false, file, more_in(matches))?;
     Ok(Line {
+        names_command: false,
         job: Job::Check,
         options: Options {
             strict: false,
@@ -592,6 +592,7 @@ fn bare_line<'a>(alloc: Global, matches: &ArgMatches<'a>) -> Result<Line<'a>, Al
             listing: false,
             of: None,
             flows: false,
+            rights: None,
         },
         file,
         several,
@@ -617,6 +618,7 @@ fn subcommand_line<'a>(
     matches: &ArgMatches<'a>,
 ) -> Result<Line<'a>, AllocError>
     requires { IsSome (job_named name.now) }
+    ensures named { IfOk result (λ l. l.names_command ≡ true) }
     ensures job { IfOk result (λ l. job_of (Some (name.now, rows_of (found_of matches.now))) ≡ Some l.job) }
     ensures options { IfOk result (λ l. HasOptions (own_rows (Some (name.now, rows_of (found_of matches.now)))) l.options) }
     ensures file { IfOk result (λ l. file_of (rows_of (found_of above.now)) (Some (name.now, rows_of (found_of matches.now)))
@@ -632,6 +634,7 @@ fn subcommand_line<'a>(
     let lists_one = lists_one(name, matches);
     let several = several_in(alloc, lists_one, file, more_behind(name, matches))?;
     Ok(Line {
+        names_command: true,
         job,
         options: options_in(matches),
         file,
@@ -642,6 +645,7 @@ fn subcommand_line<'a>(
 /// What the matches ask for.
 fn line_in<'a>(alloc: Global, matches: &ArgMatches<'a>) -> Result<Line<'a>, AllocError>
     requires { IsSome (job_of (subcommand_rows_of matches.now)) }
+    ensures named { IfOk result (λ l. is_some (subcommand_rows_of matches.now) ≡ l.names_command) }
     ensures job { IfOk result (λ l. job_of (subcommand_rows_of matches.now) ≡ Some l.job) }
     ensures options { IfOk result (λ l. HasOptions (own_rows (subcommand_rows_of matches.now)) l.options) }
     ensures file { IfOk result (λ l. file_of (rows_of (found_of matches.now)) (subcommand_rows_of matches.now)
@@ -688,7 +692,7 @@ fn fault_for(alloc: Global, error: &Error) -> LineFault
     if kind == ErrorKind::OutOfMemory {
         return LineFault::Memory;
     }
-    if kind != ErrorKind::DisplayHelp {
+    if kind != ErrorKind::DisplayHelp && kind != ErrorKind::DisplayVersion {
         return LineFault::Refused;
     }
     match format!(in alloc; "{error}") {
@@ -715,6 +719,7 @@ pub fn refused_line_words(alloc: Global, words: &[&str]) -> Option<String> {
 /// What the matches of words that the command takes ask for.
 fn taken_line<'a>(alloc: Global, matches: &ArgMatches<'a>) -> Result<Line<'a>, LineFault>
     requires { IsSome (job_of (subcommand_rows_of matches.now)) }
+    ensures named { IfOk result (λ l. is_some (subcommand_rows_of matches.now) ≡ l.names_command) }
     ensures job { IfOk result (λ l. job_of (subcommand_rows_of matches.now) ≡ Some l.job) }
     ensures options { IfOk result (λ l. HasOptions (own_rows (subcommand_rows_of matches.now)) l.options) }
     ensures agrees { IfOk result (λ l. agrees l.options ≡ true) }
@@ -737,9 +742,10 @@ fn taken_line<'a>(alloc: Global, matches: &ArgMatches<'a>) -> Result<Line<'a>, L
 /// Reads the words of a command line, of which the first is the program's name.
 ///
 /// # Errors
-/// `Help` where the words call for help, `Refused` where they are none that the command takes, `Conflict` where it takes
+/// `Help` where the words call for help or for the version, `Refused` where they are none that the command takes, `Conflict` where it takes
 /// them and the options do not go together, or standard input is named twice, and `Memory` where memory ran out.
 pub fn line<'a>(alloc: Global, words: &'a [&'a str]) -> Result<Line<'a>, LineFault>
+    ensures named { IfOk result (λ l. names_command (texts words.now) ≡ l.names_command) }
     ensures job { IfOk result (λ l. job_asked (texts words.now) ≡ Some l.job) }
     ensures options { IfOk result (λ l. HasOptions (own_rows (subcommand_of definition (texts words.now))) l.options) }
     ensures agrees { IfOk result (λ l. agrees l.options ≡ true) }

@@ -18,6 +18,11 @@ abbrev pub is_excluded : Never → Bool
 is_excluded Excluded = true
 is_excluded answer = false
 
+-- flows exclude it, and the parts do not
+abbrev pub is_by_flow : Never → Bool
+is_by_flow ExcludedByFlow = true
+is_by_flow answer = false
+
 -- whatever calls threads make that are not trusted: no message of the one thread is delivered to the other, but by the endpoints that
 -- are named, and no word of it leads to the other's control block
 pub record AreKeptByFlow (p : ProfileName) (trusted : List ℕ) (v : Shown) (by : List ℕ) (from to : ℕ) : Type 0 where
@@ -31,7 +36,7 @@ IsFounded p trusted memory v by from to ExcludedByFlow = AreKeptByFlow p trusted
 IsFounded p trusted memory v by from to Possible = ⊤
 IsFounded p trusted memory v by from to Decided = LieInTwoStillOf p trusted memory v from to
 
--- the answer of parts that may be told; and where it is that it is excluded, the one thread's part is kept from the other's
+-- the answer of parts that may be written; and if it is that it is excluded, the one thread's part is kept from the other's
 pub record IsNeverByParts (p : ProfileName) (trusted : List ℕ) (v : Shown) (by : List ℕ) (from to : ℕ) (answer : Never) : Type 0 where
   pub memory : List PartMemory
   pub uses : List PartUse

@@ -142,8 +142,8 @@ pub record IsNeverText (p : ProfileName) (told : PartTexts) (setup : SetupView) 
   pub are_chains : AreChains p told.texts memory uses v by from to chains
   pub lines : text ≡ never_text p told setup made refused without messages memory uses v by from to answer ++ chains
 
--- the text and the answer, of parts that may be written: it is excluded where the parts exclude it, and the one thread's part is kept
--- from the other's then; each other answer has what it stands on
+-- the text and the answer, of parts that may be written: it is excluded if the parts exclude it, and then the one thread's part is
+-- kept from the other's; each other answer has what it rests on
 pub record IsNeverOf (p : ProfileName) (texts : Texts) (setup : SetupView) (made refused : ℕ) (without messages : List ℕ) (v : Shown) (by : List ℕ)
     (from to : ℕ) (text : List ℕ) (answer : Never) : Type 0 where
   pub memory : List PartMemory

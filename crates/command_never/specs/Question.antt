@@ -1,10 +1,11 @@
 -- What is written of whether one thread's part is kept from another's, and the verdict.
-use Rattle.std.specs.Prelude.{◌≡◌, ℕ, ◌&&◌, Bool, List, [], map, Option, Some, None, is_some, MatchBool}
+use Rattle.std.specs.Prelude.{◌≡◌, ℕ, ◌&&◌, Bool, true, false, List, [], map, Option, Some, None, is_some, MatchBool}
 use Rattle.std.specs.Borrow.{Bor}
 use Rattle.cap_core.specs.declared.profile.ProfileName.{ProfileName}
 use Rattle.kernel_abstract.specs.Shown.{Shown, state_at}
 use Rattle.kernel_abstract.specs.State.{State, shown}
 use Rattle.setup_values.specs.Names.{Names}
+use Rattle.setup_marks.specs.Marks.{is_for_flows}
 use Rattle.setup_format.specs.Views.{SetupView}
 use Rattle.command_never.specs.declared.parts_kept.never.Never.{Never}
 use Rattle.command_never.specs.declared.parts_kept.never.Never.TheVariants.{Excluded, ExcludedByFlow, Possible, Decided}
@@ -14,6 +15,7 @@ use Rattle.setup_report.specs.Meant.{object_meant, are_meant}
 use Rattle.setup_report.specs.Behind.{refused_behind}
 use Rattle.setup_report.specs.Naming.{Texts, texts_of}
 use Rattle.command_parts.specs.Threads.{Trusted, trusted_by, are_trusted, objects_named}
+use Rattle.command_never.specs.Answer.{is_by_flow}
 use Rattle.command_never.specs.Open.{IsNeverOf}
 use Rattle.command_core.specs.declared.fault.Verdict.{Verdict}
 use Rattle.command_core.specs.declared.fault.Verdict.TheVariants.{AllMet, NotMet, Absent}
@@ -52,11 +54,13 @@ IsAbsent text verdict = (text ≡ []) × (verdict ≡ Absent)
 abbrev pub are_live : Shown → ℕ → ℕ → Bool
 are_live v from to = is_some (state_at v from) && is_some (state_at v to)
 
--- the text of an answer of what is shown, and its verdict
-abbrev pub IsAnsweredOf : ProfileName → Texts → SetupView → ℕ → ℕ → List ℕ → List ℕ → Shown → List ℕ → ℕ → ℕ → List ℕ → Verdict → Type 0
-IsAnsweredOf p texts setup made refused without messages v by from to text verdict =
+-- the text of an answer of what is shown, and its verdict. Of a set-up in which each object of a layout counts, flows, which go by the
+-- words of threads, say nothing
+abbrev pub IsAnsweredOf : ProfileName → Texts → Bool → SetupView → ℕ → ℕ → List ℕ → List ℕ → Shown → List ℕ → ℕ → ℕ → List ℕ → Verdict → Type 0
+IsAnsweredOf p texts for_flows setup made refused without messages v by from to text verdict =
     MatchBool (are_live v from to)
-    ((answer : Never) × (IsNeverOf p texts setup made refused without messages v by from to text answer × (verdict ≡ never_verdict answer)))
+    ((answer : Never) × (IsNeverOf p texts setup made refused without messages v by from to text answer
+    × ((for_flows ≡ true → is_by_flow answer ≡ false) × (verdict ≡ never_verdict answer))))
     (IsAbsent text verdict)
 
 -- of two threads, where each text stands for one
@@ -64,7 +68,7 @@ abbrev pub IsNeverAnswered : Texts → ProfileName → Names → SetupView → �
 IsNeverAnswered texts p names setup made refused v asked None to text verdict = IsAbsent text verdict
 IsNeverAnswered texts p names setup made refused v asked (Some from) None text verdict = IsAbsent text verdict
 IsNeverAnswered texts p names setup made refused v asked (Some from) (Some to) text verdict =
-    IsAnsweredOf p texts setup made refused (objects_named Thread p names setup.plan v asked.trust.without) (objects_named Thread p names setup.plan v asked.trust.messages) v
+    IsAnsweredOf p texts (is_for_flows names) setup made refused (objects_named Thread p names setup.plan v asked.trust.without) (objects_named Thread p names setup.plan v asked.trust.messages) v
     (objects_named Endpoint p names setup.plan v asked.by) from to text verdict
 
 -- each text for a trusted thread stands for a thread, and each for an endpoint that is allowed for an endpoint

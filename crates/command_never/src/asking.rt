@@ -3,6 +3,7 @@ ghost use Rattle.std.specs.Prelude.{◌≡◌, ℕ, IfOk, true};
 ghost use Rattle.kernel_abstract.specs.Memory.{IsInMemory};
 ghost use Rattle.kernel_abstract.specs.Plan.{IsWithinLimits};
 ghost use Rattle.setup_values.specs.Names.{names_view};
+ghost use Rattle.setup_marks.specs.Marks.{is_for_flows as marked};
 ghost use Rattle.setup_report.specs.Naming.{naming_view};
 ghost use Rattle.setup_report.specs.declared.meanings.meant.ObjectKind.TheVariants as objects;
 ghost use Rattle.setup_report.specs.Meant as words;
@@ -18,6 +19,7 @@ use ipc_core::{MakeWaiters, Waiters};
 use kernel_core::Kernel;
 use query_parts::PartsFault;
 use setup_format::Setup;
+use setup_marks::is_for_flows;
 use setup_report::{Naming, ObjectKind, are_meant, object_meant};
 use setup_values::Name;
 use slot_core::{CapStore, DerivationStore, MakeStore};
@@ -68,30 +70,21 @@ fn answer_between<P: Profile, S: DerivationStore<P> + Drop, W: Waiters<P> + Drop
     from: u64,
     to: u64,
     by: &[u64],
-    asks_flows: bool,
+    is_for_flows: bool,
     kernel: &Kernel<P, S, W>,
 ) -> Result<Answer, AllocError>
     requires live { spec.are_live kernel.now from to ≡ true }
     requires memory { (memory : ℕ) × IsInMemory P.profile memory kernel.now }
-    ensures { IfOk result (λ made. spec.IsAnsweredOf P.profile (naming_view naming.now) heading.now.setup.now heading.now.made heading.now.refused
+    ensures { IfOk result (λ made. spec.IsAnsweredOf P.profile (naming_view naming.now) is_for_flows heading.now.setup.now heading.now.made heading.now.refused
         heading.now.without.now heading.now.messages.now kernel.now by.now from to made.text.items made.verdict) }
 {
+    // A thread of such a set-up also uses what no word of it leads to, as a frame that it maps, and flows go by words.
+    let asks_flows = !is_for_flows;
     match never_gets::<P, S, W>(alloc, naming, heading, from, to, by, asks_flows, kernel) {
         Ok((text, answer)) => Ok(Answer::new(alloc, text, verdict_of(answer))),
         Err(PartsFault::Memory) => Err(AllocError),
         Err(PartsFault::Block) => unreachable!(),
     }
-}
-
-/// What the name of the CNode ends with that `import --flows` makes of the slots of a thread.
-const NODE_OF_SLOTS: &str = "_slots";
-
-/// Whether `import --flows` may have made the set-up. There a thread also uses what no word of it leads to, as a frame that it maps, so
-/// flows, which go by words, are not asked.
-fn counts_all_objects(names: &[Name]) -> bool {
-    names
-        .iter()
-        .any(|name| name.text.as_str().ends_with(NODE_OF_SLOTS))
 }
 
 impl Question<'_> {
@@ -107,7 +100,7 @@ impl Question<'_> {
     ) -> Result<Answer, AllocError>
         requires limits { IsWithinLimits P.profile behind.now.setup.now.plan }
         requires memory { (memory : ℕ) × IsInMemory P.profile memory kernel.now }
-        ensures { IfOk result (λ answer. spec.IsAnsweredOf P.profile (naming_view naming.now) behind.now.setup.now behind.now.made behind.now.refused
+        ensures { IfOk result (λ answer. spec.IsAnsweredOf P.profile (naming_view naming.now) (marked (names_view behind.now.names.now)) behind.now.setup.now behind.now.made behind.now.refused
             (meant.objects_named objects.Thread P.profile (names_view behind.now.names.now) behind.now.setup.now.plan kernel.now (spec.asked_never self.now).trust.without)
             (meant.objects_named objects.Thread P.profile (names_view behind.now.names.now) behind.now.setup.now.plan kernel.now (spec.asked_never self.now).trust.messages)
             kernel.now (meant.objects_named objects.Endpoint P.profile (names_view behind.now.names.now) behind.now.setup.now.plan kernel.now (spec.asked_never self.now).by)
@@ -130,8 +123,8 @@ impl Question<'_> {
             messages: messages.as_slice(),
         };
         let by = by.as_slice();
-        let asks_flows = !counts_all_objects(names);
-        answer_between::<P, S, W>(alloc, naming, &heading, from, to, by, asks_flows, kernel)
+        let is_for_flows = is_for_flows(names);
+        answer_between::<P, S, W>(alloc, naming, &heading, from, to, by, is_for_flows, kernel)
     }
 
     /// What is told where no thread is live at one of the two addresses.

@@ -14,9 +14,9 @@ use Rattle.command_parts.specs.Threads.{callers}
 use Rattle.command_parts.specs.Telling.{part_texts}
 use Rattle.command_parts.specs.Text.{ever_text}
 
--- Parts that may be written: whatever calls their threads make, nothing leaves them; they stand in order, with nothing in them
--- that goes without saying; they lie in all parts that are closed around the live threads that are not trusted; and the whole
--- control block of each of these threads lies in one
+-- Parts that may be written: by no sequence of calls of their threads does anything leave them; they are in order, with
+-- nothing in them that is redundant; they lie in all parts that are closed around the live threads that are not trusted; and
+-- the whole control block of each of these threads lies in one
 pub record AreRightParts (p : ProfileName) (v : Shown) (trusted : List ℕ) (memory : List PartMemory) (uses : List PartUse) : Type 0 where
   pub ever : AreConfinedEver p memory uses v
   pub order : AreInOrder p memory uses

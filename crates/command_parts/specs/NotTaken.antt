@@ -9,7 +9,7 @@ use Rattle.query_parts.specs.Below.{StandsNoneBelow}
 use Rattle.setup_report.specs.State.{is_in}
 use Rattle.command_parts.specs.Takes.{part_slots, taken_by}
 
--- where no line says that the one part may take slots from the other, no full slot of the other stands below one of its own
+-- if no line says that the one part may take slots from the other, no full slot of the other is below one of its own
 abbrev pub TakesNone : List PartMemory → List PartUse → Forest Entry → ℕ → ℕ → Type 0
 TakesNone memory uses f i j =
     (i ≡ j → ⊥) → is_in j (taken_by (part_slots memory f) i) ≡ false → StandsNoneBelow (parts_listed memory uses) i j f

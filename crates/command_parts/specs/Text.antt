@@ -56,7 +56,7 @@ without_line texts v thread = terminated (codes "without " ++ (texts.about threa
 abbrev pub messages_line : Texts → Shown → ℕ → List ℕ
 messages_line texts v thread = terminated (codes "messages " ++ (texts.about thread ++ none_text (is_some (state_at v thread))))
 
--- the first line, the threads that make no more calls, and those that go on to send and receive alone
+-- the first line, the threads that make no more calls, and those that only send and receive
 abbrev pub head_lines : List ℕ → Texts → SetupView → ℕ → ℕ → List ℕ → List ℕ → Shown → List ℕ
 head_lines title texts setup made refused without messages v =
     parts_head_line title setup made refused ++ (flat_map (without_line texts v) without ++ flat_map (messages_line texts v) messages)
@@ -93,7 +93,7 @@ held_line told u =
 abbrev pub held_lines : PartTexts → List PartSlot → ℕ → List ℕ
 held_lines told slots part = terminated (codes "  only messages") ++ flat_map (held_line told) (uses_held slots part)
 
--- 0 stands for any badge
+-- 0 means any badge
 abbrev pub any_badge_text : ℕ → List ℕ
 any_badge_text badge = cond (badge == 0) (codes "any") (decimal badge)
 
@@ -225,7 +225,7 @@ passing_line told Grant w =
 passing_line told Answer w =
     terminated (codes "reply " ++ (told.part w.to ++ (codes " -> " ++ (endpoint_told told w.endpoint ++ (codes " -> " ++ told.part w.from)))))
 
--- the same of two parts alone
+-- the same of only two parts
 abbrev pub between_line : PartTexts → Passing → ProfileName → List PartMemory → List PartUse → ℕ → ℕ → ℕ → List ℕ
 between_line told passing p memory uses from to endpoint =
     cond (may_pass passing p memory uses from endpoint && may_part_receive p memory uses endpoint to) (passing_line told passing (way from endpoint 0 to)) []
@@ -244,7 +244,7 @@ sel4_lines told p memory uses i j =
 abbrev pub take_line : PartTexts → Take → List ℕ
 take_line told t = terminated (codes "take " ++ (told.part t.by ++ (codes " -> " ++ told.part t.of)))
 
--- the same of two parts alone
+-- the same of only two parts
 abbrev pub take_of_two : PartTexts → List PartSlot → ℕ → ℕ → List ℕ
 take_of_two told list by of = cond (is_in of (taken_by list by)) (take_line told (taking by of)) []
 

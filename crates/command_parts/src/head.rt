@@ -148,10 +148,6 @@ fn add_messengers<P: Profile, S: CapStore<P> + Drop, W: Waiters<P> + Drop>(
 }
 
 /// Adds the first lines of a text with this name and version: of which state it tells, and which threads are trusted.
-///
-/// # Errors
-///
-/// Memory was refused.
 pub fn add_heading<P: Profile, S: CapStore<P> + Drop, W: Waiters<P> + Drop>(
     out: &mut String,
     title: &str,

@@ -47,10 +47,6 @@ pub fn passes_alone<P: Profile>(part_slots: &[PartSlot], part: u64) -> bool
 }
 
 /// Those of some parts that only pass messages.
-///
-/// # Errors
-///
-/// Memory was refused.
 pub fn messengers<P: Profile>(
     alloc: Global,
     part_slots: &[PartSlot],
@@ -115,10 +111,6 @@ fn uses_by_slots(
 }
 
 /// The uses of a part that only passes messages.
-///
-/// # Errors
-///
-/// Memory was refused.
 pub fn uses_held(
     alloc: Global,
     part_slots: &[PartSlot],

@@ -242,10 +242,6 @@ fn add_part<P: Profile, S: CapStore<P> + Drop, W: Waiters<P> + Drop>(
 }
 
 /// Adds the lines of parts, by their numbers.
-///
-/// # Errors
-///
-/// Memory was refused.
 pub fn add_parts<P: Profile, S: CapStore<P> + Drop, W: Waiters<P> + Drop>(
     alloc: Global,
     out: &mut String,

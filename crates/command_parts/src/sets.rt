@@ -16,10 +16,6 @@ fn set_of(alloc: Global, numbers: &[u64]) -> Result<BTreeSet<u64>, AllocError>
 }
 
 /// The numbers of a set, in rising order.
-///
-/// # Errors
-///
-/// Memory was refused.
 pub fn listed(alloc: Global, set: &BTreeSet<u64>) -> Result<Vec<u64>, AllocError>
     ensures { IfOk result (λ v. v.items ≡ set.now.keys) }
 {
@@ -31,10 +27,6 @@ pub fn listed(alloc: Global, set: &BTreeSet<u64>) -> Result<Vec<u64>, AllocError
 }
 
 /// Each of some numbers once, in rising order.
-///
-/// # Errors
-///
-/// Memory was refused.
 pub fn rising(alloc: Global, numbers: &[u64]) -> Result<Vec<u64>, AllocError>
     ensures { IfOk result (λ v. v.items ≡ rising_of numbers.now) }
 {

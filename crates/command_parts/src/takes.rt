@@ -67,10 +67,6 @@ fn part_slots_of<P: Profile>(
 }
 
 /// The full slots of a kernel, each before those below it.
-///
-/// # Errors
-///
-/// Memory was refused.
 pub fn part_slots<P: Profile, S: DerivationStore<P> + Drop, W: Waiters<P> + Drop>(
     alloc: Global,
     memory: &[PartMemory],
@@ -179,10 +175,6 @@ fn add_takes_by(takes: &mut Vec<Take>, by: u64, taken: &[u64]) -> Result<(), All
 }
 
 /// Of each of some parts, the parts from which it may take slots.
-///
-/// # Errors
-///
-/// Memory was refused.
 pub fn takes(alloc: Global, part_slots: &[PartSlot], parts: &[u64]) -> Result<Vec<Take>, AllocError>
     ensures { IfOk result (λ v. v.items ≡ spec.takes part_slots.now parts.now) }
 {
@@ -203,10 +195,6 @@ fn add_take(out: &mut String, told: &PartNaming<'_>, by: u64, of: u64) -> Result
 }
 
 /// Adds a line for each of some parts, and a part from which it may take slots.
-///
-/// # Errors
-///
-/// Memory was refused.
 pub fn add_takes(out: &mut String, told: &PartNaming<'_>, takes: &[Take]) -> Result<(), AllocError>
     ensures { OnOk result (string_bytes out.new ≡ string_bytes out.old ++ flat_map (text.take_line (part_naming_view told.now)) takes.now) }
 {
@@ -217,10 +205,6 @@ pub fn add_takes(out: &mut String, told: &PartNaming<'_>, takes: &[Take]) -> Res
 }
 
 /// Adds a line where a part may take slots from another.
-///
-/// # Errors
-///
-/// Memory was refused.
 pub fn add_take_of(
     alloc: Global,
     out: &mut String,

@@ -59,10 +59,6 @@ fn home_of(memory: &[PartMemory], thread: u64) -> Option<Home>
 }
 
 /// Where some threads lie, each in a part's memory.
-///
-/// # Errors
-///
-/// Memory was refused.
 pub fn homes(alloc: Global, memory: &[PartMemory], threads: &[u64]) -> Result<Vec<Home>, AllocError>
     ensures { IfOk result (λ homes. homes.items ≡ filter_map (spec.home_of memory.now) threads.now) }
 {
@@ -89,10 +85,6 @@ fn homes_told(
 }
 
 /// The threads of a part.
-///
-/// # Errors
-///
-/// Memory was refused.
 pub fn threads_of(alloc: Global, homes: &[Home], part: u64) -> Result<Vec<u64>, AllocError>
     ensures { IfOk result (λ threads. threads.items ≡ spec.threads_at_home homes.now part) }
 {
@@ -115,10 +107,6 @@ fn add_behind(out: &mut String, naming: &Naming<'_>, threads: &[u64]) -> Result<
 
 impl<'a> PartNaming<'a> {
     /// How a text tells the parts with this memory, and some threads that live in them.
-    ///
-    /// # Errors
-    ///
-    /// Memory was refused.
     pub fn new(
         alloc: Global,
         naming: &'a Naming<'a>,
@@ -165,10 +153,6 @@ impl<'a> PartNaming<'a> {
     }
 
     /// A part.
-    ///
-    /// # Errors
-    ///
-    /// Memory was refused.
     pub fn part(&self, part: u64) -> Result<PartTold, AllocError>
         ensures { IfOk result (λ told. spec.part_told_as told ≡ (spec.part_naming_view self.now).part part) }
     {

@@ -282,10 +282,6 @@ pub fn parts_of_callers<P: Profile, S: DerivationStore<P> + Drop, W: Waiters<P> 
 }
 
 /// All threads that are trusted: to make no more calls, and to send and receive alone.
-///
-/// # Errors
-///
-/// Memory was refused.
 pub fn all_trusted(alloc: Global, heading: &Heading<'_>) -> Result<Vec<u64>, AllocError>
     ensures { IfOk result (λ v. v.items ≡ heading.now.without.now ++ heading.now.messages.now) }
 {

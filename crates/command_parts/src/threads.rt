@@ -55,10 +55,6 @@ impl<'a> ObjectWords<'a> {
 }
 
 /// The answer where not all words stand for an object: nothing is written, and the first that stands for none is told.
-///
-/// # Errors
-///
-/// Memory was refused.
 pub fn absent_answer<P: Profile, S: CapStore<P> + Drop, W: Waiters<P> + Drop>(
     alloc: Global,
     behind: &Behind<'_>,
@@ -107,10 +103,6 @@ impl Trust<'_> {
     }
 
     /// The answer where one of the words stands for no thread: nothing is written, and the first such word is told.
-    ///
-    /// # Errors
-    ///
-    /// Memory was refused.
     pub fn absent<P: Profile, S: CapStore<P> + Drop, W: Waiters<P> + Drop>(
         &self,
         alloc: Global,
@@ -130,10 +122,6 @@ impl Trust<'_> {
 }
 
 /// The objects of a kind that some words stand for, rising.
-///
-/// # Errors
-///
-/// Memory was refused.
 pub fn named<P: Profile, S: CapStore<P> + Drop, W: Waiters<P> + Drop>(
     alloc: Global,
     names: &[Name],
@@ -150,10 +138,6 @@ pub fn named<P: Profile, S: CapStore<P> + Drop, W: Waiters<P> + Drop>(
 }
 
 /// The threads that are not trusted.
-///
-/// # Errors
-///
-/// Memory was refused.
 pub fn callers(alloc: Global, threads: &[u64], trusted: &[u64]) -> Result<Vec<u64>, AllocError>
     ensures { IfOk result (λ v. v.items ≡ filter (λ thread. not (is_in_list thread trusted.now)) threads.now) }
 {

@@ -48,10 +48,6 @@ pub enum Passing {
 }
 
 /// The numbers of parts.
-///
-/// # Errors
-///
-/// Memory was refused.
 pub fn parts_of(alloc: Global, memory: &[PartMemory]) -> Result<Vec<u64>, AllocError>
     ensures { IfOk result (λ v. v.items ≡ spec.parts_of memory.now) }
 {
@@ -329,10 +325,6 @@ fn used_endpoints<P: Profile>(
 }
 
 /// The others of some parts.
-///
-/// # Errors
-///
-/// Memory was refused.
 pub fn others(alloc: Global, parts: &[u64], from: u64) -> Result<Vec<u64>, AllocError>
     ensures { IfOk result (λ v. v.items ≡ filter (λ other. not (other == from)) parts.now) }
 {
@@ -450,10 +442,6 @@ fn add_ways_between<P: Profile>(
 }
 
 /// The ways between parts by which something passes.
-///
-/// # Errors
-///
-/// Memory was refused.
 pub fn ways_by<P: Profile>(
     alloc: Global,
     memory: &[PartMemory],
@@ -575,10 +563,6 @@ fn add_message_ways<P: Profile>(
 }
 
 /// The ways between parts by which messages pass, where some parts only pass messages: these send by what they have.
-///
-/// # Errors
-///
-/// Memory was refused.
 pub fn message_ways<P: Profile>(
     alloc: Global,
     memory: &[PartMemory],
@@ -625,10 +609,6 @@ fn add_message_told(
 }
 
 /// Adds a line for each way by which messages pass, where some parts only pass messages.
-///
-/// # Errors
-///
-/// Memory was refused.
 pub fn add_messages(
     out: &mut String,
     told: &PartNaming<'_>,
@@ -672,10 +652,6 @@ fn add_way(
 }
 
 /// Adds a line for each way by which something passes.
-///
-/// # Errors
-///
-/// Memory was refused.
 pub fn add_ways(
     out: &mut String,
     told: &PartNaming<'_>,
@@ -741,10 +717,6 @@ fn add_of_two<P: Profile>(
 }
 
 /// Adds a line for each endpoint by which capabilities or answers pass between two parts in seL4, either way.
-///
-/// # Errors
-///
-/// Memory was refused.
 pub fn add_sel4_lines<P: Profile>(
     alloc: Global,
     out: &mut String,

@@ -16,6 +16,8 @@ use Rattle.command_policy_breaches.specs.Layouts.{IsLayoutOf}
 use Rattle.command_policy_text.specs.Texts.{breach_lines as lines_of_breaches, text_and_verdict}
 use Rattle.command_policy_breaches.specs.Ways.{passages}
 use Rattle.command_policy.specs.declared.judging.Judged.{Judged}
+use Rattle.setup_policy_file.specs.Files.{IsPolicyText}
+use Rattle.setup_policy_file.specs.declared.file.PolicyFile.{PolicyFile}
 use Rattle.command_policy.specs.declared.command.Judging.{Judging}
 use Rattle.command_policy.specs.declared.command.Judging.TheVariants.{Done, Answered}
 
@@ -62,28 +64,30 @@ pub record IsPast (setup : SetupView) (after : Option ℕ) (text : List ℕ) (ve
   pub nothing : text ≡ []
   pub absent : verdict ≡ Absent
 
--- the text and the verdict of a policy that is held to the state behind the first calls: as many as are asked for on the command line,
+-- the text and the verdict of the policy that a text is, held to the state behind the first calls: as many as are asked for on the command line,
 -- or else as the policy says, where it says how many
-pub record IsHeldText (p : ProfileName) (setup : SetupView) (after : Option ℕ) (text : List ℕ) (verdict : Verdict) : Type 0 where
-  pub asked : Option ℕ
+pub record IsHeldText (policy : List ℕ) (p : ProfileName) (setup : SetupView) (after : Option ℕ) (text : List ℕ) (verdict : Verdict) : Type 0 where
+  pub file : PolicyFile
+  pub says : IsPolicyText policy file
   pub made : ℕ
-  pub is_made : calls_made setup (option_or after asked) ≡ Some made
+  pub is_made : calls_made setup (option_or after file.after) ≡ Some made
   pub judged : Judged
   pub is_judged : IsJudged p setup made judged
   pub told : (text, verdict) ≡ told_of judged setup
 
 -- the same, and nothing is told yet
-pub record IsJudgedFirst (p : ProfileName) (setup : SetupView) (after : Option ℕ) (made : ℕ) (j : Judged) : Type 0 where
-  pub asked : Option ℕ
-  pub is_made : calls_made setup (option_or after asked) ≡ Some made
+pub record IsJudgedFirst (policy : List ℕ) (p : ProfileName) (setup : SetupView) (after : Option ℕ) (made : ℕ) (file : PolicyFile) (j : Judged) : Type 0 where
+  pub says : IsPolicyText policy file
+  pub is_made : calls_made setup (option_or after file.after) ≡ Some made
   pub is_judged : IsJudged p setup made j
 
--- what comes of a policy before it is told: what is judged; or that the policy is refused, or the set-up has fewer calls
-abbrev pub IsJudging : Option ℕ → ProfileName → SetupView → Judging → Type 0
-IsJudging after p setup (Done judged file made) = IsJudgedFirst p setup after made judged
-IsJudging after p setup (Answered answer) = IsPolicyRefused answer.text.items answer.verdict ⊎ IsPast setup after answer.text.items answer.verdict
+-- the outcome of a policy before it is written: what is judged; or that the policy is refused, or the set-up has fewer
+-- calls
+abbrev pub IsJudging : List ℕ → Option ℕ → ProfileName → SetupView → Judging → Type 0
+IsJudging policy after p setup (Done judged file made) = IsJudgedFirst policy p setup after made file judged
+IsJudging policy after p setup (Answered answer) = IsPolicyRefused answer.text.items answer.verdict ⊎ IsPast setup after answer.text.items answer.verdict
 
 -- the policy is refused; or the set-up has fewer calls than are asked for; or it is held to the policy
-abbrev pub IsPolicyOf : Option ℕ → ProfileName → ReadView → List ℕ → Verdict → Type 0
-IsPolicyOf after p read text verdict =
-    IsPolicyRefused text verdict ⊎ (IsPast read.setup after text verdict ⊎ IsHeldText p read.setup after text verdict)
+abbrev pub IsPolicyOf : List ℕ → Option ℕ → ProfileName → ReadView → List ℕ → Verdict → Type 0
+IsPolicyOf policy after p read text verdict =
+    IsPolicyRefused text verdict ⊎ (IsPast read.setup after text verdict ⊎ IsHeldText policy p read.setup after text verdict)

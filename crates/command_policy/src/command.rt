@@ -3,6 +3,7 @@ ghost use Rattle.std.specs.Prelude.{◌≡◌, IfOk, Some};
 ghost use Rattle.std.specs.Option.{option_or};
 ghost use Rattle.kernel_abstract.specs.Plan.{IsPlan};
 ghost use Rattle.setup_report.specs.Behind.{calls_made as calls_made_of};
+ghost use Rattle.setup_policy_file.specs.Files.{IsPolicyText};
 ghost use Rattle.command_policy.specs.Policies.{IsJudging, IsPolicyRefused, refused_line};
 
 use crate::judging::{Judged, judge};
@@ -12,7 +13,7 @@ use command_check::Command;
 use command_core::{Answer, PolicyNote, Verdict};
 use ipc_core::{MakeWaiters, SaveWaiters};
 use setup_format::ReadSetup;
-use setup_policy::{Fault, Place, PolicyFile, Refusal, Spot, read_policy};
+use setup_policy_file::{Fault, Place, PolicyFile, Refusal, Spot, read_policy};
 use setup_report::calls_made;
 use slot_core::{DerivationStore, MakeStore, SaveStore};
 use std::alloc::{AllocError, Global};
@@ -88,8 +89,9 @@ impl HeldTo<'_> {
         made: usize,
     ) -> Result<Judging, AllocError>
         requires plan { IsPlan P.profile read.now.setup.plan }
+        requires says { IsPolicyText self.now.policy.now file }
         requires made { calls_made_of read.now.setup (option_or self.now.after file.after) ≡ Some made }
-        ensures { IfOk result (IsJudging self.now.after P.profile read.now.setup) }
+        ensures { IfOk result (IsJudging self.now.policy.now self.now.after P.profile read.now.setup) }
     {
         let text = text_of(self.policy);
         let (names, setup) = (read.names.as_slice(), &read.setup);
@@ -100,17 +102,13 @@ impl HeldTo<'_> {
     }
 
     /// What comes of the policy for a set-up.
-    ///
-    /// # Errors
-    ///
-    /// Memory was refused.
     pub fn judged<P: Profile, S: MakeStore<P> + DerivationStore<P>, W: MakeWaiters<P>>(
         &self,
         alloc: Global,
         read: &ReadSetup,
     ) -> Result<Judging, AllocError>
         requires { IsPlan P.profile read.now.setup.plan }
-        ensures { IfOk result (IsJudging self.now.after P.profile read.now.setup) }
+        ensures { IfOk result (IsJudging self.now.policy.now self.now.after P.profile read.now.setup) }
     {
         let file = match read_policy(alloc, self.policy) {
             Ok(file) => file,
@@ -136,7 +134,7 @@ impl HeldTo<'_> {
 impl Command for HeldTo<'_> {
     ghost use Rattle.command_policy.specs.Policies.{IsPolicyOf};
 
-    ghost answers = { λ held. IsPolicyOf held.after };
+    ghost answers = { λ held. IsPolicyOf held.policy.now held.after };
 
     fn answer<P: Profile, S: SaveStore<P> + DerivationStore<P>, W: SaveWaiters<P>>(
         &self,

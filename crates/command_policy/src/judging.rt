@@ -17,9 +17,9 @@ use ipc_core::{MakeWaiters, Waiters};
 use kernel_core::{Kernel, Reply};
 use query_parts::PartsFault;
 use setup_format::Setup;
-use setup_policy::{
-    Labels, Meaning, Object, Objects, Policy, PolicyFile, Refusal, Resolver, object_of, root_slots,
-};
+use setup_policy::{Labels, Policy};
+use setup_policy_file::{PolicyFile, Refusal};
+use setup_policy_meaning::{Meaning, Object, Objects, Resolver, object_of, root_slots};
 use setup_report::{StateRows, run_first, state_rows};
 use setup_values::Name;
 use slot_core::{CapStore, Derivation, DerivationStore, MakeStore};
@@ -51,10 +51,6 @@ impl Judged {
     }
 
     /// The text, and the verdict.
-    ///
-    /// # Errors
-    ///
-    /// Memory was refused.
     #[tactic(auto, using(crate::proofs::Lines::told_as))]
     pub fn told(&self, alloc: Global, setup: &Setup) -> Result<Answer, AllocError>
         requires { length self.now.replies.items ≤ length setup.now.calls }
@@ -72,10 +68,6 @@ impl Judged {
     }
 
     /// The lines of what breaks the policy, in their order.
-    ///
-    /// # Errors
-    ///
-    /// Memory was refused.
     pub fn breach_lines(&self, alloc: Global, setup: &Setup) -> Result<Vec<String>, AllocError>
         requires { length self.now.replies.items ≤ length setup.now.calls }
         ensures { IfOk result (λ v. map string_bytes v.items ≡ spec.breach_lines self.now setup.now) }

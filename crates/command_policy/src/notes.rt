@@ -14,9 +14,9 @@ use command_policy_text::{
 };
 use query_parts::{PartUse, part_at};
 use setup_format::Setup;
-use setup_policy::{
-    Allowance, Place, PolicyFile, PolicyWay, Refusal, Spot, line_and_column, table_spot,
-};
+use setup_policy::{Allowance, PolicyWay};
+use setup_policy_file::{Place, PolicyFile, Refusal, Spot, line_and_column};
+use setup_policy_meaning::table_spot;
 use std::alloc::{AllocError, Global};
 use std::collections::BTreeMap;
 use std::fmt::Write;
@@ -378,10 +378,6 @@ impl<'a> Teller<'a> {
 }
 
 /// What standard error tells of a set-up that was held to a policy: of each breach, and of each allowance of which nothing is there.
-///
-/// # Errors
-///
-/// Memory was refused.
 pub fn notes_on(
     alloc: Global,
     file: &PolicyFile,

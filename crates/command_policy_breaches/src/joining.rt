@@ -117,10 +117,6 @@ fn add_joins_on(
 }
 
 /// The parts between which capabilities can be handed over, by each endpoint; none where Grant hands over nothing.
-///
-/// # Errors
-///
-/// Memory was refused.
 pub fn joins(alloc: Global, policy: &Policy, layout: &Layout) -> Result<Vec<Join>, AllocError>
     ensures { IfOk result (λ v. v.items ≡ spec.joins policy.now layout.now) }
 {
@@ -189,10 +185,6 @@ fn first_blocks(alloc: Global, parts: &[u64]) -> Result<Vec<Block>, AllocError>
 }
 
 /// The number of each part: parts that are joined have one.
-///
-/// # Errors
-///
-/// Memory was refused.
 pub fn blocks(alloc: Global, parts: &[u64], joins: &[Join]) -> Result<Vec<Block>, AllocError>
     ensures { IfOk result (λ v. v.items ≡ spec.all_joined (map spec.single_block parts.now) joins.now) }
 {
@@ -219,10 +211,6 @@ fn numbers_of_group(
 }
 
 /// In which joined parts groups have threads.
-///
-/// # Errors
-///
-/// Memory was refused.
 pub fn homes_joined(
     alloc: Global,
     policy: &Policy,

@@ -149,10 +149,6 @@ fn part_numbers(alloc: Global, memory: &[PartMemory]) -> Result<Vec<u64>, AllocE
 }
 
 /// The threads of a policy that are trusted, rising.
-///
-/// # Errors
-///
-/// Memory was refused.
 pub fn trusted_threads(alloc: Global, policy: &Policy) -> Result<Vec<u64>, AllocError>
     ensures { IfOk result (λ v. v.items ≡ spec.trusted_threads policy.now) }
 {
@@ -165,10 +161,6 @@ pub fn trusted_threads(alloc: Global, policy: &Policy) -> Result<Vec<u64>, Alloc
 }
 
 /// What of a kernel's state is held to a policy, by the parts around the threads that the policy does not trust.
-///
-/// # Errors
-///
-/// Memory was refused.
 pub fn layout_of<P: Profile, S: DerivationStore<P> + Drop, W: Waiters<P> + Drop>(
     alloc: Global,
     policy: &Policy,

@@ -161,10 +161,6 @@ fn some_badges(
 }
 
 /// The badges with which a part may send to an endpoint, 0 alone where it may be any.
-///
-/// # Errors
-///
-/// Memory was refused.
 pub fn badges(
     alloc: Global,
     layout: &Layout,
@@ -208,10 +204,6 @@ pub fn is_of_group(layout: &Layout, group: u64, address: u64) -> bool
 }
 
 /// The groups that have threads in a part, or in the joined parts that have a number, in the order of the policy.
-///
-/// # Errors
-///
-/// Memory was refused.
 pub fn groups_at(alloc: Global, homes: &[Home], part: u64) -> Result<Vec<u64>, AllocError>
     ensures { IfOk result (λ v. v.items ≡ spec.groups_at homes.now part) }
 {

@@ -308,10 +308,6 @@ fn add_passages_by(
 }
 
 /// What can pass, by each endpoint.
-///
-/// # Errors
-///
-/// Memory was refused.
 pub fn passages(
     alloc: Global,
     policy: &Policy,
@@ -463,10 +459,6 @@ fn is_passage_amiss(
 
 /// The passages that no way lets pass. `homes` has the groups of the joined parts, and `uses` and `waits` those whose badges are told
 /// already.
-///
-/// # Errors
-///
-/// Memory was refused.
 pub fn passages_amiss(
     alloc: Global,
     policy: &Policy,

@@ -13,7 +13,7 @@ use command_core::{Answer, Verdict};
 use command_parts::{Trust, is_in, listed, named};
 use ipc_core::{MakeWaiters, Waiters};
 use kernel_core::Kernel;
-use setup_policy::Refusal;
+use setup_policy_file::Refusal;
 use setup_report::{ObjectKind, state_rows};
 use slot_core::{DerivationStore, MakeStore};
 use std::alloc::{AllocError, Global};

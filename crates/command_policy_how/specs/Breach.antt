@@ -1,5 +1,5 @@
 -- Which breach a line of a policy's text tells of.
-use Rattle.std.specs.Prelude.{◌≡◌, ⊤, ℕ, ◌-◌, ◌==◌, cond, List, ◌++◌, slice_get, Option, Some, None}
+use Rattle.std.specs.Prelude.{◌≡◌, ℕ, ◌-◌, ◌==◌, cond, List, ◌++◌, slice_get, Option, Some, None}
 use Rattle.command_policy_breaches.specs.declared.held.Home.{Home}
 use Rattle.setup_policy.specs.declared.policy.Labels.{Labels}
 use Rattle.command_policy_breaches.specs.declared.held.Layout.{Layout}
@@ -23,7 +23,7 @@ pub record HasLine (c : Policy) (l : Layout) (n : Labels) (hs : List Home) (brea
   pub is : slice_get breaches place ≡ Some told
   pub line_is : line ≡ line_told c l n hs told
 
--- the breach that is found has the line
+-- the breach that is found has the line; where none is found, none has it
 abbrev pub IsToldBy : Policy → Layout → Labels → List Home → List Told → List ℕ → Option Told → Type 0
-IsToldBy c l n hs breaches line None = ⊤
+IsToldBy c l n hs breaches line None = (told : Told) → HasLine c l n hs breaches line told → ⊥
 IsToldBy c l n hs breaches line (Some told) = HasLine c l n hs breaches line told

@@ -4,3 +4,4 @@ pub mod Breach
 pub mod Question
 pub mod Asked
 pub mod Told
+pub mod Private

@@ -7,6 +7,8 @@ ghost use Rattle.command_how_witness.specs.Witness.{asking_of};
 ghost use Rattle.command_how.specs.Line.{says_excluded};
 ghost use Rattle.command_policy_breaches.specs.Layouts.{IsLayoutOf};
 ghost use Rattle.command_policy_how.specs.Asked as spec;
+ghost use Rattle.command_policy_how.specs.Asked.{IsOfMost};
+ghost use Rattle.command_policy_how.specs.Private.{AreOfMost, say_excluded, without as spec_without};
 ghost use Rattle.command_policy_how.specs.Question.{IsAbout, everyone as everyone_of};
 
 use crate::question::{badge_of, everyone, happening_of, is_asked, other_endpoints};
@@ -22,9 +24,18 @@ use setup_policy::Member;
 use slot_core::{DerivationStore, MakeStore};
 use std::alloc::{AllocError, Global};
 
+/// What comes of the questions of a breach: the text of a witness, or why there is none; or it is asked of no two threads.
+#[derive(Drop)]
+pub enum BreachOutcome {
+    Witness(Vec<u8>),
+    Without(NoWitness),
+    NotAsked,
+}
+
 /// What is said of two questions that have no witness: that they are excluded, where both are.
 fn both(answer: NoWitness, other: NoWitness) -> NoWitness
-    ensures { says_excluded result ≡ (says_excluded answer && says_excluded other) }
+    ensures says { says_excluded result ≡ (says_excluded answer && says_excluded other) }
+    ensures most { (most : ℕ) → IsOfMost most answer → IsOfMost most other → IsOfMost most result }
 {
     match (answer, other) {
         (NoWitness::Excluded, other) => other,
@@ -32,6 +43,27 @@ fn both(answer: NoWitness, other: NoWitness) -> NoWitness
         (NoWitness::ExcludedByFlow, other) => other,
         (NoWitness::NotFound, NoWitness::NotFoundOf(most)) => NoWitness::NotFoundOf(most),
         (answer, _) => answer,
+    }
+}
+
+/// The same with what was said before, where something was asked.
+fn with_answer(before: Option<NoWitness>, other: NoWitness) -> NoWitness
+    ensures says { says_excluded result ≡ (say_excluded before && says_excluded other) }
+    ensures most { (most : ℕ) → AreOfMost most before → IsOfMost most other → IsOfMost most result }
+{
+    match before {
+        Some(answer) => both(answer, other),
+        None => other,
+    }
+}
+
+/// What comes of questions that have no witness, by what was said of them; nothing was where none was asked.
+fn without(answer: Option<NoWitness>) -> BreachOutcome
+    ensures { result ≡ spec_without answer }
+{
+    match answer {
+        Some(answer) => BreachOutcome::Without(answer),
+        None => BreachOutcome::NotAsked,
     }
 }
 
@@ -54,16 +86,16 @@ impl Asking<'_> {
         behind: &Behind<'_>,
         kernel: &Kernel<P, S, W>,
         from: &Member,
-    ) -> Result<Outcome, AllocError>
+    ) -> Result<BreachOutcome, AllocError>
         requires plan { IsPlan P.profile behind.now.setup.now.plan }
         requires made { behind.now.made ≤ length behind.now.setup.now.calls }
         requires memory { (memory : ℕ) × IsInMemory P.profile memory kernel.now }
         requires about { IsAbout self.now.held.policy.now self.now.held.layout.now self.now.told (asking_of self.now.asked) }
         requires right { AreRightParts P.profile kernel.now self.now.asked.without.now self.now.asked.memory.now self.now.held.layout.now.uses.items }
-        ensures { IfOk result (spec.IsAskedFrom P.profile self.now.held.policy.now self.now.held.layout.now self.now.held.homes.now self.now.told
+        ensures { IfOk result (spec.IsAskedFrom P.profile self.now.held.policy.now self.now.held.layout.now self.now.held.homes.now self.now.told self.now.most
             kernel.now behind.now.setup.now behind.now.made from.now self.now.all.now) }
     {
-        let mut answer = NoWitness::Excluded;
+        let mut answer = None;
         for to in self.all {
             if !is_asked(self.held, self.told, from, to) {
                 continue;
@@ -74,11 +106,11 @@ impl Asking<'_> {
                 ..self.asked
             };
             match outcome_of::<P, S, W>(alloc, behind, kernel, &question, self.most)? {
-                Outcome::Witness(text) => return Ok(Outcome::Witness(text)),
-                Outcome::Without(other) => answer = both(answer, other),
+                Outcome::Witness(text) => return Ok(BreachOutcome::Witness(text)),
+                Outcome::Without(other) => answer = Some(with_answer(answer, other)),
             }
         }
-        Ok(Outcome::Without(answer))
+        Ok(without(answer))
     }
 
     /// The same of each two threads.
@@ -87,24 +119,25 @@ impl Asking<'_> {
         alloc: Global,
         behind: &Behind<'_>,
         kernel: &Kernel<P, S, W>,
-    ) -> Result<Outcome, AllocError>
+    ) -> Result<BreachOutcome, AllocError>
         requires plan { IsPlan P.profile behind.now.setup.now.plan }
         requires made { behind.now.made ≤ length behind.now.setup.now.calls }
         requires memory { (memory : ℕ) × IsInMemory P.profile memory kernel.now }
         requires about { IsAbout self.now.held.policy.now self.now.held.layout.now self.now.told (asking_of self.now.asked) }
         requires right { AreRightParts P.profile kernel.now self.now.asked.without.now self.now.asked.memory.now self.now.held.layout.now.uses.items }
         requires all { self.now.all.now ≡ everyone_of self.now.held.policy.now }
-        ensures { IfOk result (spec.IsAskedOf P.profile self.now.held.policy.now self.now.held.layout.now self.now.held.homes.now self.now.told
+        ensures { IfOk result (spec.IsAskedOf P.profile self.now.held.policy.now self.now.held.layout.now self.now.held.homes.now self.now.told self.now.most
             kernel.now behind.now.setup.now behind.now.made) }
     {
-        let mut answer = NoWitness::Excluded;
+        let mut answer = None;
         for from in self.all {
             match self.ask_from::<P, S, W>(alloc, behind, kernel, from)? {
-                Outcome::Witness(text) => return Ok(Outcome::Witness(text)),
-                Outcome::Without(other) => answer = both(answer, other),
+                BreachOutcome::Witness(text) => return Ok(BreachOutcome::Witness(text)),
+                BreachOutcome::Without(other) => answer = Some(with_answer(answer, other)),
+                BreachOutcome::NotAsked => {}
             }
         }
-        Ok(Outcome::Without(answer))
+        Ok(without(answer))
     }
 }
 
@@ -116,12 +149,12 @@ pub fn ask<P: Profile, S: MakeStore<P> + DerivationStore<P>, W: MakeWaiters<P>>(
     held: Held<'_>,
     told: Told,
     most: u64,
-) -> Result<Outcome, AllocError>
+) -> Result<BreachOutcome, AllocError>
     requires plan { IsPlan P.profile behind.now.setup.now.plan }
     requires made { behind.now.made ≤ length behind.now.setup.now.calls }
     requires memory { (memory : ℕ) × IsInMemory P.profile memory kernel.now }
     requires layout { IsLayoutOf P.profile held.policy.now kernel.now held.layout.now }
-    ensures { IfOk result (spec.IsAskedOf P.profile held.entry.policy.now held.entry.layout.now held.entry.homes.now told kernel.now behind.now.setup.now behind.now.made) }
+    ensures { IfOk result (spec.IsAskedOf P.profile held.entry.policy.now held.entry.layout.now held.entry.homes.now told most kernel.now behind.now.setup.now behind.now.made) }
 {
     let without = trusted_threads(alloc, held.policy)?;
     let by = other_endpoints(alloc, held.layout, told)?;

@@ -1,20 +1,24 @@
 //! How a breach of a policy happens, as the answer of a command.
-ghost use Rattle.std.specs.Prelude.{◌≡◌, ◌≤◌, IfOk, length, map, option_map, string_bytes};
+ghost use Rattle.std.specs.Prelude.{◌≡◌, ◌≤◌, IfOk, codes, length, map, option_map, string_bytes};
 ghost use Rattle.kernel_abstract.specs.Plan.{IsPlan};
 ghost use Rattle.command_policy.specs.Policies.{IsJudged};
 ghost use Rattle.command_policy_how.specs.Breach.{breach_at};
 ghost use Rattle.command_policy_how.specs.Told as spec;
+ghost use Rattle.command_how.specs.How.{most_of as most_of_states};
+ghost use Rattle.command_how.specs.Line.{answer_text};
+ghost use Rattle.setup_values.specs.Names.{names_view};
 
-use crate::asking::ask;
+use crate::asking::{BreachOutcome, ask};
 use crate::breach::{asked_breaches, told_by};
 use cap_core::Profile;
 use command_check::{Behind, Command};
 use command_core::{Answer, Verdict};
-use command_how::{NoWitness, Outcome, STATES};
+use command_how::{NoWitness, flows_absent, most_of};
 use command_policy::{HeldTo, Judged, Judging};
 use command_policy_text::Told;
 use ipc_core::{MakeWaiters, SaveWaiters};
 use setup_format::{ReadSetup, Setup};
+use setup_marks::is_for_flows;
 use setup_report::{count_refused, kernel_after};
 use slot_core::{DerivationStore, MakeStore, SaveStore};
 use std::alloc::{AllocError, Global};
@@ -23,8 +27,9 @@ use std::alloc::{AllocError, Global};
 /// made, and so many copies of the kernel are tried at most, where the command line says so.
 ///
 /// The verdict is `AllMet` where the text is a witness: a set-up that makes the first calls, then others by which the breach happens,
-/// and meets all that it expects; `NotMet` with a line where it is excluded, or no calls are found; or `Absent` with nothing written:
-/// where the text has fewer breaches, and where the breach is of what is there already.
+/// and meets all that it expects; `NotMet` with a line where it is excluded, no calls are found, or it is asked of no two threads; or
+/// `Absent` with nothing written: where `import --flows` made the set-up, where the text has fewer breaches, and where the breach is of
+/// what is there already.
 #[derive(Clone, Copy, Drop)]
 pub struct BreachHow<'a> {
     pub policy: &'a [u8],
@@ -44,9 +49,17 @@ fn line_at(lines: &[String], number: u64) -> Option<&str>
 
 /// The line that no calls are told of a breach.
 fn line_of(alloc: Global, breach: u64, answer: NoWitness) -> Result<Answer, AllocError>
-    ensures { IfOk result (λ made. (made.text.items ≡ spec.breach_how_line breach answer) × (made.verdict ≡ Verdict.NotMet)) }
+    ensures { IfOk result (λ made. (made.text.items ≡ spec.breach_how_line breach (answer_text answer)) × (made.verdict ≡ Verdict.NotMet)) }
 {
     let line = format!(in alloc; "how {breach} {answer}\n")?;
+    Ok(Answer::new(alloc, line.into_bytes(), Verdict::NotMet))
+}
+
+/// The line that it is asked of no two threads how a breach happens.
+fn line_of_none(alloc: Global, breach: u64) -> Result<Answer, AllocError>
+    ensures { IfOk result (λ made. (made.text.items ≡ spec.breach_how_line breach (codes "not asked")) × (made.verdict ≡ Verdict.NotMet)) }
+{
+    let line = format!(in alloc; "how {breach} not asked\n")?;
     Ok(Answer::new(alloc, line.into_bytes(), Verdict::NotMet))
 }
 
@@ -93,14 +106,34 @@ impl BreachHow<'_> {
         requires plan { IsPlan P.profile behind.now.setup.now.plan }
         requires made { behind.now.made ≤ length behind.now.setup.now.calls }
         requires judged { IsJudged P.profile behind.now.setup.now behind.now.made judged.now }
-        ensures { IfOk result (λ answer. spec.IsToldOfBreach self.now.breach P.profile behind.now.setup.now behind.now.made judged.now told answer.text.items answer.verdict) }
+        ensures { IfOk result (λ answer. spec.IsToldOfBreach self.now.breach (most_of_states self.now.states) P.profile behind.now.setup.now behind.now.made judged.now told answer.text.items answer.verdict) }
     {
         let kernel = kernel_after::<P, S, W>(alloc, behind.setup, behind.made)?;
-        let most = self.states.unwrap_or(STATES);
+        let most = most_of(self.states);
         match ask::<P, S, W>(alloc, behind, &kernel, judged.held(), told, most)? {
-            Outcome::Witness(text) => Ok(Answer::new(alloc, text, Verdict::AllMet)),
-            Outcome::Without(answer) => line_of(alloc, self.breach, answer),
+            BreachOutcome::Witness(text) => Ok(Answer::new(alloc, text, Verdict::AllMet)),
+            BreachOutcome::Without(answer) => line_of(alloc, self.breach, answer),
+            BreachOutcome::NotAsked => line_of_none(alloc, self.breach),
         }
+    }
+
+    /// The answer for a set-up that is judged, unless `import --flows` made it.
+    fn answer_unless_flows<P: Profile, S: MakeStore<P> + DerivationStore<P>, W: MakeWaiters<P>>(
+        &self,
+        alloc: Global,
+        behind: &Behind<'_>,
+        judged: &Judged,
+    ) -> Result<Answer, AllocError>
+        requires plan { IsPlan P.profile behind.now.setup.now.plan }
+        requires made { behind.now.made ≤ length behind.now.setup.now.calls }
+        requires judged { IsJudged P.profile behind.now.setup.now behind.now.made judged.now }
+        ensures { IfOk result (λ answer. spec.IsAnswerUnlessFlows self.now.breach (most_of_states self.now.states) P.profile (names_view behind.now.names.now)
+            behind.now.setup.now behind.now.made judged.now answer.text.items answer.verdict) }
+    {
+        if is_for_flows(behind.names) {
+            return flows_absent(alloc);
+        }
+        self.answer_of::<P, S, W>(alloc, behind, judged)
     }
 
     /// The answer for a set-up that is judged.
@@ -113,7 +146,7 @@ impl BreachHow<'_> {
         requires plan { IsPlan P.profile behind.now.setup.now.plan }
         requires made { behind.now.made ≤ length behind.now.setup.now.calls }
         requires judged { IsJudged P.profile behind.now.setup.now behind.now.made judged.now }
-        ensures { IfOk result (λ answer. spec.IsAnswerOf self.now.breach P.profile behind.now.setup.now behind.now.made judged.now answer.text.items answer.verdict) }
+        ensures { IfOk result (λ answer. spec.IsAnswerOf self.now.breach (most_of_states self.now.states) P.profile behind.now.setup.now behind.now.made judged.now answer.text.items answer.verdict) }
     {
         let lines = judged.breach_lines(alloc, behind.setup)?;
         match self.breach_in(alloc, judged, lines.as_slice())? {
@@ -129,7 +162,7 @@ impl BreachHow<'_> {
 impl Command for BreachHow<'_> {
     ghost use Rattle.command_policy_how.specs.Told.{IsBreachHow};
 
-    ghost answers = { λ how. IsBreachHow how.breach how.after };
+    ghost answers = { λ how. IsBreachHow how.breach how.policy.now how.after how.states };
 
     fn answer<P: Profile, S: SaveStore<P> + DerivationStore<P>, W: SaveWaiters<P>>(
         &self,
@@ -150,7 +183,7 @@ impl Command for BreachHow<'_> {
                     made,
                     refused: count_refused(judged.replies.as_slice()),
                 };
-                self.answer_of::<P, S, W>(alloc, &behind, &judged)
+                self.answer_unless_flows::<P, S, W>(alloc, &behind, &judged)
             }
         }
     }

@@ -8,4 +8,6 @@ pub mod Groups
 pub mod Waiting
 pub mod Unbroken
 pub mod Regions
+pub mod Theirs
 pub mod Status
+pub mod Audits

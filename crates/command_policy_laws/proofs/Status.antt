@@ -4,6 +4,7 @@ use Rattle.std.proofs.lemmas.Bool.{eqb-true}
 use Rattle.cap_core.specs.declared.profile.ProfileName.{ProfileName}
 use Rattle.kernel_abstract.specs.declared.call.Reply.{Reply}
 use Rattle.kernel_abstract.specs.State.{shown}
+use Rattle.kernel_abstract.specs.Step.{state_after}
 use Rattle.setup_format.specs.Views.{SetupView}
 use Rattle.command_core.specs.declared.fault.Verdict.{Verdict}
 use Rattle.command_core.specs.declared.fault.Verdict.TheVariants.{AllMet, NotMet}
@@ -19,6 +20,7 @@ use Rattle.command_policy_text.specs.Texts.{breaches, breach_count, calls_breach
 use Rattle.command_policy_laws.specs.Unbroken.{any_endpoint, group_of, IsPromised, may_hold, may_group_pass}
 use Rattle.command_policy_laws.proofs.Keeps.{kept_held}
 use Rattle.command_policy_laws.proofs.Regions.{regions_theirs}
+use Rattle.command_policy_laws.proofs.Theirs.{names_theirs, objects_theirs}
 use Rattle.command_policy_laws.proofs.Unbroken.{kept_where_untold}
 use Rattle.command_policy_laws.proofs.Untold.{unbroken}
 
@@ -42,9 +44,15 @@ module _ (c : Policy) (l : Layout) (n : Labels) (homes : List Home) (js : List J
       (eqb-true (breach_count c l n homes js ws setup replies) 0 (met_where (breach_count c l n homes js ws setup replies == 0) (ap (λ (made : List ℕ × Verdict). made.1) is))))
 
 pub promised : (p : ProfileName) (c : Policy) (l : Layout) (n : Labels) (setup : SetupView) (replies : List Reply) (text : List ℕ) → IsPromised p c l n setup replies text
-promised p c l n setup replies text A reached is told calls of =
-    let none = none_told c l n (homes_joined c l (blocks c l)) (joins c l) (passages c l (blocks c l)) setup replies text told in (
-      kept_held p l.memory.items l.uses.items (shown A) (group_of l) any_endpoint (may_hold c l) (may_group_pass c) is.right.ever
-          (kept_where_untold p c l n A is none).1 A reached refl calls of,
-      regions_theirs p c l A is (unbroken c l n (homes_joined c l (blocks c l)) (joins c l) (passages c l (blocks c l)) none) calls reached of,
+promised p c l n setup replies text A reached is told =
+    let none = none_told c l n (homes_joined c l (blocks c l)) (joins c l) (passages c l (blocks c l)) setup replies text told in
+    let kept = kept_where_untold p c l n A is none in (
+      kept.0,
+      λ calls of.
+          let closed = (is.right.ever A reached refl calls of).closed in (
+            kept_held p l.memory.items l.uses.items (shown A) (group_of l) any_endpoint (may_hold c l) (may_group_pass c) is.right.ever kept.1 A reached refl calls of,
+            regions_theirs p c l A is (unbroken c l n (homes_joined c l (blocks c l)) (joins c l) (passages c l (blocks c l)) none) calls reached of,
+            objects_theirs p l (state_after p A calls).derivations closed,
+            names_theirs p l (state_after p A calls).derivations closed,
+          ),
     )

@@ -5,3 +5,4 @@ pub mod Larger
 pub mod Keeps
 pub mod Grants
 pub mod Unbroken
+pub mod Audits

@@ -1,10 +1,11 @@
 -- What a policy lets groups hold and send, and that it is so ever where no line tells of a breach.
-use Rattle.std.specs.Prelude.{◌≡◌, ◌≢◌, ⊤, ℕ, ◌==◌, ◌&&◌, ◌||◌, Bool, true, not, List, [], Option, Some, None, option_map, find}
+use Rattle.std.specs.Prelude.{◌≡◌, ◌≢◌, ◌≤◌, ◌<◌, ⊤, ℕ, ◌==◌, ◌&&◌, ◌||◌, Bool, true, not, List, [], Option, Some, None, option_map, find}
 use Rattle.std.specs.List.{list_any, Contains, AllByRecursion as Each}
 use Rattle.cap_core.specs.declared.profile.ProfileName.{ProfileName}
 use Rattle.cap_core.specs.declared.capability.Badge.{Badge}
+use Rattle.cap_core.specs.Objects.{base_of, end_of}
 use Rattle.cap_core.specs.declared.capability.Cap.{Cap}
-use Rattle.cap_core.specs.declared.capability.Cap.TheVariants.{Untyped}
+use Rattle.cap_core.specs.declared.capability.Cap.TheVariants.{Null, Untyped, Endpoint, CNode, Tcb}
 use Rattle.cap_core.specs.declared.rights.Rights.{Rights}
 use Rattle.cap_core.specs.Rights.{write_bit, read_bit, grant_bit, grant_reply_bit}
 use Rattle.kernel_forest.specs.Forest.{Forest}
@@ -17,7 +18,7 @@ use Rattle.kernel_abstract.specs.State.{State, shown}
 use Rattle.kernel_abstract.specs.Step.{state_after}
 use Rattle.kernel_abstract.specs.Reached.{IsReached}
 use Rattle.query_parts.specs.Listed.{part_at, parts_listed}
-use Rattle.query_parts.specs.Laws.{IsAllowed}
+use Rattle.query_parts.specs.Laws.{IsAllowed, Names}
 use Rattle.setup_format.specs.Views.{SetupView}
 use Rattle.command_core.specs.declared.fault.Verdict.TheVariants.{AllMet}
 use Rattle.setup_policy.specs.declared.policy.Allowance.{Allowance}
@@ -120,12 +121,38 @@ WhatIsNotToldIsKept p c l n A =
     IsLayoutOf p c (shown A) l → breaches c l n (homes_joined c l (blocks c l)) (joins c l) (passages c l (blocks c l)) ≡ [] →
     AreNamed c l × KeepPolicy p (group_of l) any_endpoint (may_hold c l) (may_group_pass c) (shown A) (parts_listed l.memory.items l.uses.items)
 
--- what is promised where the verdict on a layout is `AllMet`, which is status 0: it is held to the policy, and the untyped regions of each
--- group stay in its regions, whatever calls the threads of the parts make, and whatever messages other threads send and receive
+-- each address of the object that a capability names, but of an endpoint, is of the group
+abbrev pub AreAddressesTheirs : ProfileName → Layout → ℕ → Cap → Type 0
+AreAddressesTheirs p l group cap = (address : ℕ) → base_of cap ≤ address → address < end_of p cap → group_of l address ≡ Some group
+
+abbrev pub IsObjectTheirs : ProfileName → Layout → ℕ → Cap → Type 0
+IsObjectTheirs p l group Null = ⊤
+IsObjectTheirs p l group (Endpoint base badge rights) = ⊤
+IsObjectTheirs p l group (Untyped base bits free) = AreAddressesTheirs p l group (Untyped base bits free)
+IsObjectTheirs p l group (CNode base radix guard) = AreAddressesTheirs p l group (CNode base radix guard)
+IsObjectTheirs p l group (Tcb base) = AreAddressesTheirs p l group (Tcb base)
+
+-- threads, CNodes and untyped regions in the slots of a group's part are of the group: none is another group's
+abbrev pub AreObjectsTheirs : ProfileName → Layout → Forest Entry → Type 0
+AreObjectsTheirs p l f = (slot group : ℕ) → group_of l slot ≡ Some group → IsObjectTheirs p l group (cap_at f slot)
+
+-- the slots that a group's threads name are of the group: no call of theirs reaches into another group's CNode
+abbrev pub AreNamesTheirs : ProfileName → Layout → Forest Entry → Type 0
+AreNamesTheirs p l f = (thread slot group : ℕ) → group_of l thread ≡ Some group → Names p f thread slot → group_of l slot ≡ Some group
+
+-- what is so after some calls: what groups hold and what passes, their untyped regions, their objects, and what their threads name
+abbrev pub AreKept : ProfileName → Policy → Layout → State → List Call → Type 0
+AreKept p c l A calls =
+    AreSlotsHeld p (group_of l) any_endpoint (may_hold c l) (may_group_pass c) l.memory.items A calls
+    × AreRegionsTheirs c l (state_after p A calls).derivations
+    × AreObjectsTheirs p l (state_after p A calls).derivations
+    × AreNamesTheirs p l (state_after p A calls).derivations
+
+-- what is promised where the verdict on a layout is `AllMet`, which is status 0: the threads that the policy names are of the groups that
+-- name them, and, whatever calls the threads of the parts make, and whatever messages other threads send and receive, the layout is held
+-- to the policy, and objects and names of a group stay its own
 abbrev pub IsPromised : ProfileName → Policy → Layout → Labels → SetupView → List Reply → List ℕ → Type 0
 IsPromised p c l n setup replies text =
     (A : State) → IsReached p A → IsLayoutOf p c (shown A) l →
     (text, AllMet) ≡ text_and_verdict c l n (homes_joined c l (blocks c l)) (joins c l) (passages c l (blocks c l)) setup replies →
-    (calls : List Call) → Each (IsAllowed (parts_listed l.memory.items l.uses.items)) calls →
-    AreSlotsHeld p (group_of l) any_endpoint (may_hold c l) (may_group_pass c) l.memory.items A calls
-    × AreRegionsTheirs c l (state_after p A calls).derivations
+    AreNamed c l × ((calls : List Call) → Each (IsAllowed (parts_listed l.memory.items l.uses.items)) calls → AreKept p c l A calls)

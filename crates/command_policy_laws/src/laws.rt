@@ -13,6 +13,9 @@ ghost use Rattle.command_parts.specs.declared.ways.Way.{Way};
 ghost use Rattle.setup_policy.specs.declared.policy.Labels.{Labels};
 ghost use Rattle.command_policy_breaches.specs.declared.held.Layout.{Layout};
 ghost use Rattle.setup_policy.specs.declared.policy.Policy.{Policy};
+ghost use Rattle.std.specs.Prelude.{Option};
+ghost use Rattle.setup_format.specs.Views.{ReadView};
+ghost use Rattle.command_policy_laws.specs.Audits.{WhatAuditPolicyPromises};
 ghost use Rattle.command_policy_laws.specs.Grants.{are_answered, are_given, AreAnswersKeptEver, AreGrantsKeptEver};
 ghost use Rattle.command_policy_laws.specs.Held.{are_passages_let, AreWaysHeldEver};
 ghost use Rattle.command_policy_laws.specs.Keeps.{LeastKeepMost, WhatIsKeptIsHeld};
@@ -73,8 +76,16 @@ pub fn what_is_not_told_is_kept()
 /// make, and whatever messages other threads send and receive: each capability to an endpoint in a slot of a group's part is one that
 /// the group's entries allow, with its badge and all its rights, or is to an endpoint in a region of the group or in its part's memory;
 /// each message that is delivered between threads of two groups passes by an endpoint and with a badge that a way allows; and each
-/// untyped region in a slot of a group's part lies in one of the group's regions.
+/// untyped region in a slot of a group's part lies in one of the group's regions. The threads that the policy names are of the groups that
+/// name them; threads, CNodes and regions in a group's slots are its own, and its threads name no slot of another group.
 pub fn what_status_0_promises()
     ensures { (p : ProfileName) (c : Policy) (l : Layout) (n : Labels) (setup : SetupView) (replies : List Reply) (text : List ℕ) →
         IsPromised p c l n setup replies text }
+{}
+
+/// `audit --policy` with the verdict `AllMet`, which is status 0: the text is held to the policy that its bytes say, by the state behind as
+/// many calls as are asked for, and what `what_status_0_promises` says is so of that state.
+pub fn what_audit_policy_promises()
+    ensures { (policy : List ℕ) (after : Option ℕ) (p : ProfileName) (read : ReadView) (text : List ℕ) →
+        WhatAuditPolicyPromises policy after p read text }
 {}

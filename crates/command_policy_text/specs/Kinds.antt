@@ -27,7 +27,7 @@ use Rattle.command_policy_breaches.specs.Ways.{is_passage_amiss}
 abbrev pub silent : Policy → List Told
 silent c = map (λ (m : Member). Silent m.thread) c.silent.items
 
--- the threads that are trusted to send and to receive alone
+-- the threads that are trusted only to send and to receive
 abbrev pub messages : Policy → List Told
 messages c = map (λ (m : Member). Messages m.thread) c.messages.items
 
@@ -85,11 +85,11 @@ waiting_breaches c l = map (λ (w : Waiting). Waits w) (waits_told c l)
 
 -- ---- what is allowed and not there
 
--- the ways of which nothing is there
+-- the ways that are not used
 abbrev pub idle_ways : Policy → Layout → List Told
 idle_ways c l = map (λ (w : PolicyWay). UnusedWay w) (filter (λ (w : PolicyWay). not (is_way_used c l w)) c.ways.items)
 
--- the entries of `use` of which nothing is there
+-- the entries of `use` that are not used
 abbrev pub idle_uses : Policy → Layout → List Told
 idle_uses c l = map (λ (a : Allowance). UnusedUse a) (filter (λ (a : Allowance). not (is_entry_used l a)) c.uses.items)
 
@@ -103,7 +103,7 @@ idle_in_uses c l = map (λ (a : Allowance). IdleInUse a) (filter (has_use_idle_r
 abbrev pub idle_rights : Policy → Layout → List Told
 idle_rights c l = idle_in_ways c l ++ idle_in_uses c l
 
--- the regions of groups of which nothing is there
+-- the regions of groups that are not used
 abbrev pub idle_regions : Policy → Layout → List Told
 idle_regions c l = map (λ (r : OwnRegion). UnusedRegion r) (filter (λ (r : OwnRegion). not (is_region_used l r)) c.regions.items)
 

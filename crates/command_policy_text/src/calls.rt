@@ -114,10 +114,6 @@ fn add_call(
 
 /// A line for each call that was refused where nothing was expected, or answered otherwise than expected. `replies` has what the
 /// first calls of a set-up were answered.
-///
-/// # Errors
-///
-/// Memory was refused.
 pub fn call_breaches(
     alloc: Global,
     setup: &Setup,

@@ -208,10 +208,6 @@ fn calls(
 }
 
 /// The lines of what breaks the policy: calls first, and then the other kinds.
-///
-/// # Errors
-///
-/// Memory was refused.
 pub fn breach_lines(
     alloc: Global,
     held: Held<'_>,
@@ -312,10 +308,6 @@ fn verdict_of(breaches: usize) -> Verdict
 
 /// The text of a layout that is held to a policy, and the verdict: `AllMet` where nothing breaks it, and else `NotMet`. `joins` are
 /// the parts that Grant joins, `passages` what can pass between them, and `replies` what the first calls of the set-up were answered.
-///
-/// # Errors
-///
-/// Memory was refused.
 pub fn policy_text(
     alloc: Global,
     held: Held<'_>,

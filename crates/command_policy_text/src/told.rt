@@ -408,10 +408,6 @@ fn unused_group_text(alloc: Global, held: Held<'_>, group: u64) -> Result<String
 }
 
 /// The text of a line, without its end.
-///
-/// # Errors
-///
-/// Memory was refused.
 pub fn told_text(alloc: Global, held: Held<'_>, told: Told) -> Result<String, AllocError>
     ensures { IfOk result (λ s. string_bytes s ≡ spec.line_told held.entry.policy.now held.entry.layout.now held.entry.labels.now held.entry.homes.now told) }
 {

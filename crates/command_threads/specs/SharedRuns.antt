@@ -22,7 +22,7 @@ use Rattle.command_core.specs.declared.fault.Verdict.{Verdict}
 use Rattle.command_core.specs.declared.fault.Verdict.TheVariants.{Refused}
 use Rattle.command_core.specs.declared.sink.Sink.{Ghosts as SinkGhosts}
 use Rattle.command_core.specs.declared.source.Source.{Ghosts as SourceGhosts}
-use Rattle.command_explore.specs.Numbers.{call_number_at, client_numbers_of, expectation_of}
+use Rattle.command_check.specs.Numbers.{call_number_at, client_numbers_of, expectation_of}
 
 -- the calls of a client in a set-up, in order
 abbrev pub client_calls : ℕ → List CallView → List Call

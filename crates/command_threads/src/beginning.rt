@@ -28,10 +28,6 @@ fn first_count(setup: &Setup, first: usize) -> usize
 }
 
 /// Boots a kernel from the set-up's plan, and makes the first calls of the set-up.
-///
-/// # Errors
-///
-/// Memory was refused.
 pub fn begin<P: Profile, S: MakeStore<P>, W: MakeWaiters<P>>(
     alloc: Global,
     setup: &Setup,
@@ -74,10 +70,6 @@ fn add_later(history: &mut Numbered, later: &[Entry]) -> Result<(), AllocError>
 
 /// The history of the first calls of a set-up, with their replies, and then of the calls that clients made behind them. The
 /// numbers of each client go on from those of its first calls.
-///
-/// # Errors
-///
-/// Memory was refused.
 pub fn whole_history(
     alloc: Global,
     setup: &Setup,

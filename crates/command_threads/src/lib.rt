@@ -11,4 +11,4 @@ mod threads;
 mod unmet;
 
 pub use open_gate::OpenGate;
-pub use threads::{threads_run, threads_run_open};
+pub use threads::{threads_found, threads_found_open, threads_run};

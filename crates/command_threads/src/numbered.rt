@@ -23,10 +23,6 @@ pub struct Numbered {
 
 impl Numbered {
     /// No entries yet, and room for so many.
-    ///
-    /// # Errors
-    ///
-    /// Memory was refused.
     pub fn with_capacity(alloc: Global, room: usize) -> Result<Numbered, AllocError>
         ensures { IfOk result (λ n. n.entries.items ≡ []) }
     {

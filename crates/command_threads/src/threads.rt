@@ -8,7 +8,7 @@ ghost use Rattle.kernel_abstract.specs.Plan.{IsPlan};
 ghost use Rattle.kernel_abstract.specs.State.{shown};
 ghost use Rattle.command_check.specs.Notes.{noted};
 ghost use Rattle.command_check.specs.Program.{verdict_on as verdict_of_counts};
-ghost use Rattle.command_core.specs.Runs.{IsRun};
+ghost use Rattle.command_core.specs.Runs.{IsRun, verdict_of};
 ghost use Rattle.command_threads.specs.Private.Begun.{IsBegunKernel, state_begun};
 ghost use Rattle.command_threads.specs.Private.Settled.{IsOwnFault};
 ghost use Rattle.command_threads.specs.SharedRuns.{IsOutcomeIn, IsSharedProgram, IsToldIn, IsToldProgram, TellsUnmet, count_first};
@@ -225,7 +225,7 @@ fn report_of_input_open<R: Threads + Wait + Sync>(
 /// wanted and not there, by any client too, whatever stopped the others; nothing is written then. `Thread` where a
 /// thread could not be started, the shared kernel gave a reader no entry, or a client lost a call or found its name
 /// taken; nothing is written then.
-pub fn threads_run<R: Threads + Wait + Sync, S: Source, K: Sink, G: Gate + Sync>(
+pub fn threads_found<R: Threads + Wait + Sync, S: Source, K: Sink, G: Gate + Sync>(
     rt: &R,
     alloc: Global,
     first: usize,
@@ -235,7 +235,7 @@ pub fn threads_run<R: Threads + Wait + Sync, S: Source, K: Sink, G: Gate + Sync>
 ) -> Result<Found, RunFault>
     requires source { S.failed source.old ≡ false }
     requires sink { K.failed sink.old ≡ false }
-    ensures run { IsRun (IsSharedProgram false G.ends first) S.Source K.Sink source.old source.new sink.old sink.new result }
+    ensures run { IsRun (IsSharedProgram false G.ends first) S.Source K.Sink source.old source.new sink.old sink.new (verdict_of result) }
     ensures unmet { IfOk result (TellsUnmet false G.ends first S.Source K.Sink source.old source.new sink.old sink.new) }
     ensures accepted { result ≡ Err RunFault.Thread → (input : List ℕ) × Gave S.left S.given source.old source.new input × IsOk (setup_of_bytes input) }
 {
@@ -249,8 +249,8 @@ pub fn threads_run<R: Threads + Wait + Sync, S: Source, K: Sink, G: Gate + Sync>
 /// calls only where it is full. If `by_name` is set, objects and slots that have a name in the state after the calls are told by it.
 ///
 /// # Errors
-/// As `threads_run`.
-pub fn threads_run_open<R: Threads + Wait + Sync, S: Source, K: Sink>(
+/// As `threads_found`.
+pub fn threads_found_open<R: Threads + Wait + Sync, S: Source, K: Sink>(
     rt: &R,
     alloc: Global,
     by_name: bool,
@@ -260,7 +260,7 @@ pub fn threads_run_open<R: Threads + Wait + Sync, S: Source, K: Sink>(
 ) -> Result<Found, RunFault>
     requires source { S.failed source.old ≡ false }
     requires sink { K.failed sink.old ≡ false }
-    ensures run { IsRun (IsSharedProgram by_name (λ _ _. ⊥) first) S.Source K.Sink source.old source.new sink.old sink.new result }
+    ensures run { IsRun (IsSharedProgram by_name (λ _ _. ⊥) first) S.Source K.Sink source.old source.new sink.old sink.new (verdict_of result) }
     ensures unmet { IfOk result (TellsUnmet by_name (λ _ _. ⊥) first S.Source K.Sink source.old source.new sink.old sink.new) }
     ensures accepted { result ≡ Err RunFault.Thread → (input : List ℕ) × Gave S.left S.given source.old source.new input × IsOk (setup_of_bytes input) }
 {
@@ -268,4 +268,25 @@ pub fn threads_run_open<R: Threads + Wait + Sync, S: Source, K: Sink>(
     let answer = report_of_input_open(rt, alloc, by_name, first, input.as_slice())?;
     write_all(sink, answer.text.as_slice())?;
     Ok(answer.found())
+}
+
+/// Reads the source to its end, and lets the clients of the set-up that it holds make their calls of one kernel, each its own
+/// calls in a thread of its own, with the gate before and after each call. It writes the report of the history to the sink,
+/// or the line by which the set-up is refused. It waits until the clients have ended.
+///
+/// # Errors
+/// As `threads_found`.
+pub fn threads_run<R: Threads + Wait + Sync, S: Source, K: Sink, G: Gate + Sync>(
+    rt: &R,
+    alloc: Global,
+    source: &mut S,
+    sink: &mut K,
+    gate: &G,
+) -> Result<Verdict, RunFault>
+    requires source { S.failed source.old ≡ false }
+    requires sink { K.failed sink.old ≡ false }
+    ensures run { IsRun (IsSharedProgram false G.ends 0) S.Source K.Sink source.old source.new sink.old sink.new result }
+    ensures accepted { result ≡ Err RunFault.Thread → (input : List ℕ) × Gave S.left S.given source.old source.new input × IsOk (setup_of_bytes input) }
+{
+    threads_found(rt, alloc, 0, source, sink, gate).map(|found| found.verdict)
 }

@@ -3,19 +3,14 @@ ghost use Rattle.std.specs.Prelude.{◌≡◌, IfOk};
 ghost use Rattle.command_check.specs.Notes.{noted};
 ghost use Rattle.command_threads.specs.SharedRuns.{unmet_in};
 
-use command_check::add_unmet;
+use command_check::{add_unmet, expected_of, number_at, numbers_of_clients};
 use command_core::CallNote;
-use command_explore::{expected_of, number_at, numbers_of_clients};
 use kernel_shared::Entry;
 use setup_format::Setup;
 use std::alloc::{AllocError, Global};
 
 /// What is told of the calls of a history whose expectation is not met, in the order of the history. Each is told by its number
 /// in the set-up.
-///
-/// # Errors
-///
-/// Memory was refused.
 pub fn unmet_calls(
     alloc: Global,
     setup: &Setup,

@@ -47,10 +47,6 @@ fn add_expectations(out: &mut String, count: ExpectationCount) -> Result<(), All
 /// slots of its own name, or of the sibling right in front of a full slot. Objects and slots stand as `naming` tells them.
 ///
 /// The lines are this project's profile.
-///
-/// # Errors
-///
-/// Memory was refused.
 #[tactic(auto, unfolding(crate::specs::Trace::trace_told))]
 pub fn trace<P: Profile, S: MakeStore<P> + DerivationStore<P>, W: MakeWaiters<P>>(
     alloc: Global,

@@ -13,10 +13,6 @@ use std::alloc::AllocError;
 use std::fmt::Write;
 
 /// Adds what stands before the nodes, with this label.
-///
-/// # Errors
-///
-/// Memory was refused.
 pub fn add_graph_head(out: &mut String, label: &str) -> Result<(), AllocError>
     ensures { OnOk result (string_bytes out.new ≡ string_bytes out.old ++ spec.graph_head label.now) }
 {
@@ -64,10 +60,6 @@ fn add_row<P: Profile>(
 }
 
 /// Adds the nodes of all full slots and the edges between them, in the order of `rows`, which has them as a kernel tells them.
-///
-/// # Errors
-///
-/// Memory was refused.
 pub fn add_nodes<P: Profile>(
     out: &mut String,
     naming: &Naming<'_>,

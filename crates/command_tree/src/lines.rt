@@ -59,10 +59,6 @@ fn add_next<P: Profile>(
 }
 
 /// Adds a line for each of the full slots of a forest. `rows` has them as a kernel tells them.
-///
-/// # Errors
-///
-/// Memory was refused.
 pub fn add_forest<P: Profile>(
     alloc: Global,
     out: &mut String,

@@ -54,10 +54,6 @@ fn graph_text<P: Profile, S: MakeStore<P> + DerivationStore<P>, W: MakeWaiters<P
 }
 
 /// The same in a form.
-///
-/// # Errors
-///
-/// Memory was refused.
 pub fn text_in<P: Profile, S: MakeStore<P> + DerivationStore<P>, W: MakeWaiters<P>>(
     alloc: Global,
     form: Form,

@@ -13,7 +13,7 @@ use Rattle.command_why.specs.Asked.{AskedView}
 abbrev pub AreOneLineNames : AskedView → Type 0
 AreOneLineNames a = (key name : List ℕ) → name_at a.table key ≡ Some name → IsOneLine name
 
--- no object and no slot is told with a line feed
+-- no object and no slot is written with a line feed
 abbrev pub AreOneLineTexts : Texts → Type 0
 AreOneLineTexts texts = ((object : Object) → IsOneLine (texts.object object)) × ((slot : ℕ) → IsOneLine (texts.slot slot))
 

@@ -56,10 +56,6 @@ fn add_ending(
 
 /// How objects and slots are told of a set-up: by addresses alone, or by the names of its objects in the state after all of its
 /// calls. Only for names a kernel is made that makes the calls.
-///
-/// # Errors
-///
-/// Memory was refused.
 pub fn naming_after<'a, P: Profile, S: MakeStore<P> + DerivationStore<P>, W: MakeWaiters<P>>(
     alloc: Global,
     by_name: bool,
@@ -83,10 +79,6 @@ pub fn naming_after<'a, P: Profile, S: MakeStore<P> + DerivationStore<P>, W: Mak
 /// beside it. Objects and slots stand as a naming tells them.
 ///
 /// The lines are this project's profile.
-///
-/// # Errors
-///
-/// Memory was refused.
 #[tactic(auto, unfolding(crate::specs::Why::why_of))]
 pub fn why<P: Profile, S: MakeStore<P> + DerivationStore<P>, W: MakeWaiters<P>>(
     alloc: Global,

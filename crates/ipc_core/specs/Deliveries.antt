@@ -88,7 +88,7 @@ grown e h (CancelsThread thread) = history_less (is_sent_by thread) (is_received
 grown e h (CancelsBadge endpoint badge) = cond (endpoint == e) (history_less (is_sent_with badge) (λ _. false) h) h
 grown e h (CancelsEndpoint endpoint) = cond (endpoint == e) (history_less (λ _. true) (λ _. true) h) h
 
--- what stands on an endpoint after requests: what was accepted and was not cancelled
+-- what an endpoint has after requests: those that were accepted and not cancelled
 abbrev pub standing : ℕ → History → List Request → History
 standing e h [] = h
 standing e h (request ∷ requests) = standing e (grown e h request) requests

@@ -49,7 +49,7 @@ abbrev pub answering : {X E : Type 0} → (Reason → E) → Result X Reason →
 answering answer (Ok x) = Ok x
 answering answer (Err reason) = Err (answer reason)
 
--- a result with the refusal in place of its reason
+-- a result with the refusal instead of its reason
 abbrev pub with_refusal : {X : Type 0} → Result X Reason → Result X Refusal
 with_refusal result = answering refusal_of result
 

@@ -55,7 +55,7 @@ abbrev pub IsDepthHint : ProfileName → (ℕ → Cap) → ℕ → ℕ → Type 
 IsDepthHint p cap_in root index =
     (depth slot : ℕ) → depth_hint p cap_in root index ≡ Some (Depth depth slot) → (index < 2 ^ depth) × (target_slot p cap_in (cap_in root) index depth ≡ Ok slot)
 
--- a number that is given in place of a word leads to the slot whose address the word is
+-- a number that is given instead of a word leads to the slot whose address the word is
 abbrev pub IsNumberHint : ProfileName → Forest Entry → ℕ → ℕ → Type 0
 IsNumberHint p f thread word =
     (number slot : ℕ) → word_hint p f thread word ≡ Some (Number number slot) → (slot ≡ word) × (slot_named p f (cap_at f thread) number ≡ Ok slot)

@@ -3,7 +3,7 @@ use Rattle.std.specs.Prelude.{◌≡◌, ◌⊎◌, ◌<◌, ℕ, Bool, true, fa
 use Rattle.std.specs.List.{list_any, AllByRecursion as Each}
 use Rattle.kernel_forest.specs.Entries.{Entry, is_at}
 
--- it stands in the list
+-- it is an element of the list
 abbrev pub In : {A : Type 0} → A → List A → Type 0
 In a [] = ⊥
 In a (x ∷ l) = (a ≡ x) ⊎ In a l

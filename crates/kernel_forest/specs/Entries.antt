@@ -57,6 +57,6 @@ first_child slot f = first_slot (children (is_at slot) f)
 abbrev pub slot_of : Entry → ℕ
 slot_of e = e.slot
 
--- the entries, each before those below it, with the slot of the one that it stands right below
+-- the entries, each before those below it, with the slot of the one that it is right below
 abbrev pub derivations_of : Forest Entry → List (Entry × Option ℕ)
 derivations_of f = map (λ (e : Entry × Option Entry). (e.0, option_map slot_of e.1)) (parented None f)

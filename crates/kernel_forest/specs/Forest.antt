@@ -2,12 +2,12 @@
 use Rattle.std.specs.Prelude.{◌≡◌, ℕ, Bool, false, cond, List, [], ◌∷◌, ◌++◌, length, ◌||◌, Option, Some}
 use Rattle.std.specs.List.{prefix_len}
 
--- a list of trees: none, or a first tree, which is what stands there and a list of trees, and then the other trees
+-- a list of trees: empty, or a first tree, which is a root and the list of trees below it, and then the other trees
 pub data Forest (A : Type 0) : Type 0 where
   none : Forest A
   tree : A → Forest A → Forest A → Forest A
 
--- all that stands in it, each before what is below it, from the first tree on
+-- all its elements, each before those below it, from the first tree on
 abbrev pub preorder : {A : Type 0} → Forest A → List A
 preorder none = []
 preorder (tree a under others) = a ∷ (preorder under ++ preorder others)
@@ -17,7 +17,7 @@ abbrev pub join : {A : Type 0} → Forest A → Forest A → Forest A
 join none more = more
 join (tree a under others) more = tree a under (join others more)
 
--- what stands at the tops
+-- the roots
 abbrev pub tops : {A : Type 0} → Forest A → List A
 tops none = []
 tops (tree a under others) = a ∷ tops others

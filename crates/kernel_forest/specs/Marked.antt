@@ -44,8 +44,8 @@ is_parent p a b = a.revocable && (in_region p a.cap b.cap && badge_fits a b)
 abbrev pub entry_of : ProfileName → Marked → Entry
 entry_of p r = entry (r.place * slot_size p) r.cap r.revocable
 
--- the forest whose preorder the list is, where each stands above the longest run of followers that it is parent of;
--- revocable is originality
+-- the forest whose preorder the list is: below each is the longest run of followers that it is parent of; revocable
+-- means original
 abbrev pub forest_of : ProfileName → List Marked → Forest Entry
 forest_of p l = renamed (entry_of p) (build (is_parent p) l)
 
@@ -93,7 +93,7 @@ pub record IsMarkedList (p : ProfileName) (memory : ℕ) (l : List Marked) : Typ
   pub named_first : IsNamedFirst l
   pub marks : Each HasMarks l
 
--- what the list says of a place: the row there, and an empty one where none stands there
+-- the row of the list at a place, or an empty one if there is none
 abbrev pub row_in : ℕ → List Marked → Marked
 row_in place [] = marked place Null false false
 row_in place (r ∷ l) = cond (r.place == place) r (row_in place l)
@@ -112,8 +112,8 @@ abbrev pub next_in : ℕ → List Marked → Option ℕ
 next_in place [] = None
 next_in place (r ∷ l) = cond (r.place == place) (first_place l) (next_in place l)
 
--- the list stands for a forest of entries: it is the forest's preorder, where revocable is originality, and the descendants of
--- each are the longest run of followers that it is parent of
+-- the list represents a forest of entries: it is the forest's preorder, revocable means original, and the descendants of each
+-- are the longest run of followers that it is parent of
 abbrev pub StandsForEntries : ProfileName → List Marked → Forest Entry → Type 0
 StandsForEntries p l f = with_descendant_counts f ≡ map (λ (r : Marked × ℕ). (entry_of p r.0, r.1)) (runs (is_parent p) l)
 

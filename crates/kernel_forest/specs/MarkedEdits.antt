@@ -17,8 +17,8 @@ put_behind place x (r ∷ l) = cond (r.place == place) (r ∷ x ∷ l) (r ∷ pu
 abbrev pub object_behind : ℕ → ℕ → Cap → List Marked → List Marked
 object_behind parent place cap l = put_behind parent (marked place cap true true) l
 
--- a capability that is derived from the one at `source`, directly after that, with both marks where it is original, and
--- else with neither
+-- a capability that is derived from the one at `source`, directly after it, with both marks if it is original, and else
+-- with neither
 abbrev pub derived_behind : ℕ → ℕ → Cap → List Marked → List Marked
 derived_behind source place cap l =
     let mark = is_new_original (row_in source l).cap cap in put_behind source (marked place cap mark mark) l

@@ -2,7 +2,7 @@
 use Rattle.std.specs.Prelude.{Bool, cond}
 use Rattle.kernel_forest.specs.Forest.{Forest, none, tree, join}
 
--- all that pass leave at once, and what stands below one takes its place
+-- all that pass the test are taken out at once, and what is below one of them takes its place
 abbrev pub without : {A : Type 0} → (A → Bool) → Forest A → Forest A
 without is none = none
 without is (tree a under others) =

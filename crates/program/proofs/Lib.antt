@@ -1,3 +1,4 @@
 pub mod Cuts
 pub mod Widened
 pub mod Regions
+pub mod EndOfLine

@@ -1,5 +1,5 @@
 -- Which text and which verdict each job has, by its options, for the bytes of an input.
-use Rattle.std.specs.Prelude.{◌≡◌, ℕ, Bool, List, Option, Some, None, option_map, is_some, unwrap_or, cond, MatchBool}
+use Rattle.std.specs.Prelude.{◌≡◌, ℕ, Bool, not, List, Option, Some, None, option_map, is_some, unwrap_or, cond, MatchBool}
 use Rattle.command_line.specs.declared.arguments.Job.{Job}
 use Rattle.command_line.specs.declared.arguments.Job.TheVariants.{Check, Trace, Threads, Migrate, Why, Audit, Explore, Tree, New, Marks, Import}
 use Rattle.command_line.specs.declared.arguments.Options.{Options}
@@ -13,6 +13,7 @@ use Rattle.command_parts.specs.Threads.{Trusted}
 use Rattle.command_policy.specs.Policies.{IsPolicyOf}
 use Rattle.command_policy_draft.specs.Drafts.{IsDraft}
 use Rattle.command_policy_how.specs.Told.{IsBreachHow}
+use Rattle.command_line.specs.CommandLine.{takes_least}
 use Rattle.command_import.specs.Import.{IsImported}
 use Rattle.command_never.specs.Question.{Asked, IsNever}
 use Rattle.command_explore.specs.Explorations.{IsExploration, IsGroupsExploration}
@@ -91,6 +92,7 @@ how_of options threads = record {
   by = by_of options;
   badge = options.badge;
   without = without_of options;
+  states = options.states;
 }
 
 -- or, with `--how`, calls after which it has happened
@@ -108,14 +110,14 @@ abbrev pub IsAuditOfParts : Options → List ℕ → List ℕ → Verdict → Ty
 IsAuditOfParts options input text verdict = IsAuditBy options (option_map (λ s. s.now) options.never) input text verdict
 
 -- what is told of the layout by a policy, or, with `--how`, how a breach of it happens
-abbrev pub IsHeld : Options → Option ℕ → List ℕ → List ℕ → Verdict → Type 0
-IsHeld options None input text verdict = IsAnswerTo (IsPolicyOf options.after) input text verdict
-IsHeld options (Some breach) input text verdict = IsAnswerTo (IsBreachHow breach options.after) input text verdict
+abbrev pub IsHeld : Options → List ℕ → Option ℕ → List ℕ → List ℕ → Verdict → Type 0
+IsHeld options policy None input text verdict = IsAnswerTo (IsPolicyOf policy options.after) input text verdict
+IsHeld options policy (Some breach) input text verdict = IsAnswerTo (IsBreachHow breach policy options.after options.states) input text verdict
 
--- or, with `--policy`, this
-abbrev pub IsAudit : Options → List ℕ → List ℕ → Verdict → Type 0
-IsAudit options input text verdict =
-    MatchBool (is_some options.policy) (IsHeld options options.breach input text verdict) (IsAuditOfParts options input text verdict)
+-- or, with `--policy`, this, by the policy with these bytes
+abbrev pub IsAudit : Options → List ℕ → List ℕ → List ℕ → Verdict → Type 0
+IsAudit options policy input text verdict =
+    MatchBool (is_some options.policy) (IsHeld options policy options.breach input text verdict) (IsAuditOfParts options input text verdict)
 
 -- the calls that are made before the clients begin, and the states that are kept at the most
 abbrev pub first_calls_of : Options → ℕ
@@ -150,16 +152,16 @@ IsCheck options input text verdict =
 abbrev pub form_of : Options → Form
 form_of options = cond options.dot Dot Lines
 
--- what each command writes for an input: its text and its verdict
-abbrev pub meaning : Job → Options → List ℕ → List ℕ → Verdict → Type 0
-meaning Check options = IsCheck options
-meaning Trace options = IsAnswerTo (IsTrace options.names)
-meaning Threads options = IsShared options
-meaning Migrate options = IsMigration
-meaning Why options = IsAnswerTo (IsWhy options.names options.call)
-meaning Audit options = IsAudit options
-meaning Explore options = IsExplorationBy options
-meaning Tree options = IsAnswerTo (IsStateAnswer (IsTree (form_of options) options.names) options.after)
-meaning New options = λ input text verdict. IsNewOf options text verdict
-meaning Marks options = IsAnswerTo IsMarks
-meaning Import options = λ input text verdict. IsImported options.listing text verdict
+-- what each command writes for an input, by the policy with these bytes where its options name one: its text and its verdict
+abbrev pub meaning : Job → Options → List ℕ → List ℕ → List ℕ → Verdict → Type 0
+meaning Check options policy = IsCheck options
+meaning Trace options policy = IsAnswerTo (IsTrace options.names)
+meaning Threads options policy = IsShared options
+meaning Migrate options policy = IsMigration
+meaning Why options policy = IsAnswerTo (IsWhy options.names options.call)
+meaning Audit options policy = IsAudit options policy
+meaning Explore options policy = IsExplorationBy options
+meaning Tree options policy = IsAnswerTo (IsStateAnswer (IsTree (form_of options) options.names) options.after)
+meaning New options policy = λ input text verdict. IsNewOf options text verdict
+meaning Marks options policy = IsAnswerTo IsMarks
+meaning Import options policy = λ input text verdict. IsImported (record { shrink = options.shrink; flows = options.flows; all_rights = not (takes_least options) }) options.listing text verdict

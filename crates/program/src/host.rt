@@ -10,7 +10,7 @@ use command_core::{KeptReader, KeptWriter, ReaderSource, Sink, Source, WriterSin
 use command_files::{Inputs, Listener, Used};
 use command_line::LineFault;
 use program_messages::{complain, tell, tell_of_file};
-use std::env::{self, Env};
+use std::env::{self, Env, FillError};
 use std::fs::{self, Files};
 use std::io::{self, Eprint, ErrorKind, Input, Printer};
 use std::sync::Wait;
@@ -78,9 +78,36 @@ fn words_of<R: Env + AllocGlobal>(rt: &R) -> Result<Vec<String>, LineFault> {
     words.collect(rt.alloc()).map_err(|_| LineFault::Memory)
 }
 
+/// How many bytes of a word are looked at, where it is no text.
+const MOST_BYTES: usize = 4096;
+
+/// Says which of the first words is no text, if one is: its other bytes are written as `\xff`.
+fn tell_of_bytes<R: Env + Eprint>(rt: &R) {
+    let mut word = [0u8; MOST_BYTES];
+    for i in 0..usize::MAX {
+        match rt.arg(i, &mut word) {
+            Ok(n) if str::from_utf8(&word[..n]).is_err() => {
+                let shown = word[..n].escape_ascii();
+                complain(
+                    rt,
+                    format_args!(
+                        "a word is not UTF-8: {shown}; name the file otherwise, or give it as standard input"
+                    ),
+                );
+                return;
+            }
+            Ok(_) | Err(FillError::TooLong) => {}
+            Err(FillError::NotPresent) => return,
+        }
+    }
+}
+
 /// Says why there are no words, and answers the exit status.
-fn refuse<R: Eprint>(rt: &R, fault: LineFault) -> u8 {
+fn refuse<R: Env + Eprint>(rt: &R, fault: LineFault) -> u8 {
     complain(rt, &fault);
+    if let LineFault::Refused = fault {
+        tell_of_bytes(rt);
+    }
     fault.status()
 }
 

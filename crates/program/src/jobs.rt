@@ -1,14 +1,14 @@
 //! The run of a job.
 ghost use Rattle.std.specs.Prelude.{◌≡◌, ◌≢◌, ℕ, List, false, IsOk};
 ghost use Rattle.command_core.specs.Devices.{Gave};
-ghost use Rattle.command_core.specs.Runs.{IsRun};
+ghost use Rattle.command_core.specs.Runs.{IsRun, verdict_of};
 ghost use Rattle.setup_format.specs.Setups.{setup_of_bytes};
 ghost use Rattle.program.specs.Jobs.{IsShared, meaning};
 
 use crate::work::Work;
 use command_core::{Found, RunFault, Sink, Source, run_engine};
 use command_line::{Job, Options};
-use command_threads::threads_run_open;
+use command_threads::threads_found_open;
 use std::alloc::Global;
 use std::sync::Wait;
 use std::thread::Threads;
@@ -23,11 +23,11 @@ fn threads<R: Threads + Wait + Sync, S: Source, K: Sink>(
 ) -> Result<Found, RunFault>
     requires source { S.failed source.old ≡ false }
     requires sink { K.failed sink.old ≡ false }
-    ensures run { IsRun (IsShared options.entry) S.Source K.Sink source.old source.new sink.old sink.new result }
+    ensures run { IsRun (IsShared options.entry) S.Source K.Sink source.old source.new sink.old sink.new (verdict_of result) }
     ensures accepted { result ≡ Err RunFault.Thread → (input : List ℕ) × Gave S.left S.given source.old source.new input × IsOk (setup_of_bytes input) }
 {
     let first = options.first.unwrap_or(0) as usize;
-    threads_run_open(rt, alloc, options.names, first, source, sink)
+    threads_found_open(rt, alloc, options.names, first, source, sink)
 }
 
 /// Reads the source to its end, and writes to the sink what a job that starts no threads makes of it by the options.
@@ -42,7 +42,7 @@ pub(crate) fn run_work<S: Source, K: Sink>(
     requires job { job ≢ Job.Threads }
     requires source { S.failed source.old ≡ false }
     requires sink { K.failed sink.old ≡ false }
-    ensures run { IsRun (meaning job options.entry) S.Source K.Sink source.old source.new sink.old sink.new result }
+    ensures run { IsRun (meaning job options.entry policy.now) S.Source K.Sink source.old source.new sink.old sink.new (verdict_of result) }
     ensures never_thread { result ≢ Err RunFault.Thread }
 {
     run_engine(alloc, &Work::new(job, options, policy), source, sink)
@@ -67,7 +67,7 @@ pub fn run_job<R: Threads + Wait + Sync, S: Source, K: Sink>(
 ) -> Result<Found, RunFault>
     requires source { S.failed source.old ≡ false }
     requires sink { K.failed sink.old ≡ false }
-    ensures run { IsRun (meaning job options.entry) S.Source K.Sink source.old source.new sink.old sink.new result }
+    ensures run { IsRun (meaning job options.entry policy.now) S.Source K.Sink source.old source.new sink.old sink.new (verdict_of result) }
     ensures thread { result ≡ Err RunFault.Thread → job ≡ Job.Threads }
     ensures accepted { result ≡ Err RunFault.Thread → (input : List ℕ) × Gave S.left S.given source.old source.new input × IsOk (setup_of_bytes input) }
 {

@@ -1,16 +1,19 @@
 //! A command line, from its words to its end.
-ghost use Rattle.std.specs.Prelude.{◌≡◌, false, Some, None, option_map, IfOk};
+ghost use Rattle.std.specs.Prelude.{◌≡◌, ◌==◌, ◌||◌, false, Some, None, option_map, IfOk, IfErr, IfSome};
+ghost use Rattle.std.specs.List.{list_any};
 ghost use Rattle.clap.specs.Walk.{texts};
+ghost use Rattle.command_core.specs.Runs.{verdict_of};
 ghost use Rattle.command_files.specs.Files.{IsInput};
-ghost use Rattle.program.specs.Ends.{AreDone, AreMarked, is_marks as is_marks_definition, IsDone, IsEnd, IsSecond, IsWriting, named_input};
+ghost use Rattle.program.specs.Ends.{AreDone, AreMarked, is_marks as is_marks_definition, IsDone, IsEnd, IsFirstOpened, IsOpened, IsSecond, IsUnreadBy, IsWriting, looks_like_command as looks_like_command_definition, named_input};
 ghost use Rattle.program.specs.NewWords.{IsNewOf};
+ghost use Rattle.program.specs.Private.{IsEndOfLine};
 
 use crate::jobs::{run_job, run_work};
 use command_core::{INPUT_LIMIT, ReaderSource, RunFault, Sink, read_below, write_all};
 use command_files::{Inputs, Listener, Tally, Used, check_files};
 use command_line::{Job, Line, LineFault, line};
 use command_marks::{mark_answers, mark_files};
-use program_messages::{CheckedFiles, Done, Ended, Unread};
+use program_messages::{CheckedFiles, Done, Ended, Unknown, Unread};
 use std::alloc::Global;
 use std::sync::Wait;
 use std::thread::Threads;
@@ -27,7 +30,7 @@ fn run_standard<'a, R: Threads + Wait + Sync, I: Inputs, K: Sink>(
     requires sink { K.failed sink.old ≡ false }
     ensures line { result.line ≡ line.entry }
     ensures done { IsDone (I.is_standard inputs.now) (I.is_file inputs.now) (I.is_fault inputs.now)
-        I.Standard.Source I.File.Source K.Sink line.entry.job line.entry.options None result.input result.answer sink.old sink.new }
+        I.Standard.Source I.File.Source K.Sink line.entry.job line.entry.options policy.now None result.input result.answer sink.old sink.new }
 {
     let mut source = inputs.standard();
     let answer = run_job(rt, alloc, line.job, line.options, policy, &mut source, sink);
@@ -38,7 +41,7 @@ fn run_standard<'a, R: Threads + Wait + Sync, I: Inputs, K: Sink>(
     }
 }
 
-/// Does the job of a line with the file of that name. A file that cannot be opened is a failed read.
+/// Does the job of a line with a file that was opened.
 fn run_file<'a, R: Threads + Wait + Sync, I: Inputs, K: Sink>(
     rt: &R,
     alloc: Global,
@@ -46,28 +49,23 @@ fn run_file<'a, R: Threads + Wait + Sync, I: Inputs, K: Sink>(
     line: Line<'a>,
     policy: &[u8],
     name: &str,
+    file: I::File,
     sink: &mut K,
 ) -> Done<'a, I::Standard, I::File, I::Fault>
+    requires file { I.is_file inputs.now name.now file }
+    requires source { I.File.failed file ≡ false }
     requires sink { K.failed sink.old ≡ false }
     ensures line { result.line ≡ line.entry }
+    ensures opened { IsOpened result.input line.entry.names_command }
     ensures done { IsDone (I.is_standard inputs.now) (I.is_file inputs.now) (I.is_fault inputs.now)
-        I.Standard.Source I.File.Source K.Sink line.entry.job line.entry.options (Some name.now) result.input result.answer sink.old sink.new }
+        I.Standard.Source I.File.Source K.Sink line.entry.job line.entry.options policy.now (Some name.now) result.input result.answer sink.old sink.new }
 {
-    match inputs.open(name) {
-        Ok(file) => {
-            let mut source = file;
-            let answer = run_job(rt, alloc, line.job, line.options, policy, &mut source, sink);
-            Done {
-                line,
-                input: Used::File(source),
-                answer,
-            }
-        }
-        Err(fault) => Done {
-            line,
-            input: Used::Unopened(fault),
-            answer: Err(RunFault::Reading),
-        },
+    let mut source = file;
+    let answer = run_job(rt, alloc, line.job, line.options, policy, &mut source, sink);
+    Done {
+        line,
+        input: Used::File(source),
+        answer,
     }
 }
 
@@ -76,7 +74,7 @@ fn run_new<'a, S, F, E, K: Sink>(alloc: Global, line: Line<'a>, sink: &mut K) ->
     requires sink { K.failed sink.old ≡ false }
     ensures line { result.line ≡ line.entry }
     ensures input { result.input ≡ Used.Nothing }
-    ensures written { IsWriting (IsNewOf line.entry.options) K.Sink sink.old sink.new result.answer }
+    ensures written { IsWriting (IsNewOf line.entry.options) K.Sink sink.old sink.new (verdict_of result.answer) }
 {
     let nothing: &[u8] = &[];
     let mut source = ReaderSource::new(nothing);
@@ -88,7 +86,8 @@ fn run_new<'a, S, F, E, K: Sink>(alloc: Global, line: Line<'a>, sink: &mut K) ->
     }
 }
 
-/// Does what a line asks for.
+/// Does what a line asks for that reads one input at the most. A file that cannot be opened is a failed read where a command is named,
+/// and else its name is an unknown word.
 fn run_line<'a, R: Threads + Wait + Sync, I: Inputs, K: Sink>(
     rt: &R,
     alloc: Global,
@@ -96,19 +95,59 @@ fn run_line<'a, R: Threads + Wait + Sync, I: Inputs, K: Sink>(
     line: Line<'a>,
     policy: &[u8],
     sink: &mut K,
-) -> Done<'a, I::Standard, I::File, I::Fault>
+) -> Ended<'a, I::Standard, I::File, I::Fault>
     requires sink { K.failed sink.old ≡ false }
-    ensures line { result.line ≡ line.entry }
-    ensures done { IsDone (I.is_standard inputs.now) (I.is_file inputs.now) (I.is_fault inputs.now)
+    ensures { IsEndOfLine (I.is_standard inputs.now) (I.is_file inputs.now) (I.is_fault inputs.now)
         I.Standard.Source I.File.Source K.Sink
-        line.entry.job line.entry.options (named_input (option_map (λ s. s.now) line.entry.file)) result.input result.answer sink.old sink.new }
+        line.entry policy.now (named_input (option_map (λ s. s.now) line.entry.file)) result sink.old sink.new }
 {
     match line.job {
-        Job::New => run_new(alloc, line, sink),
+        Job::New => Ended::Did(run_new(alloc, line, sink)),
         _ => match line.file {
-            Some(name) if name != "-" => run_file(rt, alloc, inputs, line, policy, name, sink),
-            _ => run_standard(rt, alloc, inputs, line, policy, sink),
+            Some(name) if name != "-" => match inputs.open(name) {
+                Ok(file) => Ended::Did(run_file(rt, alloc, inputs, line, policy, name, file, sink)),
+                Err(fault) if line.names_command => Ended::Did(Done {
+                    line,
+                    input: Used::Unopened(fault),
+                    answer: Err(RunFault::Reading),
+                }),
+                Err(fault) => Ended::Unknown(Unknown { word: name, fault }),
+            },
+            _ => Ended::Did(run_standard(rt, alloc, inputs, line, policy, sink)),
         },
+    }
+}
+
+/// Whether a word has a dot or a slash.
+fn has_dot_or_slash(word: &str) -> bool
+    ensures { result ≡ list_any (λ byte. byte == 46 || byte == 47) word.now }
+{
+    word.as_bytes()
+        .iter()
+        .any(|byte| *byte == b'.' || *byte == b'/')
+}
+
+/// Whether a word looks like no file's name: it has no dot and no slash, and is no hyphen.
+fn looks_like_command(word: &str) -> bool
+    ensures { result ≡ looks_like_command_definition word.now }
+{
+    word != "-" && !has_dot_or_slash(word)
+}
+
+/// The first of several files, where no command is named, and it looks like no file's name and cannot be opened.
+fn unknown_first<'a, I: Inputs>(inputs: &I, line: &Line<'a>) -> Option<Unknown<'a, I::Fault>>
+    ensures unknown { IfSome result (λ unknown. (line.now.names_command ≡ false)
+        × (named_input (option_map (λ s. s.now) line.now.file) ≡ Some unknown.word.now) × I.is_fault inputs.now unknown.word.now unknown.fault) }
+    ensures opened { result ≡ None → IsFirstOpened (I.is_file inputs.now) line.now.names_command (option_map (λ s. s.now) line.now.file) }
+{
+    match line.file {
+        Some(word) if !line.names_command && looks_like_command(word) => {
+            match inputs.open(word) {
+                Ok(_) => None,
+                Err(fault) => Some(Unknown { word, fault }),
+            }
+        }
+        _ => None,
     }
 }
 
@@ -119,7 +158,9 @@ fn read_second<'a, I: Inputs>(
     inputs: &I,
     name: Option<&'a str>,
 ) -> Result<Vec<u8>, Unread<'a, I::Standard, I::File, I::Fault>>
-    ensures { IfOk result (λ bytes. IsSecond (I.is_file inputs.now) (I.is_fault inputs.now) I.File.Source (option_map (λ s. s.now) name.entry) bytes.items) }
+    ensures read { IfOk result (λ bytes. IsSecond (I.is_file inputs.now) (I.is_fault inputs.now) I.File.Source (option_map (λ s. s.now) name.entry) bytes.items) }
+    ensures unread { IfErr result (λ unread. (option_map (λ s. s.now) name.entry ≡ Some unread.name.now)
+        × IsUnreadBy (I.is_file inputs.now) (I.is_fault inputs.now) I.File.Source unread.name.now unread.input unread.fault) }
 {
     let Some(name) = name else {
         return Ok(Vec::new(alloc));
@@ -205,7 +246,7 @@ fn run_files<'a, I: Inputs, L: Listener<I::Standard, I::File, I::Fault>, K: Sink
 /// Does what the words of a command line ask for, of which the first is the program's name: the job, with the file that
 /// they name or with standard input, the check or the marks of files that are listed, of each of which the listener hears, or the help
 /// text.
-/// Nothing is written where they are not taken.
+/// Nothing is written where they are not taken, and where a word is neither a command nor a file that can be opened.
 pub fn run_words<
     'a,
     R: Threads + Wait + Sync,
@@ -228,12 +269,11 @@ pub fn run_words<
         Ok(line) => {
             if line.several.is_empty() {
                 match read_second(alloc, inputs, line.options.policy) {
-                    Ok(policy) => {
-                        let policy = policy.as_slice();
-                        Ended::Did(run_line(rt, alloc, inputs, line, policy, sink))
-                    }
+                    Ok(policy) => run_line(rt, alloc, inputs, line, policy.as_slice(), sink),
                     Err(unread) => Ended::NoPolicy(unread),
                 }
+            } else if let Some(unknown) = unknown_first(inputs, &line) {
+                Ended::Unknown(unknown)
             } else {
                 match read_second(alloc, inputs, line.options.of) {
                     Ok(exercise) => {

@@ -94,10 +94,6 @@ fn with_regions(options: Options<'_>, untypeds: Vec<(u64, u32)>) -> Option<NewSe
 }
 
 /// What the options ask for; none where an option says no profile, no region or no number of 32 bits, so that no plan fits.
-///
-/// # Errors
-///
-/// Memory was refused.
 pub(crate) fn asked_by(alloc: Global, options: Options<'_>) -> Result<Option<NewSetup>, AllocError>
     ensures { IfOk result (λ found. MatchOption found (NothingFits options.entry) (AsksFor options.entry)) }
 {

@@ -254,7 +254,7 @@ fn make_held(
     policy: &[u8],
     input: &[u8],
 ) -> Result<Answer, RunFault>
-    ensures made { IfOk result (λ made. IsHeld options.entry options.entry.breach input.now made.text.items made.verdict) }
+    ensures made { IfOk result (λ made. IsHeld options.entry policy.now options.entry.breach input.now made.text.items made.verdict) }
     ensures memory { IfErr result (λ fault. fault ≡ RunFault.Memory) }
 {
     let Options { after, states, .. } = options;
@@ -279,7 +279,7 @@ fn make_audit(
     policy: &[u8],
     input: &[u8],
 ) -> Result<Answer, RunFault>
-    ensures made { IfOk result (λ made. IsAudit options.entry input.now made.text.items made.verdict) }
+    ensures made { IfOk result (λ made. IsAudit options.entry policy.now input.now made.text.items made.verdict) }
     ensures memory { IfErr result (λ fault. fault ≡ RunFault.Memory) }
 {
     if options.policy.is_some() {
@@ -384,6 +384,7 @@ impl<'a> Work<'a> {
         requires { job ≢ Job.Threads }
         ensures job { result.job ≡ job }
         ensures options { result.options ≡ options.entry }
+        ensures policy { result.policy.now ≡ policy.now }
     {
         Work {
             job,
@@ -396,7 +397,7 @@ impl<'a> Work<'a> {
 impl Engine for Work<'_> {
     ghost use Rattle.program.specs.Jobs.{meaning};
 
-    ghost means = { λ work. meaning work.job work.options };
+    ghost means = { λ work. meaning work.job work.options work.policy.now };
 
     fn make(&self, alloc: Global, input: &[u8]) -> Result<Answer, RunFault> {
         let options = self.options;
@@ -428,7 +429,11 @@ impl Engine for Work<'_> {
                     flows,
                     ..
                 } = options;
-                let reading = Reading { shrink, flows };
+                let reading = Reading {
+                    shrink,
+                    flows,
+                    all_rights: !options.takes_least(),
+                };
                 Importer { reading, listing }.make(alloc, input)
             }
         }

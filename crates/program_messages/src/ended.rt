@@ -1,7 +1,7 @@
 //! How the program ends: its exit status, and what it says of a fault.
 ghost use Rattle.std.specs.Prelude.{◌≡◌, option_map};
 
-use command_core::{Found, RunFault, Verdict, status_of};
+use command_core::{Found, RunFault, Verdict, status_of_found};
 use command_files::{Tally, Used, status_of_files};
 use command_line::Line;
 
@@ -39,6 +39,15 @@ pub struct Unread<'a, S, F, E> {
     pub fault: RunFault,
 }
 
+/// A word that is no command, and no file that can be opened.
+#[derive(Drop)]
+pub struct Unknown<'a, E> {
+    /// The word.
+    pub word: &'a str,
+    /// Why no file of that name could be opened.
+    pub fault: E,
+}
+
 /// How the program ends.
 #[derive(Drop)]
 pub enum Ended<'a, S, F, E> {
@@ -52,6 +61,8 @@ pub enum Ended<'a, S, F, E> {
     Refused,
     /// Words of the line do not go together; the text says which.
     Conflict(&'static str),
+    /// The line names no command, and its first word is no file that can be opened.
+    Unknown(Unknown<'a, E>),
     /// Memory ran out while the line was read.
     NoMemory,
     /// The line was taken, and the policy or the exercise that it names could not be read.
@@ -61,18 +72,19 @@ pub enum Ended<'a, S, F, E> {
 impl<S, F, E> Ended<'_, S, F, E> {
     ghost use Rattle.program_messages.specs.Statuses.{end_status, end_text};
 
-    /// The exit status: that of the job, or the greatest of those of several files, 0 after help, 4 after a refusal or a conflict, 3 where a write failed or memory ran out. The
+    /// The exit status: that of the job, or the greatest of those of several files, 0 after help, 4 after a refusal, a conflict or an unknown word, 3 where a write failed or memory ran out. The
     /// job's is 4 too where the options name what the set-up does not have.
     pub fn status(&self) -> u8
         ensures { result ≡ end_status self.now }
     {
         match self {
-            Ended::Did(done) => status_of(&done.answer),
+            Ended::Did(done) => status_of_found(&done.answer),
             Ended::Checked(checked) => status_of_files(&checked.answer),
             Ended::Helped(Ok(())) => 0,
             Ended::Helped(Err(_)) => 3,
             Ended::Refused => 4,
             Ended::Conflict(_) => 4,
+            Ended::Unknown(_) => 4,
             Ended::NoMemory => 3,
             Ended::NoPolicy(_) => 3,
         }
@@ -113,6 +125,7 @@ impl<S, F, E> Ended<'_, S, F, E> {
             Ended::Helped(Err(fault)) => Some(fault.text()),
             Ended::Refused => Some(REFUSED),
             Ended::Conflict(_) => Some(REFUSED),
+            Ended::Unknown(_) => Some(REFUSED),
             Ended::NoMemory => Some("out of memory"),
             Ended::NoPolicy(unread) => Some(unread.fault.text()),
         }

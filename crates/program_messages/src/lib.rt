@@ -5,9 +5,11 @@
 mod absent;
 mod calls;
 mod ended;
+mod kinds;
 mod messages;
+mod quoting;
 mod sizes;
 mod words;
 
-pub use ended::{CheckedFiles, Done, Ended, Unread};
+pub use ended::{CheckedFiles, Done, Ended, Unknown, Unread};
 pub use messages::{complain, tell, tell_of_file};

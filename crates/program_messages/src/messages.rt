@@ -1,7 +1,9 @@
 //! What is said on standard error. Where that fails too, nothing more is said.
 use crate::absent::absence;
 use crate::calls::{note_on_broken, note_on_questions, note_on_refusals, note_on_unmet};
-use crate::ended::{CheckedFiles, Done, Ended, Unread};
+use crate::ended::{CheckedFiles, Done, Ended, Unknown, Unread};
+use crate::kinds::other_kind;
+use crate::quoting::shell_word;
 use crate::words::{is_command, may_be_command, near_command};
 use command_check::CountedText;
 use command_core::{
@@ -172,22 +174,6 @@ fn note_on_first_word<R: Eprint + AllocGlobal>(rt: &R, words: &[&str]) {
     }
 }
 
-/// Says of the first of several files, of which one could not be read, where it may be a command that is not spelt right.
-fn note_on_first_file<R: Eprint + AllocGlobal>(rt: &R, words: &[&str]) {
-    let Some(word) = words.get(1) else {
-        return;
-    };
-    if !may_be_command(words, *word) || is_command(*word) {
-        return;
-    }
-    if let Ok(Some(command)) = near_command(rt.alloc(), *word) {
-        complain(
-            rt,
-            format_args!("{word} is no command; did you mean {command}?"),
-        );
-    }
-}
-
 /// What an input is called: the file's name, or standard input.
 fn name_of(file: Option<&str>) -> &str {
     match file {
@@ -224,6 +210,24 @@ fn note_on_absence<R: Eprint + AllocGlobal>(rt: &R, line: &Line<'_>, found: &Fou
 const NOT_LAID_OUT: &str =
     "the set-up that was made does not come to the layout, so it is not written";
 
+/// Says what a text that is refused looks like, if it is of another kind than the one that the command reads; of one of several files
+/// behind its name.
+fn note_on_kind(rt: &impl Eprint, name: Option<&str>, bytes: &[u8], reads_layouts: bool) {
+    let Ok(text) = str::from_utf8(bytes) else {
+        return;
+    };
+    if let Some((kind, command)) = other_kind(text, reads_layouts) {
+        let (name, colon) = match name {
+            Some(name) => (name, ": "),
+            None => ("", ""),
+        };
+        complain(
+            rt,
+            format_args!("{name}{colon}this looks like {kind}, which sel4sim {command} reads"),
+        );
+    }
+}
+
 /// Says what is wrong with a layout, or what is left out of it.
 fn note_on_layout<R: Eprint + AllocGlobal>(
     rt: &R,
@@ -232,13 +236,20 @@ fn note_on_layout<R: Eprint + AllocGlobal>(
     bytes: &[u8],
 ) {
     let (Options { shrink, flows, .. }, name) = (line.options, name_of(line.file));
-    if let Ok(words) = layout_words(rt.alloc(), bytes, Reading { shrink, flows }, name) {
+    let reading = Reading {
+        shrink,
+        flows,
+        all_rights: !line.options.takes_least(),
+    };
+    if let Ok(words) = layout_words(rt.alloc(), bytes, reading, name) {
         let is_refused = matches!(verdict, Verdict::Refused);
         let kind = if is_refused { ERROR } else { WARNING };
         note(rt, kind, None, words.as_str());
     }
-    if matches!(verdict, Verdict::Absent) {
-        complain(rt, NOT_LAID_OUT);
+    match verdict {
+        Verdict::Refused => note_on_kind(rt, None, bytes, true),
+        Verdict::Absent => complain(rt, NOT_LAID_OUT),
+        Verdict::AllMet | Verdict::NotMet => {}
     }
 }
 
@@ -252,6 +263,7 @@ fn note_on_verdict<R: Eprint + AllocGlobal>(rt: &R, line: &Line<'_>, found: &Fou
             if let Ok(words) = refusal_words(rt.alloc(), bytes, formats, name) {
                 note(rt, ERROR, None, words.as_str());
             }
+            note_on_kind(rt, None, bytes, false);
         }
         (_, Verdict::Absent) => note_on_absence(rt, line, found, bytes),
         _ => {}
@@ -295,7 +307,7 @@ fn note_on_calls<R: Eprint + AllocGlobal>(
     note_on_questions(rt, name, file, notes.asking.as_slice());
 }
 
-/// Says the same of the input of a command. Its name stands behind `sel4sim why` where it has one.
+/// Says the same of the input of a command. Its name stands behind `sel4sim why` where it has one, as a shell takes it.
 fn note_on_input<R: Eprint + AllocGlobal>(
     rt: &R,
     file: Option<&str>,
@@ -307,7 +319,9 @@ fn note_on_input<R: Eprint + AllocGlobal>(
     match file {
         None => note_on_calls(rt, name, "", notes, is_one_order, bytes),
         Some(word) => {
-            if let Ok(word) = format!(in rt.alloc(); " {word}") {
+            if let Ok(quoted) = shell_word(rt.alloc(), word)
+                && let Ok(word) = format!(in rt.alloc(); " {quoted}")
+            {
                 note_on_calls(rt, name, word.as_str(), notes, is_one_order, bytes);
             }
         }
@@ -316,10 +330,11 @@ fn note_on_input<R: Eprint + AllocGlobal>(
 
 /// Says of the file of that name, one of several, why its set-up is refused.
 fn note_on_file<R: Eprint + AllocGlobal>(rt: &R, name: &str, verdict: Verdict, bytes: &[u8]) {
-    if let Verdict::Refused = verdict
-        && let Ok(words) = refusal_words(rt.alloc(), bytes, Formats::All, name)
-    {
-        note(rt, ERROR, Some(name), words.as_str());
+    if let Verdict::Refused = verdict {
+        if let Ok(words) = refusal_words(rt.alloc(), bytes, Formats::All, name) {
+            note(rt, ERROR, Some(name), words.as_str());
+        }
+        note_on_kind(rt, Some(name), bytes, false);
     }
 }
 
@@ -346,24 +361,9 @@ pub fn tell_of_file<R: Eprint + AllocGlobal, S, F>(
     }
 }
 
-/// Says what there is to say of a line whose several files were checked, but for what was said of each.
-fn tell_of_files<R: Eprint + AllocGlobal>(
-    rt: &R,
-    words: &[&str],
-    checked: &CheckedFiles<'_>,
-    failure: Option<&io::Error>,
-) {
-    match checked.answer {
-        Ok(tally) if tally.unread > 0 => note_on_first_file(rt, words),
-        Err(RunFault::Writing) => explain_writing(rt, failure),
-        _ => {}
-    }
-}
-
 /// Says what there is to say of a line that was done.
 fn tell_of_line<R: Eprint + AllocGlobal, S, F>(
     rt: &R,
-    words: &[&str],
     done: &HostDone<'_, S, F>,
     failure: Option<&io::Error>,
 ) {
@@ -382,9 +382,6 @@ fn tell_of_line<R: Eprint + AllocGlobal, S, F>(
         Err(RunFault::Reading) => {
             let name = name_of(done.line.file);
             explain_reading(rt, name, failure_of(&done.input));
-            if may_be_command(words, name) && !is_command(name) {
-                note_on_command(rt, name, "is no command either");
-            }
         }
         Err(RunFault::Writing) => explain_writing(rt, failure),
         Err(RunFault::Memory | RunFault::Thread) => {}
@@ -401,6 +398,15 @@ fn tell_of_policy<S, F>(
     }
 }
 
+/// Says of a word that is no command why it is no file either, and which command looks like it.
+fn tell_of_word<R: Eprint + AllocGlobal>(rt: &R, words: &[&str], unknown: &Unknown<'_, io::Error>) {
+    let name = name_of(Some(unknown.word));
+    explain_reading(rt, name, Some(&unknown.fault));
+    if may_be_command(words, unknown.word) {
+        note_on_command(rt, name, "is no command either");
+    }
+}
+
 /// Says what there is to say of an end: first the fault, if there is one, and then what helps to understand it; of words
 /// that are not taken, what clap says. `failure` is why a write to standard output failed, where one did.
 pub fn tell<R: Eprint + AllocGlobal, S, F>(
@@ -413,8 +419,16 @@ pub fn tell<R: Eprint + AllocGlobal, S, F>(
         complain(rt, text);
     }
     match ended {
-        Ended::Did(done) => tell_of_line(rt, words, done, failure),
-        Ended::Checked(checked) => tell_of_files(rt, words, checked, failure),
+        Ended::Did(done) => tell_of_line(rt, done, failure),
+        Ended::Checked(
+            CheckedFiles {
+                answer: Err(RunFault::Writing),
+                ..
+            },
+        ) => {
+            explain_writing(rt, failure);
+        }
+        Ended::Checked(_) => {}
         Ended::Helped(Err(_)) => explain_writing(rt, failure),
         Ended::Refused => {
             if let Some(text) = refused_line_words(rt.alloc(), words) {
@@ -424,6 +438,7 @@ pub fn tell<R: Eprint + AllocGlobal, S, F>(
             }
         }
         Ended::Conflict(text) => complain(rt, *text),
+        Ended::Unknown(unknown) => tell_of_word(rt, words, unknown),
         Ended::NoPolicy(unread) => tell_of_policy(rt, unread),
         Ended::Helped(Ok(())) | Ended::NoMemory => {}
     }

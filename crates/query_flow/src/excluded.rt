@@ -399,10 +399,6 @@ fn are_silent<P: Profile, S: DerivationStore<P> + Drop, W: Waiters<P> + Drop>(
 
 /// Whether flows exclude that a message of the thread `from` is ever delivered to the thread `to`, but by the endpoints that are named:
 /// whatever calls threads make that are not trusted, and whatever the trusted ones send and receive.
-///
-/// # Errors
-///
-/// Memory was refused.
 #[tactic(auto, using(crate::proofs::Ruled::none_passed))]
 pub fn passes_none<P: Profile, S: DerivationStore<P> + Drop, W: Waiters<P> + Drop>(
     alloc: Global,
@@ -422,10 +418,6 @@ pub fn passes_none<P: Profile, S: DerivationStore<P> + Drop, W: Waiters<P> + Dro
 
 /// Whether flows exclude both: that a message of the thread `from` is ever delivered to the thread `to`, but by the endpoints that are
 /// named, and that a word of the thread `from` ever leads to a capability to the control block of the thread `to`.
-///
-/// # Errors
-///
-/// Memory was refused.
 #[tactic(auto, using(crate::proofs::Ruled::none_passed, crate::proofs::Ruled::none_named))]
 pub fn keeps_apart<P: Profile, S: DerivationStore<P> + Drop, W: Waiters<P> + Drop>(
     alloc: Global,
@@ -448,10 +440,6 @@ pub fn keeps_apart<P: Profile, S: DerivationStore<P> + Drop, W: Waiters<P> + Dro
 }
 
 /// Whether flows exclude that a word of the thread `from` ever leads to a capability to the control block of the thread `to`.
-///
-/// # Errors
-///
-/// Memory was refused.
 #[tactic(auto, using(crate::proofs::Ruled::none_named))]
 pub fn names_none<P: Profile, S: DerivationStore<P> + Drop, W: Waiters<P> + Drop>(
     alloc: Global,
@@ -469,10 +457,6 @@ pub fn names_none<P: Profile, S: DerivationStore<P> + Drop, W: Waiters<P> + Drop
 }
 
 /// Whether flows exclude that a call of the thread `from` ever changes a slot: it never has a word for a CNode.
-///
-/// # Errors
-///
-/// Memory was refused.
 pub fn changes_none<P: Profile, S: DerivationStore<P> + Drop, W: Waiters<P> + Drop>(
     alloc: Global,
     kernel: &Kernel<P, S, W>,

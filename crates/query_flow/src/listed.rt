@@ -679,10 +679,6 @@ fn are_told<P: Profile>(flows: &Flows, derivations: &[Derivation]) -> bool
 
 /// Whether a flow is settled, and tells what the slots of a kernel hold. Where it is so, it stays so, whatever calls threads make that
 /// are not trusted, and whatever others send and receive.
-///
-/// # Errors
-///
-/// Memory was refused.
 pub fn is_flow<P: Profile, S: DerivationStore<P> + Drop, W: Waiters<P> + Drop>(
     alloc: Global,
     kernel: &Kernel<P, S, W>,

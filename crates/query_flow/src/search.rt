@@ -426,10 +426,6 @@ fn flows_in<P: Profile>(
 /// The flows of a kernel whose threads make any calls, but for those that are trusted to send and receive alone: from what its slots
 /// hold on, what the threads can put anywhere is added till there is no more. Each region that a thread can retype is one set, with
 /// all that lies in it.
-///
-/// # Errors
-///
-/// Memory was refused.
 pub fn flow_of<P: Profile, S: DerivationStore<P> + Drop, W: Waiters<P> + Drop>(
     alloc: Global,
     kernel: &Kernel<P, S, W>,
@@ -505,10 +501,6 @@ fn unnamed_of<P: Profile>(
 
 /// The flows of a kernel in which suspended threads make no calls, but those that threads that make calls can resume. One thread is named
 /// whose words are looked at though it is suspended.
-///
-/// # Errors
-///
-/// Memory was refused.
 pub fn bound_of<P: Profile, S: DerivationStore<P> + Drop, W: Waiters<P> + Drop>(
     alloc: Global,
     kernel: &Kernel<P, S, W>,

@@ -37,7 +37,7 @@ HasPart p own A first groups group order =
     IsReached p A → AreGroups p own w groups → EachCanBeMade p own w order →
     EachCanBeMade p lone w (filter has order) × IsSeenAlike p own lone has (world_after p own w order) (world_after p lone w (filter has order))
 
--- behind an order in which a group makes no call, each order of the group by itself can be made
+-- after an order in which a group makes no call, each order of the group by itself can be made
 abbrev pub GoesOn : ProfileName → List (List Call) → State → List ℕ → List ℕ → ℕ → List ℕ → List ℕ → Type 0
 GoesOn p own A first groups group order more =
     let w = world_after p own (start own A) first in

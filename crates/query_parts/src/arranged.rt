@@ -174,10 +174,6 @@ fn needed<P: Profile>(
 }
 
 /// The parts in the order in which they are told, with nothing in them that goes without saying.
-///
-/// # Errors
-///
-/// Memory was refused.
 pub fn arranged<P: Profile>(alloc: Global, parts: Parts) -> Result<Parts, AllocError>
     ensures { IfOk result (λ told. AreArranged P.profile parts.memory.items parts.uses.items told.memory.items told.uses.items) }
 {

@@ -34,10 +34,6 @@ fn key_of(by: UseKey, allowed: &PartUse) -> u128
 }
 
 /// The uses by rising keys. Those of one key stay in their order.
-///
-/// # Errors
-///
-/// Memory was refused.
 pub fn uses_by_key(alloc: Global, uses: &[PartUse], by: UseKey) -> Result<Vec<PartUse>, AllocError>
     ensures order { IfOk result (λ list. AreByKey by list.items) }
     ensures same { IfOk result (λ list. (n : ℕ) → filter (has_key by n) list.items ≡ filter (has_key by n) uses.now) }

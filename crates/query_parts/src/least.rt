@@ -168,10 +168,6 @@ fn thread_parts<P: Profile>(alloc: Global, threads: &[u64]) -> Result<Parts, All
 
 /// The least closed parts around some threads, each by the address of one of its threads. The slots in each stretch are
 /// looked at once, when all stretches before it were: so what is taken in later is looked at later.
-///
-/// # Errors
-///
-/// Memory was refused.
 pub fn least_parts<P: Profile>(
     alloc: Global,
     derivations: &[Derivation],

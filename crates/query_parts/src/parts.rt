@@ -48,10 +48,6 @@ fn all_stand<P: Profile>(
 /// Where it is so, it stays so: for whatever calls the threads whose control blocks stand in these parts make, of whatever
 /// operations and words, in whatever order. No capability to an object outside comes into a part, nor one with another
 /// badge or more rights than its uses allow, and what its threads send and receive they may send and receive.
-///
-/// # Errors
-///
-/// Memory was refused.
 pub fn are_parts_closed<P: Profile, S: DerivationStore<P> + Drop, W: Waiters<P> + Drop>(
     alloc: Global,
     kernel: &Kernel<P, S, W>,

@@ -10,10 +10,6 @@ use cap_core::Rights;
 use std::alloc::{AllocError, Global};
 
 /// The words by rising endpoint. Those of one endpoint stay in their order.
-///
-/// # Errors
-///
-/// Memory was refused.
 pub fn by_endpoint(alloc: Global, words: &[EndpointWord]) -> Result<Vec<EndpointWord>, AllocError>
     ensures order { IfOk result (λ list. AreByEndpoint list.items) }
     ensures same { IfOk result (λ list. (e : ℕ) → filter (leads_to e) list.items ≡ filter (leads_to e) words.now) }
@@ -54,10 +50,6 @@ fn keep_first(list: &mut Vec<EndpointWord>)
 
 /// The first word of each thread by which it may receive from an endpoint, of all endpoints, by rising endpoint. `words` has
 /// the words of all threads, each thread's together.
-///
-/// # Errors
-///
-/// Memory was refused.
 pub fn first_receivers(
     alloc: Global,
     words: &[EndpointWord],

@@ -34,10 +34,6 @@ impl NamedObjects {
     ghost use Rattle.kernel_forest.specs.Derivation.{names_same};
 
     /// What some derivations name.
-    ///
-    /// # Errors
-    ///
-    /// Memory was refused.
     pub fn new(alloc: Global, list: Vec<Derivation>) -> Result<NamedObjects, AllocError>
         ensures { IfOk result (λ named. named ≡ list.items) }
     {
@@ -87,10 +83,6 @@ impl<P: Profile> DerivationIndex<P> {
     ghost use Rattle.query_revoke.specs.Below.{TellBelow, IsRevokedAlone};
 
     /// The index of some derivations.
-    ///
-    /// # Errors
-    ///
-    /// Memory was refused.
     pub fn new(alloc: Global, list: Vec<Derivation>) -> Result<DerivationIndex<P>, AllocError>
         ensures { IfOk result (λ index. index ≡ list.items) }
     {
@@ -108,10 +100,6 @@ impl<P: Profile> DerivationIndex<P> {
     /// that has slots ends with the revoke: more may be cleared then than what stands below the slot.
     ///
     /// Time: it grows with what stands below the slot, each with the logarithm of the full slots.
-    ///
-    /// # Errors
-    ///
-    /// Memory was refused.
     pub fn revoked_alone(&self, alloc: Global, slot: u64) -> Result<Option<Revoked>, AllocError>
         ensures { IfOk result (λ found. IfSome found (λ r. (f : Forest Entry) → TellBelow P.profile self.now f → IsRevokedAlone P.profile f slot r)) }
     {

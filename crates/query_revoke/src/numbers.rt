@@ -53,10 +53,6 @@ fn numbers(alloc: Global, list: &[Derivation]) -> Result<Vec<Keyed>, AllocError>
 }
 
 /// The places of derivations by rising addresses of their slots.
-///
-/// # Errors
-///
-/// Memory was refused.
 pub fn by_address<P: Profile>(alloc: Global, list: &[Derivation]) -> Result<Vec<Keyed>, AllocError>
     ensures { IfOk result (λ keyed. AreKeyed (map (λ d. address_of P.profile d.slot) list.now) keyed.items) }
 {
@@ -66,10 +62,6 @@ pub fn by_address<P: Profile>(alloc: Global, list: &[Derivation]) -> Result<Vec<
 }
 
 /// The places of derivations by the objects that their capabilities name: those of one object are together, in their order.
-///
-/// # Errors
-///
-/// Memory was refused.
 pub fn by_object(alloc: Global, list: &[Derivation]) -> Result<Vec<Keyed>, AllocError>
     ensures { IfOk result (λ keyed. AreByObject list.now keyed.items) }
 {

@@ -31,7 +31,7 @@ pub record ReadView : Type 0 where
 
 -- ---- what a set-up is, as the code keeps it
 
--- a call beside its caller, and then all of them
+-- a call with its caller, and then all of them
 abbrev pub call_view : Call → Caller → CallView
 call_view call caller = record { call = call; client = caller.client; expect = option_map string_bytes caller.expect }
 

@@ -2,7 +2,7 @@
 use crate::layout::{Object, Slot};
 use crate::objects::{Found, Objects};
 use crate::scanner::{Spot, Token};
-use crate::slots::Slots;
+use crate::slots::{SlotText, Slots};
 use crate::words::{Reference, Words};
 use cap_core::{Kind, Rights};
 use std::alloc::{AllocError, Global};
@@ -13,7 +13,7 @@ const MOST_DEPTH: usize = 1024;
 /// A slot that a derivation names, by the name of its capability, or as a slot of an object; and the one that it stands right below, by
 /// its place among them.
 #[derive(Clone, Copy)]
-struct Node<'a> {
+pub struct Node<'a> {
     name: Reference<'a>,
     slot: Option<Token<'a>>,
     above: Option<usize>,
@@ -40,7 +40,7 @@ pub struct Tree<'a> {
 }
 
 /// Reads a slot that a derivation names.
-fn read_node<'a>(words: &mut Words<'a>, above: Option<usize>) -> Node<'a> {
+pub fn read_node<'a>(words: &mut Words<'a>, above: Option<usize>) -> Node<'a> {
     let mut slot = None;
     let name = if words.has("(") {
         let holder = words.reference();
@@ -49,7 +49,11 @@ fn read_node<'a>(words: &mut Words<'a>, above: Option<usize>) -> Node<'a> {
         words.need(")");
         holder
     } else {
+        let is_between = words.has("<");
         let name = words.name("a slot, or the name of a capability,");
+        if is_between {
+            words.need(">");
+        }
         Reference { name, index: None }
     };
     Node { name, slot, above }
@@ -64,8 +68,15 @@ fn slot_of<'a>(
 ) -> Option<usize> {
     let Token { text, spot, .. } = node.name.name;
     let Some(slot) = node.slot else {
-        let found = slots.named.get(text).copied();
-        if found.is_none() {
+        let mut found = slots.named.get(text).copied();
+        if let (None, Found::Kept(object)) = (found, objects.find(node.name)) {
+            found = slots
+                .slots
+                .as_slice()
+                .iter()
+                .position(|slot| slot.object == object);
+        }
+        if found.is_none() && !slots.left_out.contains_key(text) {
             words
                 .faults
                 .say(spot, format_args!("there is no capability {text}"));
@@ -128,6 +139,25 @@ impl<'a> Tree<'a> {
         Ok(())
     }
 
+    /// Adds that a slot is derived from another one, where that is said beside it.
+    pub fn add_beside(&mut self, slot: SlotText<'a>) -> Result<(), AllocError> {
+        let Some(parent) = slot.parent else {
+            return Ok(());
+        };
+        let above = Some(self.nodes.len());
+        self.nodes.push(parent)?;
+        let (name, at) = match slot.own_name {
+            Some(name) => (Reference { name, index: None }, None),
+            None => (slot.holder, Some(slot.at)),
+        };
+        self.nodes.push(Node {
+            name,
+            slot: at,
+            above,
+        })?;
+        Ok(())
+    }
+
     /// Finds the pairs of slots that the text tells.
     fn find_pairs(
         &mut self,
@@ -169,6 +199,9 @@ impl<'a> Tree<'a> {
                         "this slot of line {line} holds another object than the one above it, of line {upper}"
                     ),
                 );
+            }
+            if *parent == Some(pair.above) {
+                continue;
             }
             if parent.is_some() {
                 let told = format_args!("this slot of line {line} stands below two slots");

@@ -48,6 +48,8 @@ pub struct Reading {
     pub shrink: Option<u64>,
     /// Whether each object counts that a kernel here lacks, as an endpoint or a CNode.
     pub flows: bool,
+    /// Whether a capability has all rights where a `.system` file says nothing of them; else it has the least.
+    pub all_rights: bool,
 }
 
 /// What is read of a text: what is left out of it is in the notes.
@@ -55,6 +57,8 @@ pub struct Reading {
 pub struct Layout {
     /// The machine.
     pub profile: ProfileName,
+    /// Whether each object counts that a kernel here lacks.
+    pub flows: bool,
     pub objects: Vec<Object>,
     pub slots: Vec<Slot>,
     /// Of two slots the first one above the second, which is derived from it, by their places among the slots.

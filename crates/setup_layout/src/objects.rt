@@ -1,4 +1,5 @@
 //! The objects that a layout declares.
+use crate::hardware::{Device, Hardware};
 use crate::kinds::{KIND_WORDS, KINDS, place_of};
 use crate::layout::{OTHER_BITS, Object, Reading};
 use crate::scanner::{Spot, Token};
@@ -25,6 +26,8 @@ pub struct Declared<'a> {
     kind: Token<'a>,
     bits: Option<u64>,
     is_inactive: bool,
+    /// What of the hardware it stands for.
+    device: Device,
     /// The untyped region that covers them, by its place among the objects.
     cover: Option<usize>,
     /// The kind, by its place in the list of kinds.
@@ -65,6 +68,8 @@ pub struct Objects<'a> {
     /// What is left out, by the places of the kinds.
     left_out: Vec<Option<LeftOut>>,
     pub objects: Vec<Object>,
+    /// Which objects of other names are one, as far as they are read.
+    pub hardware: Hardware<'a>,
 }
 
 impl<'a> Objects<'a> {
@@ -79,6 +84,7 @@ impl<'a> Objects<'a> {
             covers: Vec::new(alloc),
             left_out: vec![in alloc; None; KIND_WORDS.len()]?,
             objects: Vec::new(alloc),
+            hardware: Hardware::new(alloc),
         })
     }
 
@@ -127,15 +133,17 @@ impl<'a> Objects<'a> {
             kind,
             bits: None,
             is_inactive: false,
+            device: Device::none(),
             cover,
             number: place_of(&KIND_WORDS, kind.text),
             first: None,
         };
         for parameter in words.parameters()?.as_slice() {
-            let [first, second, third] = parameter.words;
+            let [first, second, third] = parameter.front();
             if parameter.count == 2 && second.is("bits") {
                 declared.bits = first.number();
             }
+            declared.device.read(parameter);
             if parameter.count == 3 && first.is("resume") {
                 declared.is_inactive = third.is("false") || third.is("False") || third.is("0");
             }
@@ -227,6 +235,9 @@ impl<'a> Objects<'a> {
             Kind::Tcb | Kind::Endpoint => 0,
         };
         for number in 0..count {
+            let (object, kind_word) = (self.objects.len(), declared.kind.text);
+            self.hardware
+                .add(declared.device, kind_word, number, object)?;
             let name = match declared.count {
                 None => String::from_str(words.alloc, name)?,
                 Some(_) => format!(in words.alloc; "{name}[{number}]")?,
@@ -255,7 +266,10 @@ impl<'a> Objects<'a> {
             _ => return Found::Unknown,
         };
         match (declared.first, declared.number) {
-            (Some(first), _) => Found::Kept(first.saturating_add(offset as usize)),
+            (Some(first), _) => {
+                let number = first.saturating_add(offset as usize);
+                Found::Kept(self.hardware.one_of(number))
+            }
             (None, kind) => Found::LeftOut(kind.unwrap_or(KIND_WORDS.len())),
         }
     }
@@ -290,7 +304,7 @@ impl<'a> Objects<'a> {
     }
 
     /// Has untyped regions cover the objects that are declared elsewhere, and checks the sizes.
-    pub fn finish(&mut self, words: &mut Words<'a>) {
+    pub fn finish(&mut self, words: &mut Words<'a>) -> Result<(), AllocError> {
         for number in 0..self.covers.len() {
             if let Some((region, object)) = self.covers.get(number).copied() {
                 match self.find(object) {
@@ -305,6 +319,28 @@ impl<'a> Objects<'a> {
             }
         }
         self.check_sizes(words);
+        if self.reading.flows {
+            self.join_devices(words)?;
+        }
+        Ok(())
+    }
+
+    /// Makes one object of those that stand for one part of the hardware: stretches of memory or of ports that overlap, and an
+    /// interrupt with what signals it.
+    fn join_devices(&mut self, words: &mut Words<'a>) -> Result<(), AllocError> {
+        for number in 0..self.hardware.signals.len() {
+            let Some((signal, interrupt)) = self.hardware.signals.get(number).copied() else {
+                continue;
+            };
+            if let Some(object) = self.hardware.interrupts.get(&interrupt).copied() {
+                match self.find(object) {
+                    Found::Kept(object) => self.hardware.join(signal, object)?,
+                    Found::LeftOut(_) => {}
+                    Found::Unknown => self.say_unknown(words, object),
+                }
+            }
+        }
+        self.hardware.join_spans(words, self.objects.as_slice())
     }
 
     /// Checks the sizes of CNodes and untyped regions.

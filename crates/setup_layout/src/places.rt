@@ -181,7 +181,7 @@ fn say_too_large(layout: &mut Layout, machine: Machine) {
     layout.faults.say(
         layout.spot,
         format_args!(
-            "the layout takes {bytes} bytes, and {count} slots of the loader; a set-up has {most} bytes and {slots} slots at the most, and the loader and its slots take some of them; --shrink N cuts untyped regions that cover nothing"
+            "the layout takes {bytes} bytes, and {count} slots of the loader; a set-up has {most} bytes and {slots} slots at the most, and the loader and its slots take some of them; --shrink N cuts untyped regions that cover nothing, and with --flows each CNode is as small as it can be"
         ),
     );
 }

@@ -3,6 +3,7 @@ use crate::derived::Tree;
 use crate::flows::add_flows;
 use crate::kinds::{ARCHES, NARROW_ARCHES, place_of};
 use crate::layout::{Layout, Reading};
+use crate::names::{SetupNames, names_of};
 use crate::objects::Objects;
 use crate::places::{Places, places_of};
 use crate::scanner::{Scanner, Token, TokenKind};
@@ -19,6 +20,8 @@ const SECTIONS: [&str; 3] = ["objects", "caps", "cdt"];
 pub struct ReadLayout {
     pub layout: Layout,
     pub places: Option<Places>,
+    /// The names of its objects in a set-up.
+    pub names: SetupNames,
 }
 
 /// A text that is read, and what is read of it.
@@ -40,7 +43,7 @@ impl<'a> Reader<'a> {
             "cdt" => return self.tree.read(&mut self.words),
             "irq" => {
                 self.words.need("maps");
-                self.words.skip_block();
+                return self.objects.hardware.read_maps(&mut self.words);
             }
             "asid" => {
                 self.words.need("slots");
@@ -97,12 +100,10 @@ impl<'a> Reader<'a> {
         if self.words.is_broken {
             return Ok(Vec::new(self.words.alloc));
         }
-        self.objects.finish(&mut self.words);
-        for number in 0..self.slots.texts.len() {
-            if let Some(slot) = self.slots.texts.get(number).copied() {
-                self.slots
-                    .add_text(&mut self.words, &mut self.objects, slot)?;
-            }
+        self.objects.finish(&mut self.words)?;
+        self.slots.add_texts(&mut self.words, &mut self.objects)?;
+        for slot in self.slots.texts.as_slice() {
+            self.tree.add_beside(*slot)?;
         }
         let derived = self
             .tree
@@ -140,6 +141,7 @@ fn layout_of(alloc: Global, text: &str, reading: Reading) -> Result<Layout, Allo
     }
     Ok(Layout {
         profile: objects.profile,
+        flows: objects.reading.flows,
         objects: objects.objects,
         slots: slots.slots,
         derived,
@@ -150,10 +152,6 @@ fn layout_of(alloc: Global, text: &str, reading: Reading) -> Result<Layout, Allo
 }
 
 /// Reads a layout as capDL text. What is wrong with it is in its faults, and a layout with faults has no places.
-///
-/// # Errors
-///
-/// Memory was refused.
 pub fn read_layout(
     alloc: Global,
     bytes: &[u8],
@@ -161,6 +159,7 @@ pub fn read_layout(
 ) -> Result<ReadLayout, AllocError> {
     let text = std::str::from_utf8(bytes);
     let mut layout = layout_of(alloc, text.unwrap_or("arch x86_64"), reading)?;
+    let declared = layout.objects.len();
     let mut places = None;
     if reading.flows && layout.faults.told.is_empty() {
         add_flows(alloc, &mut layout)?;
@@ -173,8 +172,19 @@ pub fn read_layout(
     if layout.faults.told.is_empty() {
         places = places_of(alloc, &mut layout)?;
     }
-    if layout.faults.is_refused {
+    let mut names = SetupNames::none(alloc);
+    if places.is_some() {
+        names = names_of(alloc, &mut layout, declared)?;
+    }
+    if layout.faults.is_refused || names.notes.is_refused {
         return Err(AllocError);
     }
-    Ok(ReadLayout { layout, places })
+    if !layout.faults.told.is_empty() {
+        places = None;
+    }
+    Ok(ReadLayout {
+        layout,
+        places,
+        names,
+    })
 }

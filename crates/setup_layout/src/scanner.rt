@@ -56,6 +56,16 @@ pub fn number_of(text: &str) -> Option<u64> {
     }
 }
 
+/// The mark with which a text can begin, by which some programs know that it is UTF-8.
+const BYTE_ORDER_MARK: char = '\u{feff}';
+
+/// A text without such a mark and blanks at its front.
+pub fn without_front(text: &str) -> &str {
+    text.strip_prefix(BYTE_ORDER_MARK)
+        .unwrap_or(text)
+        .trim_ascii_start()
+}
+
 /// How many bytes of space, or of one comment, stand at the front of a text.
 fn gap_length(text: &str) -> usize {
     let inside = text.get(2..).unwrap_or("");
@@ -63,7 +73,7 @@ fn gap_length(text: &str) -> usize {
         Some("--" | "//") => inside.split_once('\n'),
         Some("/*") => inside.split_once("*/"),
         Some("{-") => inside.split_once("-}"),
-        _ => Some(("", text.trim_ascii_start())),
+        _ => Some(("", without_front(text))),
     };
     match behind {
         Some((_, rest)) => text.len().saturating_sub(rest.len()),

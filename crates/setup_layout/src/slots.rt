@@ -1,4 +1,5 @@
 //! The slots of a layout, and the capabilities in them.
+use crate::derived::{Node, read_node};
 use crate::kinds::{BUILT_IN, SLOT_WORDS, kind_word, place_of};
 use crate::layout::{OTHER_BITS, Object, Slot};
 use crate::machine::Machine;
@@ -14,33 +15,41 @@ const MOST_SLOTS: usize = 1 << 16;
 
 /// The parameters of capabilities that say nothing of what a set-up has.
 #[rattlefmt::skip]
-const READ_OVER: [&str; 8] = [
-    "uncached", "cached", "mapping", "asid", "ports", "masked", "reply", "master_reply",
+const READ_OVER: [&str; 7] = [
+    "uncached", "cached", "mapping", "asid", "ports", "reply", "master_reply",
 ];
 
 /// What a capability allows, as it is written.
 #[derive(Clone, Copy)]
-struct CapText {
+struct CapText<'a> {
     rights: Option<u8>,
     badge: u64,
     guard: u64,
     guard_size: u64,
+    /// A parameter that is not known.
+    unknown: Option<Token<'a>>,
 }
 
 /// The capabilities of some slots, as they are written.
 #[derive(Clone, Copy)]
 pub struct SlotText<'a> {
-    holder: Reference<'a>,
+    /// The first of the objects that have such slots, and how many they are.
+    pub holder: Reference<'a>,
+    holders: u64,
     /// Where the slot begins in the text.
-    at: Token<'a>,
+    pub at: Token<'a>,
     /// The first and the last of the slots; none of a thread's slot, which has a name.
     numbers: Option<(u64, u64)>,
-    own_name: Option<&'a str>,
-    /// The object, or the first of several.
+    pub own_name: Option<Token<'a>>,
+    /// Whether it is copied from the capability of a name, and not one of an object.
+    is_copy: bool,
+    /// The object, or the first of several; or the name of the capability.
     object: Reference<'a>,
     /// How many objects; none for all of a name.
     count: Option<u64>,
-    cap: CapText,
+    cap: CapText<'a>,
+    /// The slot from which it is derived, where that is said beside it.
+    pub parent: Option<Node<'a>>,
 }
 
 /// The object that holds a slot, by its place among the objects.
@@ -61,6 +70,8 @@ pub struct Slots<'a> {
     pub places: HashMap<(usize, u64), usize>,
     /// The same, by the name of its capability.
     pub named: HashMap<&'a str, usize>,
+    /// The names of capabilities that are left out.
+    pub left_out: HashMap<&'a str, bool>,
 }
 
 /// The bits of the rights that letters mean; none where one means none. An endpoint has no right to execute.
@@ -79,40 +90,66 @@ fn rights_of(letters: &str) -> Option<u8> {
     Some(rights)
 }
 
+/// The rights that both allow; those of the one where the other is not said.
+fn both_rights(one: Option<u8>, other: Option<u8>) -> Option<u8> {
+    match (one, other) {
+        (Some(one), Some(other)) => Some(one & other),
+        (one, other) => one.or(other),
+    }
+}
+
 /// Reads what a capability allows.
-fn read_cap(words: &mut Words<'_>) -> Result<CapText, AllocError> {
+fn read_cap<'a>(words: &mut Words<'a>) -> Result<CapText<'a>, AllocError> {
     let mut cap = CapText {
         rights: None,
         badge: 0,
         guard: 0,
         guard_size: 0,
+        unknown: None,
     };
     for parameter in words.parameters()?.as_slice() {
-        let [first, second, third] = parameter.words;
+        let [first, second, third] = parameter.front();
         let is_valued = parameter.count == 3 && second.is(":");
         let number = if is_valued { third.number() } else { None };
+        let rights = match parameter.count {
+            1 => rights_of(first.text),
+            3 if is_valued && first.is("masked") => rights_of(third.text),
+            _ => None,
+        };
         match (first.text, number) {
             ("badge", Some(number)) => cap.badge = number,
             ("guard", Some(number)) => cap.guard = number,
             ("guard_size", Some(number)) => cap.guard_size = number,
             (word, _) if READ_OVER.contains(&word) => {}
-            (word, _) => match rights_of(word) {
-                Some(rights) if parameter.count == 1 => cap.rights = Some(rights),
-                _ => words.faults.say(
-                    first.spot,
-                    format_args!(
-                        "there is no parameter {word} of a capability; there are letters of R, W, G, P and X, badge: N, guard: N and guard_size: N"
-                    ),
-                ),
-            },
+            _ if rights.is_some() => cap.rights = both_rights(cap.rights, rights),
+            _ => cap.unknown = cap.unknown.or(Some(first)),
         }
     }
     Ok(cap)
 }
 
+/// Says that a parameter is not known: a fault of a capability that a set-up has, and else a note.
+fn say_unknown_parameter(words: &mut Words<'_>, slot: SlotText<'_>, is_fault: bool) {
+    let Some(Token { text, spot, .. }) = slot.cap.unknown else {
+        return;
+    };
+    if is_fault {
+        words.faults.say(
+            spot,
+            format_args!(
+                "there is no parameter {text} of a capability; there are letters of R, W, G, P and X, badge: N, guard: N, guard_size: N and masked: LETTERS"
+            ),
+        );
+    } else {
+        let name = slot.object.name.text;
+        let told = format_args!("the parameter {text} of this capability of {name} is left out");
+        words.notes.say(spot, told);
+    }
+}
+
 /// Reads which of the objects of a name are meant: the number of the first, and how many they are.
-fn read_chosen(words: &mut Words<'_>) -> (Option<u64>, Option<u64>) {
-    if !words.has("[") {
+fn read_chosen(words: &mut Words<'_>, line: usize) -> (Option<u64>, Option<u64>) {
+    if words.token.spot.line != line || !words.has("[") {
         return (None, Some(1));
     }
     if words.has("]") {
@@ -123,8 +160,46 @@ fn read_chosen(words: &mut Words<'_>) -> (Option<u64>, Option<u64>) {
     (Some(first), Some(count))
 }
 
-/// Reads a slot of an object.
-fn read_slot<'a>(words: &mut Words<'a>, holder: Reference<'a>) -> Result<SlotText<'a>, AllocError> {
+/// Reads the name of a capability between `<` and `>`, behind the first of them.
+fn read_copied<'a>(words: &mut Words<'a>) -> Token<'a> {
+    let name = words.name("the name of a capability");
+    words.need(">");
+    name
+}
+
+/// Reads which capability a slot holds.
+fn read_held<'a>(words: &mut Words<'a>, slot: &mut SlotText<'a>) -> Result<(), AllocError> {
+    slot.is_copy = words.has("<");
+    let mut name = if slot.is_copy {
+        read_copied(words)
+    } else {
+        words.name("the name of an object")
+    };
+    if !slot.is_copy && words.has("=") {
+        slot.own_name = Some(name);
+        slot.is_copy = words.has("<");
+        name = if slot.is_copy {
+            read_copied(words)
+        } else {
+            words.name("the name of an object")
+        };
+    }
+    let (index, count) = read_chosen(words, name.spot.line);
+    slot.object = Reference { name, index };
+    slot.count = count;
+    slot.cap = read_cap(words)?;
+    if words.has("-") {
+        slot.parent = Some(read_node(words, None));
+    }
+    Ok(())
+}
+
+/// Reads a slot of an object, or of several.
+fn read_slot<'a>(
+    words: &mut Words<'a>,
+    holder: Reference<'a>,
+    holders: u64,
+) -> Result<SlotText<'a>, AllocError> {
     let at = words.token;
     let numbers = if words.has("[") {
         Some(words.range())
@@ -136,23 +211,27 @@ fn read_slot<'a>(words: &mut Words<'a>, holder: Reference<'a>) -> Result<SlotTex
         Some((number, number))
     };
     words.need(":");
-    let mut name = words.name("the name of an object");
-    let mut own_name = None;
-    if words.has("=") {
-        own_name = Some(name.text);
-        name = words.name("the name of an object");
-    }
-    let (index, count) = read_chosen(words);
-    let cap = read_cap(words)?;
-    Ok(SlotText {
+    let cap = CapText {
+        rights: None,
+        badge: 0,
+        guard: 0,
+        guard_size: 0,
+        unknown: None,
+    };
+    let mut slot = SlotText {
         holder,
+        holders,
         at,
         numbers,
-        own_name,
-        object: Reference { name, index },
-        count,
+        own_name: None,
+        is_copy: false,
+        object: holder,
+        count: None,
         cap,
-    })
+        parent: None,
+    };
+    read_held(words, &mut slot)?;
+    Ok(slot)
 }
 
 /// A slot with a capability of an object, which has no badge and rights, or no guard, where its kind has none. Of an object that only
@@ -183,6 +262,20 @@ fn filled(slot: SlotText<'_>, holder: usize, place: u64, number: usize, object: 
     }
 }
 
+/// Reads the name of an object, or of several by their numbers, of which slots follow: the first, and how many they are.
+fn read_holder<'a>(words: &mut Words<'a>) -> (Reference<'a>, u64) {
+    let name = words.name("the name of an object");
+    if !words.has("[") {
+        return (Reference { name, index: None }, 1);
+    }
+    let (first, last) = words.range();
+    let index = Some(first);
+    (
+        Reference { name, index },
+        last.saturating_sub(first).saturating_add(1),
+    )
+}
+
 impl<'a> Slots<'a> {
     /// No slot is read yet.
     pub fn new(alloc: Global) -> Slots<'a> {
@@ -191,6 +284,7 @@ impl<'a> Slots<'a> {
             slots: Vec::new(alloc),
             places: HashMap::new(alloc),
             named: HashMap::new(alloc),
+            left_out: HashMap::new(alloc),
         }
     }
 
@@ -205,13 +299,13 @@ impl<'a> Slots<'a> {
             match holder {
                 None if words.has("}") => return Ok(()),
                 None => {
-                    holder = Some(words.reference());
+                    holder = Some(read_holder(words));
                     words.need("{");
                 }
                 Some(_) if words.has("}") => holder = None,
                 Some(_) if words.has(",") || words.has(";") => {}
-                Some(object) => {
-                    let slot = read_slot(words, object)?;
+                Some((object, count)) => {
+                    let slot = read_slot(words, object, count)?;
                     self.texts.push(slot)?;
                 }
             }
@@ -219,8 +313,46 @@ impl<'a> Slots<'a> {
         Ok(())
     }
 
-    /// Fills the slots that one place of the text tells.
-    pub fn add_text(
+    /// Fills the slots that the text tells: those that are copies of others behind these others.
+    pub fn add_texts(
+        &mut self,
+        words: &mut Words<'a>,
+        objects: &mut Objects<'a>,
+    ) -> Result<(), AllocError> {
+        for are_copies in [false, true] {
+            for number in 0..self.texts.len() {
+                let Some(slot) = self.texts.get(number).copied() else {
+                    continue;
+                };
+                if slot.is_copy == are_copies {
+                    self.add_of_holders(words, objects, slot)?;
+                }
+            }
+        }
+        Ok(())
+    }
+
+    /// Fills the slots that one place of the text tells, of one object or of several.
+    fn add_of_holders(
+        &mut self,
+        words: &mut Words<'a>,
+        objects: &mut Objects<'a>,
+        slot: SlotText<'a>,
+    ) -> Result<(), AllocError> {
+        for number in 0..slot.holders {
+            if words.faults.is_full() {
+                break;
+            }
+            let Reference { name, index } = slot.holder;
+            let index = index.map(|first| first.saturating_add(number));
+            let holder = Reference { name, index };
+            self.add_text(words, objects, SlotText { holder, ..slot })?;
+        }
+        Ok(())
+    }
+
+    /// Fills the slots that one place of the text tells, of one object.
+    fn add_text(
         &mut self,
         words: &mut Words<'a>,
         objects: &mut Objects<'a>,
@@ -233,7 +365,7 @@ impl<'a> Slots<'a> {
             }
             Found::LeftOut(_) => {
                 leave_out(words, objects, slot, None);
-                return Ok(());
+                return self.note_left_out(slot);
             }
             Found::Kept(number) => (number, objects.objects.get(number)),
         };
@@ -277,7 +409,7 @@ impl<'a> Slots<'a> {
             }
             Some(_) => {
                 leave_out(words, objects, slot, Some(word));
-                Ok(())
+                self.note_left_out(slot)
             }
             None => {
                 let hint = words.faults.hint(word, &SLOT_WORDS);
@@ -336,6 +468,46 @@ impl<'a> Slots<'a> {
         Ok(())
     }
 
+    /// Notes that the capability of a name is left out, where it has one.
+    fn note_left_out(&mut self, slot: SlotText<'a>) -> Result<(), AllocError> {
+        if let Some(name) = slot.own_name {
+            self.left_out.insert(name.text, true)?;
+        }
+        Ok(())
+    }
+
+    /// Fills one slot with a copy of the capability of a name: with what that has where the copy says nothing else.
+    fn add_copy(
+        &mut self,
+        words: &mut Words<'a>,
+        objects: &Objects<'a>,
+        slot: SlotText<'a>,
+        holder: Holder,
+        place: u64,
+    ) -> Result<(), AllocError> {
+        let Token { text, spot, .. } = slot.object.name;
+        let named = self.named.get(text).copied().unwrap_or(usize::MAX);
+        let Some(original) = self.slots.get(named).copied() else {
+            if self.left_out.contains_key(text) {
+                return self.note_left_out(slot);
+            }
+            let told = format_args!("there is no capability {text}");
+            words.faults.say(spot, told);
+            return Ok(());
+        };
+        let mut cap = slot.cap;
+        cap.rights = both_rights(Some(original.rights.0), cap.rights);
+        if cap.badge == 0 {
+            cap.badge = original.badge;
+        }
+        if cap.guard_size == 0 {
+            cap.guard = original.guard.value;
+            cap.guard_size = u64::from(original.guard.size);
+        }
+        let copy = SlotText { cap, ..slot };
+        self.put(words, objects, copy, holder, place, original.object)
+    }
+
     /// Fills one slot with a capability of an object, where a set-up has such.
     fn add(
         &mut self,
@@ -346,17 +518,21 @@ impl<'a> Slots<'a> {
         place: u64,
         object: Reference<'a>,
     ) -> Result<(), AllocError> {
+        if slot.is_copy {
+            return self.add_copy(words, objects, slot, holder, place);
+        }
         match objects.find(object) {
             Found::Kept(object) => self.put(words, objects, slot, holder, place, object),
             Found::LeftOut(kind) => {
+                say_unknown_parameter(words, slot, false);
                 objects.leave_out(kind, slot.at.spot, 0, 1);
-                Ok(())
+                self.note_left_out(slot)
             }
             Found::Unknown if BUILT_IN.contains(&object.name.text) => {
                 let (holder, Token { text, spot, .. }) = (slot.holder.name.text, slot.object.name);
                 let told = format_args!("slot {place} of {holder}: {text} is left out");
                 words.notes.say(spot, told);
-                Ok(())
+                self.note_left_out(slot)
             }
             Found::Unknown => {
                 objects.say_unknown(words, object);
@@ -391,6 +567,7 @@ impl<'a> Slots<'a> {
             words.faults.say(spot, told);
             return Ok(());
         }
+        say_unknown_parameter(words, slot, object.bits != OTHER_BITS);
         self.check(words, slot, (holder.kind, place), number, object.kind);
         let (machine, bits) = (Machine::of(objects.profile), object.bits);
         match object.kind {
@@ -402,7 +579,7 @@ impl<'a> Slots<'a> {
         }
         self.places.insert(key, self.slots.len())?;
         if let Some(name) = slot.own_name {
-            self.named.insert(name, self.slots.len())?;
+            self.named.insert(name.text, self.slots.len())?;
         }
         self.slots
             .push(filled(slot, holder.number, place, number, object))?;
@@ -447,6 +624,9 @@ fn leave_out<'a>(
     word: Option<&str>,
 ) {
     let name = slot.object.name.text;
+    if slot.is_copy {
+        return;
+    }
     match (objects.find(slot.object), word) {
         (Found::LeftOut(kind), _) => objects.leave_out(kind, slot.at.spot, 0, 1),
         (Found::Kept(_), Some(word)) => {

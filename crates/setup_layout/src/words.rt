@@ -10,11 +10,29 @@ pub struct Reference<'a> {
     pub index: Option<u64>,
 }
 
-/// A parameter: its first three words, and how many it has.
+/// A parameter: its first words, and how many it has.
 #[derive(Clone, Copy)]
 pub struct Parameter<'a> {
-    pub words: [Token<'a>; 3],
+    pub words: [Token<'a>; 8],
     pub count: usize,
+}
+
+impl<'a> Parameter<'a> {
+    /// The first three words.
+    pub fn front(&self) -> [Token<'a>; 3] {
+        let [first, second, third, _, _, _, _, _] = self.words;
+        [first, second, third]
+    }
+
+    /// The number that is given to a word, where this is such.
+    pub fn number(&self, word: &str) -> Option<u64> {
+        let [first, second, third] = self.front();
+        if self.count == 3 && first.is(word) && second.is(":") {
+            third.number()
+        } else {
+            None
+        }
+    }
 }
 
 /// A text that is read, and what is said of it.
@@ -132,7 +150,7 @@ impl<'a> Words<'a> {
     pub fn reference(&mut self) -> Reference<'a> {
         let name = self.name("the name of an object");
         let mut index = None;
-        if self.has("[") {
+        if self.token.spot.line == name.spot.line && self.has("[") {
             index = Some(self.number());
             self.need("]");
         }
@@ -152,7 +170,7 @@ impl<'a> Words<'a> {
         let mut parameters = Vec::new(self.alloc);
         let mut inner = 0usize;
         let mut parameter = Parameter {
-            words: [self.token; 3],
+            words: [self.token; 8],
             count: 0,
         };
         if !self.has("(") {

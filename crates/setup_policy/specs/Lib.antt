@@ -1,4 +1,1 @@
 pub mod Entries
-pub mod Files
-pub mod Meant
-pub mod Values

@@ -61,10 +61,6 @@ fn add_entries(
 /// client that made the call, the client's number for it and the reply; then what the kernel shows of the memory, as
 /// `setup_report::report` tells it, but for objects and slots, which stand as a naming tells them; and how many entries there are, of how many calls of the set-up. Expectations are not looked
 /// at.
-///
-/// # Errors
-///
-/// Memory was refused.
 #[tactic(auto, unfolding(crate::specs::SharedReport::shared_report_told))]
 pub fn history_report<P: Profile, S: DerivationStore<P> + Drop, W: Waiters<P> + Drop>(
     alloc: Global,
@@ -86,10 +82,6 @@ pub fn history_report<P: Profile, S: DerivationStore<P> + Drop, W: Waiters<P> + 
 
 /// The report of a kernel that the clients of a set-up shared, as text: that of the book's history, with the client's numbers
 /// from 0 on, and of the book's kernel.
-///
-/// # Errors
-///
-/// Memory was refused.
 pub fn shared_report<N: Naming, P: Profile, S: DerivationStore<P> + Drop, W: Waiters<P> + Drop>(
     alloc: Global,
     setup: &Setup,

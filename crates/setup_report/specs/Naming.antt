@@ -50,7 +50,7 @@ names_object object cap = false
 
 -- ---- addresses
 
--- all are numbers, and the thread that a line is about has its name behind it
+-- all are numbers, and the thread that a line is about has its name after it
 abbrev pub by_addresses : Names → Texts
 by_addresses names = record {
   about = thread_name names;
@@ -59,7 +59,7 @@ by_addresses names = record {
   by_name = false;
 }
 
--- addresses alone
+-- only addresses
 abbrev pub plain : Texts
 plain = by_addresses []
 
@@ -132,7 +132,7 @@ texts_of false p names plan v = by_addresses names
 texts_of true p names plan v =
     by_object_names (object_name names (2 ^ plan.root_radix) (slots_at_boot p plan)) (slot_bits p) (live_nodes (derivations_of v.derivations))
 
--- the texts of a report: addresses alone, or names
+-- the texts of a report: only addresses, or names
 abbrev pub report_texts : Bool → ProfileName → Names → Plan → Shown → Texts
 report_texts false p names plan v = plain
 report_texts true p names plan v = texts_of true p names plan v

@@ -22,10 +22,6 @@ fn first_calls(setup: &Setup, count: usize) -> &[Call]
 }
 
 /// The kernel of a set-up behind its first calls, and what these were answered.
-///
-/// # Errors
-///
-/// Memory was refused.
 pub fn run_first<P: Profile, S: MakeStore<P>, W: MakeWaiters<P>>(
     alloc: Global,
     setup: &Setup,
@@ -44,10 +40,6 @@ pub fn run_first<P: Profile, S: MakeStore<P>, W: MakeWaiters<P>>(
 }
 
 /// The kernel of a set-up behind its first calls.
-///
-/// # Errors
-///
-/// Memory was refused.
 pub fn kernel_after<P: Profile, S: MakeStore<P>, W: MakeWaiters<P>>(
     alloc: Global,
     setup: &Setup,

@@ -78,10 +78,6 @@ fn count(expectation: ExpectationText<'_>) -> ExpectationCount
 
 /// Adds the line of a call, with its number from 1 on and its reply, as a naming tells them, and counts its expectation, which
 /// is compared with the reply by addresses.
-///
-/// # Errors
-///
-/// Memory was refused.
 pub fn add_call(
     alloc: Global,
     out: &mut String,
@@ -142,10 +138,6 @@ fn counted_expectation(
 }
 
 /// Counts the expectations of a set-up's calls, given the reply to each.
-///
-/// # Errors
-///
-/// Memory was refused.
 pub fn expectations(
     alloc: Global,
     setup: &Setup,

@@ -45,10 +45,6 @@ pub use text::{
 /// by rising address; and how many of the expectations are met.
 ///
 /// `replies` has the reply to each call, in order. The lines, and what is read of a kernel, are this project's profile.
-///
-/// # Errors
-///
-/// Memory was refused.
 pub fn report<P: Profile, S: DerivationStore<P> + Drop, W: Waiters<P> + Drop>(
     alloc: Global,
     setup: &Setup,
@@ -64,10 +60,6 @@ pub fn report<P: Profile, S: DerivationStore<P> + Drop, W: Waiters<P> + Drop>(
 
 /// The report of a run as `report` gives it, but for objects and slots, which stand as a naming tells them; and the count of
 /// its expectations, as `expectations` gives it.
-///
-/// # Errors
-///
-/// Memory was refused.
 #[tactic(auto, unfolding(crate::specs::Report::report_told))]
 pub fn counted_report<P: Profile, S: DerivationStore<P> + Drop, W: Waiters<P> + Drop>(
     alloc: Global,

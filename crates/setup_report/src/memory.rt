@@ -93,10 +93,6 @@ fn add_slots<P: Profile, S: CapStore<P> + Drop, W: Waiters<P> + Drop>(
 }
 
 /// The threads that wait on an endpoint, the first to be served first; none where no live endpoint is at the address.
-///
-/// # Errors
-///
-/// Memory was refused.
 pub fn waiting_threads<P: Profile, S: CapStore<P> + Drop, W: Waiters<P> + Drop>(
     alloc: Global,
     endpoint: u64,
@@ -183,10 +179,6 @@ fn add_selfheld(out: &mut String, naming: &Naming<'_>, nodes: &[u64]) -> Result<
 
 /// Adds what a kernel shows of its memory: a line for each live thread, each live endpoint, each full slot and each CNode
 /// that only slots of its own name, each by rising address.
-///
-/// # Errors
-///
-/// Memory was refused.
 pub fn add_state<P: Profile, S: DerivationStore<P> + Drop, W: Waiters<P> + Drop>(
     alloc: Global,
     out: &mut String,

@@ -94,10 +94,6 @@ impl<'a> Naming<'a> {
     }
 
     /// How a kernel's state is told: by the names of its objects, or by addresses.
-    ///
-    /// # Errors
-    ///
-    /// Memory was refused.
     pub fn of<P: Profile, S: MakeStore<P> + DerivationStore<P>, W: MakeWaiters<P>>(
         alloc: Global,
         by_name: bool,
@@ -119,10 +115,6 @@ impl<'a> Naming<'a> {
     }
 
     /// How a report tells a kernel's state: by addresses alone, or by the names of its objects.
-    ///
-    /// # Errors
-    ///
-    /// Memory was refused.
     pub fn in_report<P: Profile, S: MakeStore<P> + DerivationStore<P>, W: MakeWaiters<P>>(
         alloc: Global,
         by_name: bool,

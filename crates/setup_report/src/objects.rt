@@ -157,10 +157,6 @@ impl<'a> ObjectNames<'a> {
 }
 
 /// The full slots of boot.
-///
-/// # Errors
-///
-/// Memory was refused.
 pub fn boot_rows<P: Profile, S: MakeStore<P> + DerivationStore<P>, W: MakeWaiters<P>>(
     alloc: Global,
     plan: &BootPlan,
@@ -182,10 +178,6 @@ fn node_of(cap: Cap) -> Option<Node>
 }
 
 /// The CNodes that some full slots name.
-///
-/// # Errors
-///
-/// Memory was refused.
 pub fn live_nodes(alloc: Global, rows: &[Derivation]) -> Result<Vec<Node>, AllocError>
     ensures { IfOk result (λ nodes. nodes.items ≡ filter_map (λ d. spec.node_of d.cap) rows.now) }
 {

@@ -38,10 +38,6 @@ fn sort_by_address<P: Profile>(slots: &mut [Derivation])
 }
 
 /// The rows of a kernel's state.
-///
-/// # Errors
-///
-/// Memory was refused.
 pub fn state_rows<P: Profile, S: DerivationStore<P> + Drop, W: Waiters<P> + Drop>(
     alloc: Global,
     kernel: &Kernel<P, S, W>,

@@ -108,10 +108,10 @@ impl<'a> Elements<'a> {
         spot.length = length;
         let value = self.scanner.take(length);
         self.scanner.take(1);
-        if value.contains('<') || value.contains('&') {
+        if value.contains('<') || value.contains('&') && !value.contains(';') {
             self.fail(
                 spot,
-                "a value has no < and no & here: is its closing quote missing? What stands for a sign, as &amp;, is not read",
+                "a value has no < and no & by itself: is its closing quote missing? A sign has a name, as &amp;",
             );
         }
         value

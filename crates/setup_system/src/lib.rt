@@ -4,6 +4,7 @@
 
 mod elements;
 mod lines;
+mod machines;
 mod making;
 mod reading;
 mod system;

@@ -30,6 +30,12 @@ impl Lines {
         Ok(())
     }
 
+    /// Adds the line of a memory region that is mapped, with the letters of its rights, where each line before is one of such.
+    pub fn put_map(&mut self, region: &str, letters: &str, spot: Spot) -> Result<(), AllocError> {
+        let number = self.spots.len();
+        self.put(spot, format_args!("{number}: {region} ({letters})"))
+    }
+
     /// Adds other lines.
     pub fn append(&mut self, others: &Lines) -> Result<(), AllocError> {
         self.text.push_str(others.text.as_str())?;

@@ -1,6 +1,8 @@
 //! The reading of a layout in either language.
 use crate::system::System;
-use setup_layout::{Layout, ReadLayout, Reading, Remarks, Scanner, Spot, read_layout};
+use setup_layout::{
+    Layout, ReadLayout, Reading, Remarks, Scanner, Spot, read_layout, without_front,
+};
 use std::alloc::{AllocError, Global};
 
 /// The part of the file of which a line of the text was made.
@@ -36,7 +38,7 @@ fn move_slots(layout: &mut Layout, spots: &[Spot]) {
 
 /// Reads a `.system` file.
 fn read_system(alloc: Global, text: &str, reading: Reading) -> Result<ReadLayout, AllocError> {
-    let system = System::read(alloc, text)?;
+    let system = System::read(alloc, text, reading.all_rights)?;
     let made = system.text()?;
     let System {
         mut faults,
@@ -53,48 +55,44 @@ fn read_system(alloc: Global, text: &str, reading: Reading) -> Result<ReadLayout
     if !faults.told.is_empty() {
         read.places = None;
     }
-    if faults.is_refused || notes.is_refused {
+    let mut named = Remarks::new(alloc);
+    move_remarks(&read.names.notes, &mut named, spots);
+    if faults.is_refused || notes.is_refused || named.is_refused {
         return Err(AllocError);
     }
     read.layout.faults = faults;
     read.layout.notes = notes;
+    read.names.notes = named;
     Ok(read)
 }
 
 /// Reads a layout: a `.system` file where the first letter is `<`, and else capDL text. What is wrong with it is in its faults, and a
 /// layout with faults has no places.
-///
-/// # Errors
-///
-/// Memory was refused.
 pub fn read_any_layout(
     alloc: Global,
     bytes: &[u8],
     reading: Reading,
 ) -> Result<ReadLayout, AllocError> {
     match std::str::from_utf8(bytes) {
-        Ok(text) if text.trim_ascii_start().starts_with('<') => read_system(alloc, text, reading),
+        Ok(text) if without_front(text).starts_with('<') => read_system(alloc, text, reading),
         _ => read_layout(alloc, bytes, reading),
     }
 }
 
 /// What is said of a layout, each remark with the line of the text where it stands: its faults, or its notes where it has none.
 /// `name` is the file's.
-///
-/// # Errors
-///
-/// Memory was refused.
 pub fn layout_words(
     alloc: Global,
     bytes: &[u8],
     reading: Reading,
     name: &str,
 ) -> Result<String, AllocError> {
-    let layout = read_any_layout(alloc, bytes, reading)?.layout;
+    let ReadLayout { layout, names, .. } = read_any_layout(alloc, bytes, reading)?;
     let text = std::str::from_utf8(bytes).unwrap_or("");
     let mut words = String::new(alloc);
     if layout.faults.told.is_empty() {
         layout.notes.add_to(&mut words, name, text)?;
+        names.notes.add_to(&mut words, name, text)?;
     } else {
         layout.faults.add_to(&mut words, name, text)?;
     }

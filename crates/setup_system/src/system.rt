@@ -1,13 +1,15 @@
 //! The system that a `.system` file describes.
 use crate::elements::{Element, Elements};
 use crate::lines::Lines;
-use crate::making::{Domain, End, text_of};
+use crate::machines::Machine;
+use crate::making::{Assumed, Domain, End, LARGE_BITS, cnode_bits, text_of};
 use setup_layout::{Remarks, Scanner, Spot, front_length, number_of};
 use std::alloc::{AllocError, Global};
 use std::collections::HashMap;
+use std::fmt::Write;
 
 /// The greatest number by which a domain knows a channel, an interrupt or a domain in it.
-const MOST_ID: u64 = 62;
+const MOST_ID: u64 = 61;
 
 /// The most domains.
 const MOST_DOMAINS: usize = 63;
@@ -15,21 +17,27 @@ const MOST_DOMAINS: usize = 63;
 /// The objects that are made of a domain.
 const OBJECTS: [&str; 5] = ["tcb", "cnode", "ntfn", "vspace", "ep"];
 
-/// What is told of what a file does not say.
-const ASSUMED: &str =
-    "what the file leaves to Microkit's tool is assumed: the places of slots, CNodes of 9 bits, and the monitor";
+/// What is told of what a file does not say: with the least rights, or with all.
+const LEAST_ASSUMED: &str =
+    "what the file leaves to Microkit's tool is assumed: the places of slots, CNodes of 9 bits, the monitor, and the rights W to notify, WP to call and R to hear";
+
+const ALL_ASSUMED: &str =
+    "what the file leaves to Microkit's tool is assumed: the places of slots, CNodes of 9 bits, the monitor, and all rights to notify, to call and to hear";
 
 /// The elements that are read.
 #[rattlefmt::skip]
-const ELEMENTS: [&str; 9] = [
+const ELEMENTS: [&str; 12] = [
     "system", "memory_region", "protection_domain", "program_image", "map", "irq", "setvar", "channel", "end",
+    "virtual_machine", "vcpu", "ioport",
 ];
 
 /// Their attributes. What is no name, number, permission or answer says nothing of capabilities.
 #[rattlefmt::skip]
-const ATTRIBUTES: [&str; 9] = [
-    "", "name size page_size phys_addr", "name id pp priority budget period stack_size passive", "path",
-    "mr vaddr perms cached setvar_vaddr setvar_size", "irq id trigger", "symbol region_paddr", "", "pd id pp notify setvar_id",
+const ATTRIBUTES: [&str; 12] = [
+    "", "name size page_size phys_addr prefill_path", "name id pp priority budget period stack_size passive cpu fpu", "path",
+    "mr vaddr perms cached setvar_vaddr setvar_size",
+    "irq id trigger pin ioapic polarity vector pcidev handle setvar_id", "symbol region_paddr region_size", "",
+    "pd id pp notify setvar_id", "name id priority budget period", "id cpu", "id addr size setvar_id setvar_addr",
 ];
 
 /// Where an element stands, as far as it decides what may stand in it.
@@ -42,6 +50,8 @@ enum Place {
     Domain(usize),
     /// In a channel, by its place among them.
     Channel(usize),
+    /// In a virtual machine, by its place among them.
+    Machine(usize),
     /// In an element in which nothing stands.
     Inside,
     /// In an element that is left out.
@@ -97,6 +107,8 @@ impl<'a> Names<'a> {
 #[derive(Drop)]
 pub struct System<'a> {
     alloc: Global,
+    /// Whether capabilities have all rights of which the file says nothing.
+    all_rights: bool,
     /// Where the outermost element stands.
     spot: Spot,
     region_names: Names<'a>,
@@ -105,6 +117,7 @@ pub struct System<'a> {
     regions: Lines,
     domains: Vec<Domain<'a>>,
     channels: Vec<Channel>,
+    machines: Vec<Machine<'a>>,
     /// In which line a name is made, or an id is given.
     taken: HashMap<String, usize>,
     /// Where the elements stand that are read.
@@ -182,6 +195,23 @@ impl<'a> System<'a> {
         Ok(id as u32)
     }
 
+    /// The number that is the value of an attribute; it may have `_` between its digits.
+    fn value_of(&mut self, element: &Element<'a>, name: &str) -> Result<u64, AllocError> {
+        let value = self.needed(element, name);
+        let mut digits = String::new(self.alloc);
+        for letter in value.chars() {
+            if letter != '_' {
+                digits.push(letter)?;
+            }
+        }
+        let number = number_of(digits.as_str());
+        if number.is_none() && !value.is_empty() {
+            let told = format_args!("{name} is a number of at most 64 bits");
+            self.faults.say(element.spot, told);
+        }
+        Ok(number.unwrap_or(0))
+    }
+
     /// Whether an attribute says so.
     fn is_so(&mut self, element: &Element<'a>, name: &str, is_else: bool) -> bool {
         match element.value(name) {
@@ -223,7 +253,11 @@ impl<'a> System<'a> {
             let told = format_args!("a .system file is one element system, and not {name}");
             self.faults.say(spot, told);
         }
-        self.notes.say(spot, ASSUMED);
+        if self.all_rights {
+            self.notes.say(spot, ALL_ASSUMED);
+        } else {
+            self.notes.say(spot, LEAST_ASSUMED);
+        }
         self.take_objects(spot, "monitor")?;
         Ok(Place::System)
     }
@@ -233,7 +267,15 @@ impl<'a> System<'a> {
         let (name, spot) = (self.name(element), element.spot);
         self.take(spot, String::from_str(self.alloc, name)?)?;
         self.region_names.add(name)?;
-        self.regions.put(spot, format_args!("{name} = frame"))?;
+        match element.value("phys_addr") {
+            None => self.regions.put(spot, format_args!("{name} = frame"))?,
+            Some(_) => {
+                let address = self.value_of(element, "phys_addr")?;
+                let size = self.value_of(element, "size")?;
+                let words = format_args!("{name} = frame ({size} bytes, paddr: {address})");
+                self.regions.put(spot, words)?;
+            }
+        }
         Ok(Place::Inside)
     }
 
@@ -246,7 +288,8 @@ impl<'a> System<'a> {
         let (name, spot, number) = (self.name(element), element.spot, self.domains.len());
         self.take_objects(spot, name)?;
         let is_server = self.is_so(element, "pp", false);
-        let mut domain = Domain::new(self.alloc, name, spot, is_server);
+        let rights = Assumed::new(self.all_rights);
+        let mut domain = Domain::new(self.alloc, name, spot, is_server, rights);
         if let Some(outer) = outer {
             let id = self.id(element, outer, "a domain in ")?;
             if let Some(outer) = self.domains.get_mut(outer) {
@@ -264,8 +307,8 @@ impl<'a> System<'a> {
         Ok(Place::Domain(number))
     }
 
-    /// Adds a memory region that a domain sees.
-    fn add_map(&mut self, element: &Element<'a>, domain: usize) -> Result<Place, AllocError> {
+    /// Adds a memory region that a domain or a virtual machine sees.
+    fn add_map(&mut self, element: &Element<'a>, place: Place) -> Result<Place, AllocError> {
         let (region, spot) = (self.needed(element, "mr"), element.spot);
         self.region_names.find(&mut self.faults, spot, region);
         let letters = element.value("perms").unwrap_or("rw");
@@ -274,26 +317,118 @@ impl<'a> System<'a> {
                 .say(spot, "perms has letters of r, w and x, one at least");
         }
         let letters = letters.to_ascii_uppercase(self.alloc)?;
-        if let Some(domain) = self.domains.get_mut(domain) {
-            domain.add_map(region, letters.as_str(), spot)?;
+        match place {
+            Place::Domain(number) => {
+                if let Some(domain) = self.domains.get_mut(number) {
+                    domain.maps.put_map(region, letters.as_str(), spot)?;
+                }
+            }
+            Place::Machine(number) => {
+                if let Some(machine) = self.machines.get_mut(number) {
+                    machine.maps.put_map(region, letters.as_str(), spot)?;
+                }
+            }
+            _ => {}
         }
         Ok(Place::Inside)
     }
 
+    /// The name and the kind of an interrupt: by its number, by a pin of an interrupt controller, or by a message of a device.
+    fn interrupt_of(
+        &mut self,
+        element: &Element<'a>,
+    ) -> Result<(String, &'static str), AllocError> {
+        if element.value("pin").is_some() {
+            let pin = self.value_of(element, "pin")?;
+            let controller = match element.value("ioapic") {
+                Some(_) => self.value_of(element, "ioapic")?,
+                None => 0,
+            };
+            return Ok((
+                format!(in self.alloc; "irq_ioapic_{controller}_{pin}")?,
+                "ioapic_irq",
+            ));
+        }
+        if let Some(device) = element.value("pcidev") {
+            let handle = self.value_of(element, "handle")?;
+            let mut made = String::from_str(self.alloc, "irq_msi_")?;
+            for letter in device.chars() {
+                made.push(if letter.is_ascii_alphanumeric() {
+                    letter
+                } else {
+                    '_'
+                })?;
+            }
+            write!(&mut made, "_{handle}")?;
+            return Ok((made, "msi_irq"));
+        }
+        let number = self.value_of(element, "irq")?;
+        Ok((format!(in self.alloc; "irq_{number}")?, "arm_irq"))
+    }
+
     /// Adds an interrupt that a domain hears.
     fn add_interrupt(&mut self, element: &Element<'a>, domain: usize) -> Result<Place, AllocError> {
-        let (number, spot) = (number_of(self.needed(element, "irq")), element.spot);
-        let id = self.id(element, domain, "")?;
-        let Some(number) = number else {
-            self.faults.say(spot, "irq is the number of an interrupt");
-            return Ok(Place::Inside);
-        };
-        let made = format!(in self.alloc; "irq_{number}")?;
-        self.take(spot, made)?;
+        let (made, kind) = self.interrupt_of(element)?;
+        let (id, spot) = (self.id(element, domain, "")?, element.spot);
+        self.take(spot, made.clone()?)?;
         if let Some(domain) = self.domains.get_mut(domain) {
-            domain.add_interrupt(number, id, spot)?;
+            domain.add_interrupt(made.as_str(), kind, id, spot)?;
         }
         Ok(Place::Inside)
+    }
+
+    /// Adds ports that a domain reads and writes.
+    fn add_ports(&mut self, element: &Element<'a>, domain: usize) -> Result<Place, AllocError> {
+        let first = self.value_of(element, "addr")?;
+        let size = self.value_of(element, "size")?;
+        let (id, spot) = (self.id(element, domain, "ports of ")?, element.spot);
+        let last = first.saturating_add(size.saturating_sub(1));
+        if let Some(domain) = self.domains.get_mut(domain) {
+            let made = format!(in self.alloc; "{}_ports_{id}", domain.name)?;
+            domain.add_ports(first, last, id, spot)?;
+            self.take(spot, made)?;
+        }
+        Ok(Place::Inside)
+    }
+
+    /// Adds a virtual machine under a domain.
+    fn add_machine(&mut self, element: &Element<'a>, domain: usize) -> Result<Place, AllocError> {
+        let (name, spot, number) = (self.name(element), element.spot, self.machines.len());
+        self.take_objects(spot, name)?;
+        let machine = Machine::new(self.alloc, name, spot, domain);
+        self.machines.push(machine)?;
+        Ok(Place::Machine(number))
+    }
+
+    /// Adds a processor of a virtual machine.
+    fn add_processor(&mut self, element: &Element<'a>, number: usize) -> Result<Place, AllocError> {
+        let spot = element.spot;
+        let (domain, name) = match self.machines.get(number) {
+            Some(machine) => (machine.domain, machine.name),
+            None => return Ok(Place::Inside),
+        };
+        let id = self.id(element, domain, "a processor in ")?;
+        for made in ["tcb", "vcpu"] {
+            let made = format!(in self.alloc; "{name}_{made}_{id}")?;
+            self.take(spot, made)?;
+        }
+        if let Some(machine) = self.machines.get_mut(number) {
+            machine.processors.push((id, spot))?;
+        }
+        Ok(Place::Inside)
+    }
+
+    /// Has each domain control its virtual machines. One without processors has one.
+    fn join_machines(&mut self) -> Result<(), AllocError> {
+        for machine in self.machines.iter_mut() {
+            if machine.processors.is_empty() {
+                machine.processors.push((0, machine.spot))?;
+            }
+            if let Some(domain) = self.domains.get_mut(machine.domain) {
+                domain.add_machine(self.alloc, machine)?;
+            }
+        }
+        Ok(())
     }
 
     /// Adds a channel.
@@ -340,8 +475,11 @@ impl<'a> System<'a> {
             (Place::System, "protection_domain") => self.add_domain(element, None)?,
             (Place::System, "channel") => self.add_channel(element)?,
             (Place::Domain(outer), "protection_domain") => self.add_domain(element, Some(outer))?,
-            (Place::Domain(domain), "map") => self.add_map(element, domain)?,
+            (Place::Domain(_) | Place::Machine(_), "map") => self.add_map(element, place)?,
             (Place::Domain(domain), "irq") => self.add_interrupt(element, domain)?,
+            (Place::Domain(domain), "ioport") => self.add_ports(element, domain)?,
+            (Place::Domain(domain), "virtual_machine") => self.add_machine(element, domain)?,
+            (Place::Machine(machine), "vcpu") => self.add_processor(element, machine)?,
             (Place::Domain(_), "program_image" | "setvar") => Place::Inside,
             (Place::Channel(channel), "end") => self.add_end(element, channel)?,
             _ => return Ok(self.leave_out(element)),
@@ -400,11 +538,28 @@ impl<'a> System<'a> {
         Ok(())
     }
 
+    /// Says that CNodes are smaller than usual, where they are.
+    fn say_small(&mut self) {
+        let bits = cnode_bits(self.domains.as_slice());
+        if bits < LARGE_BITS {
+            let told = format_args!("CNodes have {bits} bits here, so that all have room");
+            self.notes.say(self.spot, told);
+        }
+    }
+
     /// The capDL text of the system; that of none, where it has faults.
     pub fn text(&self) -> Result<Lines, AllocError> {
         let (alloc, spot, domains) = (self.alloc, self.spot, self.domains.as_slice());
         if self.faults.told.is_empty() {
-            return text_of(alloc, spot, &self.regions, domains);
+            let rights = Assumed::new(self.all_rights);
+            return text_of(
+                alloc,
+                spot,
+                &self.regions,
+                domains,
+                rights,
+                cnode_bits(domains),
+            );
         }
         let mut nothing = Lines::new(alloc);
         nothing.put(spot, "arch aarch64")?;
@@ -412,16 +567,18 @@ impl<'a> System<'a> {
     }
 
     /// Reads a file.
-    pub fn read(alloc: Global, text: &'a str) -> Result<System<'a>, AllocError> {
+    pub fn read(alloc: Global, text: &'a str, all_rights: bool) -> Result<System<'a>, AllocError> {
         let Elements { list, faults, .. } = Elements::read(alloc, text)?;
         let mut system = System {
             alloc,
+            all_rights,
             spot: Scanner::new(text).spot(0),
             region_names: Names::new(alloc, "memory region"),
             domain_names: Names::new(alloc, "protection domain"),
             regions: Lines::new(alloc),
             domains: Vec::new(alloc),
             channels: Vec::new(alloc),
+            machines: Vec::new(alloc),
             taken: HashMap::new(alloc),
             places: Vec::new(alloc),
             faults,
@@ -436,7 +593,9 @@ impl<'a> System<'a> {
             system.add_all(list.as_slice(), true)?;
         }
         if system.faults.told.is_empty() {
+            system.join_machines()?;
             system.join_all()?;
+            system.say_small();
         }
         Ok(system)
     }

@@ -102,10 +102,6 @@ impl<'a> KnownNames<'a> {
     }
 
     /// These names.
-    ///
-    /// # Errors
-    ///
-    /// Memory was refused.
     pub fn new(alloc: Global, names: &'a [Name]) -> Result<KnownNames<'a>, AllocError>
         ensures { IfOk result (λ known. known ≡ names.now) }
     {

@@ -21,7 +21,7 @@ slot_of_row row = row.slot
 abbrev pub entry_of : ProfileName → Row → Entry
 entry_of p row = entry (address_of p row.slot) row.cap row.original
 
--- the forest whose preorder the rows are: below each row stand the deeper ones that follow it
+-- the forest whose preorder the rows are: below each row are the deeper ones that follow it
 abbrev pub forest_of : ProfileName → List Row → Forest Entry
 forest_of p rows = renamed (entry_of p) (build is_deeper rows)
 

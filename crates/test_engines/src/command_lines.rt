@@ -41,8 +41,12 @@ enum Told<'a> {
     Explore(Option<u64>, Option<u64>),
     /// They ask for this order as a set-up, or for none.
     Witness(Option<&'a str>),
+    /// They are taken, and name a command or none.
+    Named(bool),
     /// They call for help, whose status is 0 and whose text tells the usage.
     Help,
+    /// They call for the version, whose status is 0 and whose text is a line.
+    Version,
     /// They are refused, with status 4 and the text of a refusal.
     Refused,
     /// They are refused so too, since options do not go together, of which the fault names this.
@@ -105,6 +109,12 @@ const JOBS: &[(&[&str], Told)] = &[
         &["sel4sim", "explore", "--first", "1", "rows.toml"],
         Told::Job("explore", Some("rows.toml")),
     ),
+    // a command is named or not
+    (&["sel4sim"], Told::Named(false)),
+    (&["sel4sim", "chek"], Told::Named(false)),
+    (&["sel4sim", "rows.toml", "a"], Told::Named(false)),
+    (&["sel4sim", "check"], Told::Named(true)),
+    (&["sel4sim", "rows.toml", "trace"], Told::Named(true)),
     // several files, all of them to be checked
     (&["sel4sim", "check", "a"], Told::Several(&[])),
     (&["sel4sim", "check", "a", "b"], Told::Several(&["a", "b"])),
@@ -252,10 +262,18 @@ const FAULTS_OF_LINES: &[(&[&str], Told)] = &[
         &["sel4sim", "explore", "--names", "--witness", "stuck.1"],
         Told::Conflict("--witness"),
     ),
+    (
+        &["sel4sim", "audit", "--policy", "-", "rows.toml"],
+        Told::Conflict("--policy"),
+    ),
+    (
+        &["sel4sim", "marks", "--of", "-", "rows.toml"],
+        Told::Conflict("--of"),
+    ),
     // calls for help
     (&["sel4sim", "--help"], Told::Help),
-    (&["sel4sim", "--version"], Told::Help),
-    (&["sel4sim", "-V"], Told::Help),
+    (&["sel4sim", "--version"], Told::Version),
+    (&["sel4sim", "-V"], Told::Version),
     (&["sel4sim", "-h"], Told::Help),
     (&["sel4sim", "check", "--help"], Told::Help),
     (&["sel4sim", "trace", "--help"], Told::Help),
@@ -326,7 +344,8 @@ fn asks_for(taken: &Line, wanted: Told) -> bool {
             name == "explore" && options.first == first && options.states == states
         }
         Told::Witness(witness) => options.witness == witness,
-        Told::Help | Told::Refused | Told::Conflict(_) => false,
+        Told::Named(named) => taken.names_command == named,
+        Told::Help | Told::Version | Told::Refused | Told::Conflict(_) => false,
     }
 }
 
@@ -335,6 +354,11 @@ fn is_fault(fault: &LineFault, wanted: Told) -> bool {
     match (fault, wanted) {
         (LineFault::Help(text), Told::Help) => {
             fault.status() == 0 && text.as_str().contains("Usage: sel4sim")
+        }
+        (LineFault::Help(text), Told::Version) => {
+            let text = text.as_str();
+            let is_line = text.ends_with("\n") && text.lines().count() == 1;
+            fault.status() == 0 && is_line && text.starts_with("sel4sim 20")
         }
         (LineFault::Refused, Told::Refused) => fault.status() == 4,
         (LineFault::Conflict(which), Told::Conflict(named)) => {

@@ -1,7 +1,7 @@
 //! Migrations by the program's engine, read back by its check.
 use crate::fakes::{reader, writer};
 use crate::stored_run::STORED;
-use command_check::{Migrator, ReaderSource, WriterSink, check, run_engine, status_of};
+use command_check::{ReaderSource, WriterSink, check, migrate_run, status_of};
 use std::alloc::Global;
 
 /// The text that a migration of a set-up writes, and the exit status.
@@ -9,7 +9,7 @@ fn migrated(alloc: Global, setup: &[u8]) -> (Vec<u8>, u8) {
     let mut out = writer(alloc, usize::MAX, usize::MAX, false);
     let mut source = ReaderSource::new(reader(setup, 64, usize::MAX));
     let mut sink = WriterSink::new(&mut out);
-    let answer = run_engine(alloc, &Migrator, &mut source, &mut sink);
+    let answer = migrate_run(alloc, &mut source, &mut sink);
     (out.taken, status_of(&answer))
 }
 

@@ -1,6 +1,6 @@
 //! The stored run of the program, with reads and writes that fail at each place.
 use crate::fakes::{PieceWriter, reader, writer};
-use command_check::{Found, ReaderSource, RunFault, Verdict, WriterSink, check};
+use command_check::{ReaderSource, RunFault, Verdict, WriterSink, check};
 use std::alloc::Global;
 
 /// The set-up of the stored run.
@@ -13,14 +13,14 @@ fn run(
     piece: usize,
     reads: usize,
     out: &mut PieceWriter,
-) -> Result<Found, RunFault> {
+) -> Result<Verdict, RunFault> {
     let mut source = ReaderSource::new(reader(STORED, piece, reads));
     check(alloc, &mut source, &mut WriterSink::new(out))
 }
 
 /// Whether all expectations are met.
-fn is_met(answer: &Result<Found, RunFault>) -> bool {
-    matches!(answer, Ok(found) if matches!(found.verdict, Verdict::AllMet))
+fn is_met(answer: &Result<Verdict, RunFault>) -> bool {
+    matches!(answer, Ok(Verdict::AllMet))
 }
 
 /// Whether nothing is written where a read of so many bytes fails after so many.

@@ -1,7 +1,9 @@
 //! Runs of set-ups whose clients share one kernel: whole reports, orders that a gate makes, a limit that is met, set-ups that are
 //! refused, faults of devices, and exit statuses.
-use command_check::{ReaderSource, WriterSink, status_of};
-use command_threads::{OpenGate, threads_run, threads_run_open};
+ghost use Rattle.std.specs.Prelude.{◌≡◌, false};
+
+use command_check::{ReaderSource, Sink, Source, WriterSink, status_of, status_of_found};
+use command_threads::{OpenGate, threads_found, threads_found_open, threads_run};
 use kernel_shared::Gate;
 use std::alloc::{AllocError, Global};
 use std::process::Abort;
@@ -294,6 +296,25 @@ const CASES: &[Case] = &[
     },
 ];
 
+/// The exit status of a run with a gate, behind so many first calls.
+fn status_by<R: Threads + Wait + Sync, S: Source, K: Sink, G: Gate + Sync>(
+    rt: &R,
+    alloc: Global,
+    first: usize,
+    source: &mut S,
+    sink: &mut K,
+    gate: &G,
+) -> u8
+    requires source { S.failed source.old ≡ false }
+    requires sink { K.failed sink.old ≡ false }
+{
+    if first == 0 {
+        status_of(&threads_run(rt, alloc, source, sink, gate))
+    } else {
+        status_of_found(&threads_found(rt, alloc, first, source, sink, gate))
+    }
+}
+
 /// What is written for a case's set-up, and the exit status.
 fn run<R: Threads + Wait + Sync>(
     rt: &R,
@@ -304,22 +325,25 @@ fn run<R: Threads + Wait + Sync>(
     let mut out = Vec::new(alloc);
     let mut source = ReaderSource::new(setup.as_bytes());
     let mut sink = WriterSink::new(&mut out);
-    let answer = match case.gates {
+    let status = match case.gates {
         Gates::Open(clients) => {
             let gate = OpenGate::among(clients);
-            threads_run(rt, alloc, first, &mut source, &mut sink, &gate)
+            status_by(rt, alloc, first, &mut source, &mut sink, &gate)
         }
         Gates::InOrder(clients) => {
             let gate = InOrder {
                 clients,
                 answered: AtomicU64::new(0),
             };
-            threads_run(rt, alloc, first, &mut source, &mut sink, &gate)
+            status_by(rt, alloc, first, &mut source, &mut sink, &gate)
         }
-        Gates::FirstCall => threads_run(rt, alloc, first, &mut source, &mut sink, &FirstCallOnly),
-        Gates::None => threads_run_open(rt, alloc, false, first, &mut source, &mut sink),
+        Gates::FirstCall => { status_by(rt, alloc, first, &mut source, &mut sink, &FirstCallOnly) }
+        Gates::None => {
+            let found = threads_found_open(rt, alloc, false, first, &mut source, &mut sink);
+            status_of_found(&found)
+        }
     };
-    Ok((out, status_of(&answer)))
+    Ok((out, status))
 }
 
 /// Whether a text is what is wanted.

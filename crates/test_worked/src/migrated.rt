@@ -1,5 +1,5 @@
 //! What a set-up of the first format is migrated to.
-use command_check::{Migrator, ReaderSource, Verdict, WriterSink, run_engine};
+use command_check::{ReaderSource, Verdict, WriterSink, migrate_run};
 use std::alloc::Global;
 
 /// The set-up of the newest format that this one is migrated to, or `None` where it is not of the first format or is
@@ -8,8 +8,7 @@ pub fn migrated(alloc: Global, setup: &[u8]) -> anyhow::Result<Option<Vec<u8>>> 
     let mut text = Vec::new(alloc);
     let mut source = ReaderSource::new(setup);
     let mut sink = WriterSink::new(&mut text);
-    let found = run_engine(alloc, &Migrator, &mut source, &mut sink)?;
-    match found.verdict {
+    match migrate_run(alloc, &mut source, &mut sink)? {
         Verdict::AllMet => Ok(Some(text)),
         Verdict::NotMet | Verdict::Refused | Verdict::Absent => Ok(None),
     }

@@ -1,8 +1,9 @@
 -- The calls with the numbers of an order are those that the order makes.
-use Rattle.std.proofs.Common.{◌≡◌, ◌≢◌, ◌==◌, ◌⊎◌, ◌+◌, ◌<◌, ◌≤◌, ℕ, zero, suc, Bool, true, false, cond, List, [], ◌∷◌, ◌++◌, map, filter, length, Option, None, Some, option_map, option_and_then, slice_get, unwrap_or, refl, ap, sym, subst, ◌∙◌, append_assoc, append-nil, length-append, inl, inr, arith}
-use Rattle.std.specs.List.{count_by}
+use Rattle.std.proofs.Common.{◌≡◌, ◌≢◌, ◌==◌, ◌⊎◌, ◌+◌, ◌<◌, ◌≤◌, ℕ, zero, suc, Bool, true, false, cond, List, [], ◌∷◌, ◌++◌, map, filter, length, Option, None, Some, option_map, option_and_then, slice_get, unwrap_or, refl, ap, sym, subst, ◌∙◌, add-one, append_assoc, append-nil, length-append, inl, inr, arith}
+use Rattle.std.specs.List.{count_by, range_with_len}
 use Rattle.std.proofs.lemmas.List.{map-append, length-map}
 use Rattle.std.proofs.lemmas.List.Concat.{flat_map-cons}
+use Rattle.std.proofs.lemmas.List.FromFn.{map-range_with_len_more}
 use Rattle.std.proofs.lemmas.List.Elements.{filter-append}
 use Rattle.std.proofs.lemmas.List.Sums.{length-filter}
 use Rattle.std.proofs.lemmas.Option.{slice_get-map, slice_get_past, slice_get_cases, none-some}
@@ -37,6 +38,15 @@ get-below (suc n) i lt = elim (eqb_tells i n) as (λ _. slice_get (numbers_below
 
 get-below_past : (n i : ℕ) → n ≤ i → slice_get (numbers_below n) i ≡ None
 get-below_past n i le = let long = length-below n in slice_get_past (numbers_below n) i (omega (arith, le, long))
+
+-- what each number below one gives, from 0 on
+mapped-range : {X : Type 0} (f : ℕ → X) (n : ℕ) → map f (range_with_len 0 n) ≡ map f (numbers_below n)
+mapped-range f zero = refl
+mapped-range f (suc n) =
+    ap (λ k. map f (range_with_len 0 k)) (sym (add-one n))
+    ∙ (map-range_with_len_more f 0 n n (omega arith)
+    ∙ (ap (λ l. l ++ f n ∷ []) (mapped-range f n)
+    ∙ sym (map-append f (numbers_below n) (n ∷ []))))
 
 -- what each client has
 pub get-mapped : {X : Type 0} (f : ℕ → X) (n i : ℕ) → i < n → slice_get (map f (numbers_below n)) i ≡ Some (f i)
@@ -99,14 +109,17 @@ module _ (kept : ℕ) (setup : SetupView) where
       ∙ (view_called (suc h.0 == kept) h.1
       ∙ (ap (λ c. (c, (h.1).call) ∷ []) h.4 ∙ ap (made_by client) (sym h.5))))
 
+  own_range : (client : ℕ) → slice_get (client_numbers_of setup) client ≡ slice_get (map (λ c. client_numbers c 1 setup.calls) (numbers_below setup.clients)) client
+  own_range client = ap (λ (l : List (List ℕ)). slice_get l client) (mapped-range (λ c. client_numbers c 1 setup.calls) setup.clients)
+
   pub one_called : (client place : ℕ) → called (chosen (call_number_at (client_numbers_of setup) client place)) ≡ made_by client (call_of_client_at (calls_of_each setup) client place)
   one_called client place = elim (eqb_or client setup.clients) [
     | inl lt ↦
-        ap (λ (o : Option (List ℕ)). called (chosen (unwrap_or (option_and_then (λ (own : List ℕ). slice_get own place) o) 0))) (get-mapped (λ c. client_numbers c 1 setup.calls) setup.clients client lt)
+        ap (λ (o : Option (List ℕ)). called (chosen (unwrap_or (option_and_then (λ (own : List ℕ). slice_get own place) o) 0))) (own_range client ∙ get-mapped (λ c. client_numbers c 1 setup.calls) setup.clients client lt)
         ∙ (numbered_call client _ _ (number_of client 1 setup.calls place)
         ∙ ap (λ (o : Option (List Call)). made_by client (option_and_then (λ (calls : List Call). slice_get calls place) o)) (sym (get-mapped (calls_of_client setup.calls) setup.clients client lt)))
     | inr le ↦
-        ap (λ (o : Option (List ℕ)). called (chosen (unwrap_or (option_and_then (λ (own : List ℕ). slice_get own place) o) 0))) (get-mapped_past (λ c. client_numbers c 1 setup.calls) setup.clients client le)
+        ap (λ (o : Option (List ℕ)). called (chosen (unwrap_or (option_and_then (λ (own : List ℕ). slice_get own place) o) 0))) (own_range client ∙ get-mapped_past (λ c. client_numbers c 1 setup.calls) setup.clients client le)
         ∙ ap (λ (o : Option (List Call)). made_by client (option_and_then (λ (calls : List Call). slice_get calls place) o)) (sym (get-mapped_past (calls_of_client setup.calls) setup.clients client le))
   ]
     where

@@ -6,7 +6,8 @@ ghost use Rattle.query_orders.specs.Found.{answer_of, answers_of};
 ghost use Rattle.command_explore.specs.Numbers.{numbers_in};
 ghost use Rattle.command_explore.specs.Text as spec;
 
-use crate::report::numbers::{add_order, number_at};
+use crate::report::numbers::add_order;
+use command_check::number_at;
 use kernel_core::Reply;
 use query_orders::{Answer, FoundAnswer};
 use setup_report::{Naming, ReplyText};

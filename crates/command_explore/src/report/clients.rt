@@ -21,10 +21,6 @@ fn calls_of_client(alloc: Global, setup: &Setup, client: u32) -> Result<Vec<Call
 }
 
 /// A list for each client of a set-up, of its calls in order.
-///
-/// # Errors
-///
-/// Memory was refused.
 pub fn calls_of_clients(alloc: Global, setup: &Setup) -> Result<Vec<Vec<Call>>, AllocError>
     ensures { IfOk result (λ lists. items_of lists.items ≡ calls_of_each setup.now) }
 {
@@ -37,10 +33,6 @@ pub fn calls_of_clients(alloc: Global, setup: &Setup) -> Result<Vec<Vec<Call>>, 
 }
 
 /// The clients of the first `count` calls of a set-up, in the set-up's order; of all calls where it has fewer.
-///
-/// # Errors
-///
-/// Memory was refused.
 pub fn first_clients(alloc: Global, setup: &Setup, count: usize) -> Result<Vec<usize>, AllocError>
     ensures { IfOk result (λ first. first.items ≡ first_clients setup.now count) }
 {

@@ -7,7 +7,8 @@ ghost use Rattle.setup_report.specs.Naming.{naming_view};
 ghost use Rattle.command_explore.specs.Numbers.{numbers_in};
 ghost use Rattle.command_explore.specs.Text as spec;
 
-use crate::report::numbers::{add_order, number_at};
+use crate::report::numbers::add_order;
+use command_check::number_at;
 use kernel_core::ThreadState;
 use query_orders::{FoundStuck, LeftCall};
 use setup_report::{Naming, Object, StateText};

@@ -13,10 +13,10 @@ use crate::report::clients::{calls_of_clients, first_clients};
 use crate::report::ends::add_stuck;
 use crate::report::marks::CountText;
 use crate::report::naming::naming_at_boot;
-use crate::report::numbers::numbers_of_clients;
 use crate::report::run::{ExploredText, add_expected, add_head, is_well};
 use crate::report::unmet::unmet_answers;
 use cap_core::Profile;
+use command_check::numbers_of_clients;
 use ipc_core::SaveWaiters;
 use kernel_core::Kernel;
 use query_orders::{
@@ -213,10 +213,6 @@ fn groups_text(
 /// calls that they have left behind the first calls of the set-up, are in one group. Where some call that is left may change
 /// capabilities, all clients are in one. The limit is of the states of each group. Else all is as in
 /// [`explored_report`](crate::explored_report).
-///
-/// # Errors
-///
-/// Memory was refused.
 pub fn groups_report<P: Profile, S: SaveStore<P> + DerivationStore<P>, W: SaveWaiters<P>>(
     alloc: Global,
     by_name: bool,

@@ -5,11 +5,12 @@ ghost use Rattle.kernel_abstract.specs.Plan.{IsPlan};
 ghost use Rattle.command_explore.specs.Views.{explored_view};
 ghost use Rattle.command_explore.specs.Witnesses as spec;
 
-use crate::report::numbers::{numbers_of_clients, order_numbers};
+use crate::report::numbers::order_numbers;
 use crate::report::run::explore_setup;
 use crate::report::tables::keep_calls;
 use crate::report::witness::{Witness, expecting, named_order};
 use cap_core::Profile;
+use command_check::numbers_of_clients;
 use ipc_core::SaveWaiters;
 use query_orders::Explored;
 use setup_format::Setup;
@@ -41,10 +42,6 @@ fn witness_in(
 /// table that of one in the newest format with the calls of the first order that tells what the witness is of, in that order.
 /// All their keys are as they were, but that only the call of the witness keeps its expectation. `None` where the report tells
 /// no such answer, and no such way to end stuck.
-///
-/// # Errors
-///
-/// Memory was refused.
 #[tactic(auto, unfolding(crate::specs::Witnesses::witness_of))]
 pub fn make_witness<P: Profile, S: SaveStore<P> + DerivationStore<P>, W: SaveWaiters<P>>(
     alloc: Global,

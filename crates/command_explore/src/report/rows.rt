@@ -5,7 +5,7 @@ ghost use Rattle.command_explore.specs.Numbers.{numbers_in};
 ghost use Rattle.command_explore.specs.Rows.{AreEmptyRows, AreRows, HasMore};
 ghost use Rattle.command_explore.specs.Text.{is_answer_of};
 
-use crate::report::numbers::number_at;
+use command_check::number_at;
 use query_orders::FoundAnswer;
 use std::alloc::{AllocError, Global};
 
@@ -44,10 +44,6 @@ fn add_to_row(
 
 /// For each number below `count` the answers of the call that has it, in the order in which they were found: a look at each
 /// answer tells all rows.
-///
-/// # Errors
-///
-/// Memory was refused.
 pub fn answer_rows(
     alloc: Global,
     numbers: &[Vec<usize>],

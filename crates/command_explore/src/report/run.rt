@@ -12,9 +12,9 @@ use crate::report::clients::{calls_of_clients, first_clients};
 use crate::report::ends::add_stuck;
 use crate::report::marks::CountText;
 use crate::report::naming::naming_at_boot;
-use crate::report::numbers::numbers_of_clients;
 use crate::report::unmet::unmet_answers;
 use cap_core::Profile;
+use command_check::numbers_of_clients;
 use command_core::CallNote;
 use ipc_core::SaveWaiters;
 use kernel_core::Kernel;
@@ -156,10 +156,6 @@ pub fn explore_setup<P: Profile, S: SaveStore<P> + DerivationStore<P>, W: SaveWa
 /// of the set-up, as many as `first` says, are made before the clients begin. Where the states are more than the limit, the
 /// report is on the orders of as many calls as it allows. Threads and endpoints are told by their addresses, or, where
 /// `by_name` says so, by their names; expectations are compared by addresses either way.
-///
-/// # Errors
-///
-/// Memory was refused.
 #[tactic(auto, unfolding(crate::specs::Report::explored_report))]
 pub fn explored_report<P: Profile, S: SaveStore<P> + DerivationStore<P>, W: SaveWaiters<P>>(
     alloc: Global,

@@ -26,10 +26,6 @@ fn drop_expectation(call: &mut Value)
 }
 
 /// A copy of a table.
-///
-/// # Errors
-///
-/// Memory was refused.
 pub fn copy_of_table(table: &Table) -> Result<Table, AllocError>
     ensures { IfOk result (λ copy. table_view copy ≡ table_view table.now) }
 {

@@ -1,27 +1,12 @@
 //! Answers that do not meet the expectation of their call, as standard error tells them.
-ghost use Rattle.std.specs.Prelude.{◌≡◌, option_copied};
-ghost use Rattle.command_explore.specs.Numbers.{expectation_of};
-
 use crate::report::answers::{AnswerText, misses};
-use crate::report::numbers::{add_order, number_at};
+use crate::report::numbers::add_order;
+use command_check::{expected_of, number_at};
 use command_core::CallNote;
 use query_orders::FoundAnswer;
 use setup_format::{Setup, asks};
 use setup_report::Naming;
 use std::alloc::{AllocError, Global};
-
-/// What is expected of the call with a number, from 1 on; nothing where there is no such call.
-#[tactic(auto, using(crate::proofs::Numbered::expected_at, crate::proofs::Numbered::none_expected_past, crate::proofs::Numbered::none_expected_of_none))]
-pub fn expected_of(setup: &Setup, number: usize) -> Option<&str>
-    ensures { option_copied result ≡ expectation_of setup.now.calls number }
-{
-    let i = number.checked_sub(1)?;
-    if i < setup.calls().len() {
-        setup.expect(i)
-    } else {
-        None
-    }
-}
 
 /// Adds what is told of an answer, where it does not meet the expectation of its call: also the first order with it. Both are
 /// told by addresses, by which they are compared. Of an expectation that asks nothing is told.

@@ -169,10 +169,6 @@ impl Search {
 }
 
 /// Calls of threads that may call, after which what is asked for has happened; by at most so many copies of the kernel.
-///
-/// # Errors
-///
-/// Memory was refused.
 pub fn find<P: Profile, S: MakeStore<P> + DerivationStore<P>, W: MakeWaiters<P>>(
     alloc: Global,
     kernel: &Kernel<P, S, W>,

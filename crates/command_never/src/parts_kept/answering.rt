@@ -113,6 +113,7 @@ fn answer_past_parts<P: Profile, S: DerivationStore<P> + Drop, W: Waiters<P> + D
     requires { callers.now.threads.now ≡ threads_of P.profile kernel.now }
     ensures open { IfOk result (λ answer. spec.is_excluded answer ≡ false) }
     ensures founded { IfOk result (spec.IsFounded P.profile callers.now.trusted.now callers.now.memory.now kernel.now by.now from to) }
+    ensures flows { IfOk result (λ answer. callers.now.asks_flows ≡ false → spec.is_by_flow answer ≡ false) }
 {
     if lie_in_two_still::<P, S, W>(alloc, kernel, callers, from, to)? {
         return Ok(Never::Decided);
@@ -125,10 +126,6 @@ fn answer_past_parts<P: Profile, S: DerivationStore<P> + Drop, W: Waiters<P> + D
 }
 
 /// What is answered of two threads, of which the parts answer this.
-///
-/// # Errors
-///
-/// Memory was refused.
 pub fn answer_of<P: Profile, S: DerivationStore<P> + Drop, W: Waiters<P> + Drop>(
     alloc: Global,
     kernel: &Kernel<P, S, W>,
@@ -141,6 +138,7 @@ pub fn answer_of<P: Profile, S: DerivationStore<P> + Drop, W: Waiters<P> + Drop>
     requires { callers.now.threads.now ≡ threads_of P.profile kernel.now }
     ensures answered { IfOk result (λ answer. spec.is_excluded answer ≡ spec.is_excluded of_parts) }
     ensures founded { IfOk result (spec.IsFounded P.profile callers.now.trusted.now callers.now.memory.now kernel.now by.now from to) }
+    ensures flows { IfOk result (λ answer. callers.now.asks_flows ≡ false → spec.is_by_flow answer ≡ false) }
 {
     match of_parts {
         Never::Excluded => Ok(Never::Excluded),

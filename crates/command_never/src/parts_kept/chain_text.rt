@@ -203,10 +203,6 @@ fn chains_of_parts<P: Profile>(
 }
 
 /// The chains that are told for two threads, each with its part. `filled` has all full slots.
-///
-/// # Errors
-///
-/// Memory was refused.
 pub fn chains_between<P: Profile>(
     alloc: Global,
     told: &PartNaming<'_>,

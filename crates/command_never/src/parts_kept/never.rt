@@ -188,10 +188,6 @@ fn open_of<P: Profile>(
 }
 
 /// The endpoints that are open from the one part to the other.
-///
-/// # Errors
-///
-/// Memory was refused.
 pub fn open_endpoints<P: Profile>(
     alloc: Global,
     layout: &Layout<'_>,
@@ -219,10 +215,6 @@ fn are_open<P: Profile>(
 }
 
 /// What parts answer of two threads: that it is excluded, or that it is possible.
-///
-/// # Errors
-///
-/// Memory was refused.
 pub fn never_of_parts<P: Profile>(
     alloc: Global,
     layout: &Layout<'_>,

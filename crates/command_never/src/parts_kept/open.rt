@@ -1,5 +1,5 @@
 //! The text of an answer: whether one thread's part is kept from another's, and what is open between them.
-ghost use Rattle.std.specs.Prelude.{◌≡◌, ◌++◌, ℕ, IfErr, IfOk, OnOk, Some, string_bytes};
+ghost use Rattle.std.specs.Prelude.{◌≡◌, ◌++◌, ℕ, false, IfErr, IfOk, OnOk, Some, string_bytes};
 ghost use Rattle.std.specs.List.{flat_map};
 ghost use Rattle.kernel_abstract.specs.Memory.{IsInMemory};
 ghost use Rattle.kernel_abstract.specs.Waiting.{offer_at};
@@ -9,6 +9,7 @@ ghost use Rattle.command_parts.specs.Telling.{part_naming_view};
 ghost use Rattle.query_parts.specs.Listed as listed_at;
 ghost use Rattle.command_never.specs.Waits.{waits as waits_of};
 ghost use Rattle.setup_report.specs.State.{endpoints as endpoints_of};
+ghost use Rattle.command_never.specs.Answer.{is_by_flow};
 ghost use Rattle.command_never.specs.Open as spec;
 
 use crate::parts_kept::answering::{answer_of, state_parts};
@@ -547,6 +548,7 @@ pub fn never_gets<P: Profile, S: DerivationStore<P> + Drop, W: Waiters<P> + Drop
 ) -> Result<(Vec<u8>, Never), PartsFault>
     ensures told { IfOk result (λ made. spec.IsNeverOf P.profile (naming_view naming.now) heading.now.setup.now heading.now.made heading.now.refused
         heading.now.without.now heading.now.messages.now kernel.now by.now from to made.0.items made.1) }
+    ensures flows { IfOk result (λ made. asks_flows ≡ false → is_by_flow made.1 ≡ false) }
     ensures fault { IfErr result (λ fault. fault ≡ PartsFault.Block → (memory : ℕ) → IsInMemory P.profile memory kernel.now → ⊥) }
 {
     let trusted = all_trusted(alloc, heading)?;

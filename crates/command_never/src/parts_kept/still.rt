@@ -111,10 +111,6 @@ fn are_still_callers<P: Profile, S: CapStore<P> + Drop, W: Waiters<P> + Drop>(
 }
 
 /// Whether two live threads that are not trusted lie in two parts, and both parts are still.
-///
-/// # Errors
-///
-/// Memory was refused.
 pub fn lie_in_two_still<P: Profile, S: DerivationStore<P> + Drop, W: Waiters<P> + Drop>(
     alloc: Global,
     kernel: &Kernel<P, S, W>,

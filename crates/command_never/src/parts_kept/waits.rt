@@ -45,10 +45,6 @@ fn wait_of<P: Profile, S: CapStore<P> + Drop, W: Waiters<P> + Drop>(
 }
 
 /// Those of some threads that wait.
-///
-/// # Errors
-///
-/// Memory was refused.
 pub fn waits<P: Profile, S: CapStore<P> + Drop, W: Waiters<P> + Drop>(
     alloc: Global,
     kernel: &Kernel<P, S, W>,

@@ -26,10 +26,6 @@ fn view_of_kernel<P: Profile, S: DerivationStore<P> + Drop, W: Waiters<P> + Drop
 
 /// Adds how the state of a kernel differs from that of another one, as a trace tells what a call changed: each line of the
 /// old state that is gone, and each that is new.
-///
-/// # Errors
-///
-/// Memory was refused.
 pub fn add_changes_between<P: Profile, S: DerivationStore<P> + Drop, W: Waiters<P> + Drop>(
     alloc: Global,
     out: &mut String,

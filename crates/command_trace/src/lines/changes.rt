@@ -62,10 +62,6 @@ fn order_at(old: &[StateLine], i: usize, new: &[StateLine], j: usize) -> Orderin
 
 /// Adds how lines differ, both in the rising order of their addresses: each old one that is gone, each new one that was
 /// not there, and both where the line of an address is another one.
-///
-/// # Errors
-///
-/// Memory was refused.
 pub fn add_changes(out: &mut String, old: &[StateLine], new: &[StateLine]) -> Result<(), AllocError>
     requires old { IsStrictlySortedBy nat_cmp (spec.line_addresses (map line_view old.now)) }
     requires new { IsStrictlySortedBy nat_cmp (spec.line_addresses (map line_view new.now)) }

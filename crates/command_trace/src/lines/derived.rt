@@ -104,10 +104,6 @@ fn add_slots_changes<P: Profile>(
 /// Adds what changed by a call that derived a capability. A slot whose capability is derived from the source is its first
 /// child: that and the next sibling are all that changed, and no other slot is looked at. Else it stands behind the source,
 /// and the full slots are compared with the same ones but it.
-///
-/// # Errors
-///
-/// Memory was refused.
 pub fn add_derived<P: Profile, S: DerivationStore<P> + Drop, W: Waiters<P> + Drop>(
     alloc: Global,
     out: &mut String,

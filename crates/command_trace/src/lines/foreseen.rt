@@ -96,10 +96,6 @@ fn known<P: Profile, S: DerivationStore<P> + Drop, W: Waiters<P> + Drop>(
 
 /// What a call can change of a kernel's state, by what its checks find, before it is made. `told` is what was told of the
 /// state, where that is kept.
-///
-/// # Errors
-///
-/// Memory was refused.
 pub fn foresee<P: Profile, S: DerivationStore<P> + Drop, W: Waiters<P> + Drop>(
     alloc: Global,
     naming: &Naming<'_>,
@@ -120,10 +116,6 @@ pub fn foresee<P: Profile, S: DerivationStore<P> + Drop, W: Waiters<P> + Drop>(
 }
 
 /// Tells what a call changed that was foreseen, and was made then: what was told of the state, where it is kept.
-///
-/// # Errors
-///
-/// Memory was refused.
 pub fn tell_made<P: Profile, S: DerivationStore<P> + Drop, W: Waiters<P> + Drop>(
     alloc: Global,
     out: &mut String,

@@ -153,10 +153,6 @@ fn add_thread<P: Profile, S: CapStore<P> + Drop, W: Waiters<P> + Drop>(
 }
 
 /// A row for each of some threads that is live: what it does, and what it sends where it waits to send.
-///
-/// # Errors
-///
-/// Memory was refused.
 pub fn thread_rows<P: Profile, S: CapStore<P> + Drop, W: Waiters<P> + Drop>(
     alloc: Global,
     threads: &BTreeSet<u64>,
@@ -188,10 +184,6 @@ fn add_inbox<P: Profile, S: CapStore<P> + Drop, W: Waiters<P> + Drop>(
 }
 
 /// A row for each of some threads to which a message was delivered: the last one.
-///
-/// # Errors
-///
-/// Memory was refused.
 pub fn inbox_rows<P: Profile, S: CapStore<P> + Drop, W: Waiters<P> + Drop>(
     alloc: Global,
     threads: &BTreeSet<u64>,
@@ -236,10 +228,6 @@ fn add_endpoint<P: Profile, S: CapStore<P> + Drop, W: Waiters<P> + Drop>(
 }
 
 /// A row for each of some endpoints: who waits on it.
-///
-/// # Errors
-///
-/// Memory was refused.
 pub fn endpoint_rows<P: Profile, S: CapStore<P> + Drop, W: Waiters<P> + Drop>(
     alloc: Global,
     endpoints: &BTreeSet<u64>,

@@ -17,10 +17,6 @@ fn add_name(out: &mut String, name: &Name) -> Result<(), AllocError>
 }
 
 /// Adds a line for each name of a set-up.
-///
-/// # Errors
-///
-/// Memory was refused.
 pub fn add_names(out: &mut String, names: &[Name]) -> Result<(), AllocError>
     ensures { OnOk result (string_bytes out.new ≡ string_bytes out.old ++ spec.name_lines (names_view names.now)) }
 {

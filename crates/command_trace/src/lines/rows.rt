@@ -108,10 +108,6 @@ fn add_sorted_changes(
 
 /// Adds how the lines of rows differ, which stand in any order. Lines are spelt only of the rows between those that both
 /// lists begin and end with.
-///
-/// # Errors
-///
-/// Memory was refused.
 pub fn add_row_changes<P: Profile, R: Row<P>>(
     alloc: Global,
     out: &mut String,

@@ -109,10 +109,6 @@ fn add_selfheld(
 }
 
 /// A line for each of some CNodes that only slots of their own name.
-///
-/// # Errors
-///
-/// Memory was refused.
 pub fn selfheld_lines(
     alloc: Global,
     naming: &Naming<'_>,

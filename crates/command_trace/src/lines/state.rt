@@ -137,10 +137,6 @@ pub fn add_message_changes<P: Profile>(
 }
 
 /// Adds how two states differ.
-///
-/// # Errors
-///
-/// Memory was refused.
 pub fn add_view_changes<P: Profile>(
     alloc: Global,
     out: &mut String,

@@ -94,10 +94,6 @@ fn tell_anew<P: Profile, S: DerivationStore<P> + Drop, W: Waiters<P> + Drop>(
 }
 
 /// Tells a kernel's state where nothing was told before: adds all of its lines.
-///
-/// # Errors
-///
-/// Memory was refused.
 pub fn tell<P: Profile, S: DerivationStore<P> + Drop, W: Waiters<P> + Drop>(
     alloc: Global,
     out: &mut String,
@@ -163,10 +159,6 @@ fn tell_done<P: Profile, S: DerivationStore<P> + Drop, W: Waiters<P> + Drop>(
 /// Tells a kernel's state after a call, by the call's reply: adds what the call changed of a state of which `old` is what
 /// was told. A call that is refused, dropped or finds nothing changes nothing, and a send or a receive changes no
 /// capability.
-///
-/// # Errors
-///
-/// Memory was refused.
 pub fn tell_call<P: Profile, S: DerivationStore<P> + Drop, W: Waiters<P> + Drop>(
     alloc: Global,
     out: &mut String,

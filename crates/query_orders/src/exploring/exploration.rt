@@ -212,10 +212,6 @@ fn advance<P: Profile, S: SaveStore<P> + DerivationStore<P>, W: SaveWaiters<P>>(
 /// with the next calls of the clients of `first`; behind them, each call is made while its thread is ready. Orders that lead
 /// to the same state are taken together there, and nothing is lost by it. Where no order goes on, or the states of the next
 /// layer are more than the limit leaves, or `count` calls are behind the first ones, the exploration ends.
-///
-/// # Errors
-///
-/// Memory was refused.
 pub fn explore<P: Profile, S: SaveStore<P> + DerivationStore<P>, W: SaveWaiters<P>>(
     alloc: Global,
     calls: &[Vec<Call>],

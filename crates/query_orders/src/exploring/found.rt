@@ -121,10 +121,6 @@ impl FoundAnswers {
     }
 
     /// Puts an answer at the end.
-    ///
-    /// # Errors
-    ///
-    /// Memory was refused.
     pub fn push(&mut self, answer: FoundAnswer) -> Result<(), AllocError>
         ensures { OnOk result (self.new ≡ self.old ++ answer ∷ []) }
     {

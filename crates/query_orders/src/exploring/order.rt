@@ -61,10 +61,6 @@ impl Order {
     }
 
     /// The order with one client more.
-    ///
-    /// # Errors
-    ///
-    /// Memory was refused.
     pub fn longer(&self, alloc: Global, client: usize) -> Result<Order, AllocError>
         ensures { IfOk result (λ longer. longer ≡ self.now ++ client ∷ []) }
     {
@@ -85,10 +81,6 @@ impl Order {
     }
 
     /// The clients, the first one first. It takes time in proportion to how many they are.
-    ///
-    /// # Errors
-    ///
-    /// Memory was refused.
     pub fn clients(&self, alloc: Global) -> Result<Vec<usize>, AllocError>
         ensures { IfOk result (λ clients. clients.items ≡ self.now) }
     {

@@ -69,10 +69,6 @@ fn explore_each<P: Profile, S: SaveStore<P> + DerivationStore<P>, W: SaveWaiters
 /// clients are of one group where calls that they have left then, or that wait, touch one thread or endpoint, and where both
 /// are of one with a third; all are of one where some call that is left may change a capability. For each group by itself,
 /// the limit is of the states, and `count` of the calls behind the first ones.
-///
-/// # Errors
-///
-/// Memory was refused.
 pub fn explore_groups<P: Profile, S: SaveStore<P> + DerivationStore<P>, W: SaveWaiters<P>>(
     alloc: Global,
     calls: &[Vec<Call>],

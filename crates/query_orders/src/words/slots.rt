@@ -72,10 +72,6 @@ fn add_slots<P: Profile, S: CapStore<P> + Drop, W: Waiters<P> + Drop>(
 }
 
 /// The words of what a kernel shows.
-///
-/// # Errors
-///
-/// Memory was refused.
 pub fn words_of<P: Profile, S: DerivationStore<P> + Drop, W: Waiters<P> + Drop>(
     alloc: Global,
     kernel: &Kernel<P, S, W>,

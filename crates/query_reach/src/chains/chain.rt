@@ -157,10 +157,6 @@ fn chain_to<P: Profile>(
 }
 
 /// A shortest chain of full slots from the one at `root` to a capability that is sought; no slots where there is no chain.
-///
-/// # Errors
-///
-/// Memory was refused.
 pub fn shortest_chain<P: Profile>(
     alloc: Global,
     filled: &[FullSlot],

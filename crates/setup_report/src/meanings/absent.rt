@@ -63,10 +63,6 @@ fn no_name(alloc: Global, names: &[Name], option: &str, word: &str) -> Result<St
 }
 
 /// What is told of a word of an option that stands for no slot, since it is no number and no name.
-///
-/// # Errors
-///
-/// Memory was refused.
 pub fn absent_slot(
     alloc: Global,
     names: &[Name],
@@ -80,10 +76,6 @@ pub fn absent_slot(
 }
 
 /// Of some words, as an option gives them, what is told of the first that stands for no object of the kind.
-///
-/// # Errors
-///
-/// Memory was refused.
 pub fn absent_object<P: Profile, S: CapStore<P> + Drop, W: Waiters<P> + Drop>(
     alloc: Global,
     names: &[Name],

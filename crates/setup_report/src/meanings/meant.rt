@@ -247,10 +247,6 @@ fn each_meant<P: Profile, S: CapStore<P> + Drop, W: Waiters<P> + Drop>(
 }
 
 /// The objects of the kind that some words stand for, in the order of the words.
-///
-/// # Errors
-///
-/// Memory was refused.
 pub fn objects_meant<P: Profile, S: CapStore<P> + Drop, W: Waiters<P> + Drop>(
     alloc: Global,
     names: &[Name],

@@ -1,6 +1,6 @@
 //! Runs of set-ups from bytes to bytes: the text that is written, and the exit status.
 use crate::trace::stored as wanted;
-use command_check::{OnSetup, ReaderSource, WriterSink, run_engine, status_of};
+use command_check::{OnSetup, ReaderSource, WriterSink, run_engine, status_of_found};
 use command_trace::Trace;
 use std::alloc::Global;
 use std::process::Abort;
@@ -21,7 +21,7 @@ fn traced(alloc: Global, setup: &[u8]) -> (Vec<u8>, u8) {
     let mut sink = WriterSink::new(&mut out);
     let command = Trace { names: false };
     let answer = run_engine(alloc, &OnSetup { command }, &mut source, &mut sink);
-    (out, status_of(&answer))
+    (out, status_of_found(&answer))
 }
 
 /// Whether this text is written for a set-up, with this exit status.

@@ -11,4 +11,4 @@ returns-then-branch g c = λ uses right.
 pub returns : goal.returns
 returns g c = λ uses right.
     let no : c.in_ok-excludes.field-0 ≡ false = search rules in
-    outcome_of_found _ _ uses _ _ _ c.in_ok-outcome.outcome (c.in_ok-excludes.ensures.inside no) c.in_ok-outcome.ensures
+    outcome_of_found _ _ _ uses _ _ _ c.in_ok-outcome.outcome (c.in_ok-excludes.ensures.inside no) c.in_ok-outcome.ensures

@@ -1,7 +1,7 @@
 -- The text that passed the test comes to the layout that it lists.
-use Rattle.std.proofs.Common.{◌≡◌, false, subst, sym, ◌∙◌}
-use Rattle.command_import.specs.Import.{ComesTo}
-use Rattle.command_import.proofs.Made.{as_made}
+use Rattle.std.proofs.Common.{◌≡◌, ◌∙◌, subst, sym}
+use Rattle.command_import.specs.Import.{ComesTo, IsSetUpOf}
+use Rattle.command_import.proofs.Made.{as_written}
 use Rattle.command_import.proofs.making.tested.Goals as goal
 
 pub returns-then-comes : goal.returns-then-comes
@@ -9,4 +9,4 @@ returns-then-comes c =
     let layout = c.args.layout.now in
     let text : c.new.result.text.items ≡ c.args.text.items = λ i. (c.new.ensures.text i).items in
     let comes = subst (ComesTo layout) c.as_slice.ensures.value (c.in_ok-comes.ensures c.if-comes.true) in
-    as_made false _ _ (layout, (subst (ComesTo layout) (sym text) comes, (c.requires.0, text ∙ c.requires.1))) c.new.ensures.verdict
+    as_written (IsSetUpOf layout) _ _ (subst (ComesTo layout) (sym text) comes, (c.requires.0, text ∙ c.requires.1)) c.new.ensures.verdict

@@ -7,7 +7,7 @@ use Rattle.command_line.proofs.reading.bare_line.Goals as goal
 
 pub returns-clause-options : goal.returns-clause-options
 returns-clause-options c =
-    record { strict = refl; call = refl; after = refl; slot = refl; ever = refl; draft = refl; never = refl; how = refl; breach = refl; message = refl; hold = refl; loss = refl; badge = refl; by = refl; without = refl; messages = refl; policy = refl; names = refl; first = refl; states = refl; witness = refl; ends = refl; dot = refl; profile = refl; threads = refl; endpoints = refl; untyped = refl; shrink = refl; listing = refl; of = refl; flows = refl }
+    record { strict = refl; call = refl; after = refl; slot = refl; ever = refl; draft = refl; never = refl; how = refl; breach = refl; message = refl; hold = refl; loss = refl; badge = refl; by = refl; without = refl; messages = refl; policy = refl; names = refl; first = refl; states = refl; witness = refl; ends = refl; dot = refl; profile = refl; threads = refl; endpoints = refl; untyped = refl; shrink = refl; listing = refl; of = refl; flows = refl; rights = refl }
 
 pub returns-clause-file : goal.returns-clause-file
 returns-clause-file c = sym (c.get_str-file.ensures ∙ first_value-rows (found_of c.args.matches.now) (codes "FILE"))

@@ -14,6 +14,12 @@ taken_line-requires c =
     let taken = ap (λ (a : App). fault_of a ws) (sym is) ∙ c.in-Ok-try_get_matches_from.ensures.kinds (ap is_simple_and_free is ∙ command_is_free) in
     ap (λ met. is_some (job_of met)) (rows_met c.in-Ok.command ws c.in-Ok-try_get_matches_from.matches is c.in-Ok-try_get_matches_from.ensures.matches) ∙ job_is_known ws taken
 
+pub returns-in-Ok-try_get_matches_from-clause-named : goal.returns-in-Ok-try_get_matches_from-clause-named
+returns-in-Ok-try_get_matches_from-clause-named c =
+    let ws = texts c.args.words.now in
+    let met = rows_met c.in-Ok.command ws c.in-Ok-try_get_matches_from.matches c.in-Ok.ensures c.in-Ok-try_get_matches_from.ensures.matches in
+    subst (λ met. IfOk c.taken_line.result (λ l. is_some met ≡ l.names_command)) met c.taken_line.ensures.named
+
 pub returns-in-Ok-try_get_matches_from-clause-job : goal.returns-in-Ok-try_get_matches_from-clause-job
 returns-in-Ok-try_get_matches_from-clause-job c =
     let ws = texts c.args.words.now in

@@ -2,4 +2,4 @@
 use Rattle.program.proofs.jobs.threads.Goals as goal
 
 pub returns-clause-run : goal.returns-clause-run
-returns-clause-run g c = rw (← c.unwrap_or-first.ensures) c.threads_run_open.ensures.run
+returns-clause-run g c = rw (← c.unwrap_or-first.ensures) c.threads_found_open.ensures.run

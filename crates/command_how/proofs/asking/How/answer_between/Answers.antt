@@ -21,6 +21,6 @@ returns g c =
     subst (λ t. IsToldByParts p w names b.setup.now b.made v c.args.from c.args.to t.items c.new.result.verdict) (sym c.new.ensures.text)
     (subst (λ (d : Verdict). IsToldByParts p w names b.setup.now b.made v c.args.from c.args.to c.in_ok-text.text.items d) (sym c.new.ensures.verdict)
     (told_by_parts p (how_words c.args.self.now) (names_view b.names.now) b.setup.now b.made v c.args.from c.args.to c.in_ok-text.text.items c.in_ok-text.verdict
-    c.as_slice-4.result.now c.as_slice-2.result.now c.as_slice-3.result.now c.in_ok-parts.parts.uses.items
-    (c.as_slice-4.ensures.value ∙ c.in_ok-without.ensures) (c.as_slice-2.ensures.value ∙ c.in_ok-by.ensures) right
+    c.most_of-most.result c.as_slice-4.result.now c.as_slice-2.result.now c.as_slice-3.result.now c.in_ok-parts.parts.uses.items
+    c.most_of-most.ensures (c.as_slice-4.ensures.value ∙ c.in_ok-without.ensures) (c.as_slice-2.ensures.value ∙ c.in_ok-by.ensures) right
     (c.in_ok-text.ensures c.in_ok-parts.parts.uses.items right)))

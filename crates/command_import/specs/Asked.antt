@@ -1,0 +1,29 @@
+-- How a layout is read, as it is asked for.
+use Rattle.std.specs.Prelude.{◌≡◌, ◌+◌, ◌^◌, ◌&&◌, ◌||◌, ℕ, Bool, true, not, nat_lt, List, Option, Some, None}
+use Rattle.std.specs.List.{list_all, list_any}
+use Rattle.cap_core.specs.declared.capability.Kind.{Kind}
+use Rattle.cap_core.specs.declared.capability.Kind.TheVariants.{Untyped, Endpoint, CNode, Tcb}
+use Rattle.setup_layout.specs.declared.layout.Layout.{Layout}
+use Rattle.setup_layout.specs.declared.layout.Object.{Object}
+use Rattle.setup_layout.specs.declared.layout.Reading.{Reading}
+use Rattle.command_import.specs.Laid.{are_same_object}
+
+-- a region and another object, which stands in it
+abbrev pub covers : Object → Object → Bool
+covers region other =
+    not (are_same_object region other) && (not (nat_lt other.place region.place) && nat_lt other.place (region.place + 2 ^ region.bits))
+
+-- an object is no untyped region, or has at most so many bits, or covers another one
+abbrev pub is_cut : Kind → ℕ → List Object → Object → Bool
+is_cut Untyped most objects object = not (nat_lt most object.bits) || (nat_lt object.bits 32 && list_any (covers object) objects)
+is_cut _ most objects object = true
+
+-- where a number of bits is asked for, no larger untyped region covers nothing
+abbrev pub are_cut : Option ℕ → List Object → Bool
+are_cut None objects = true
+are_cut (Some most) objects = list_all (λ (o : Object). is_cut o.kind most objects o) objects
+
+-- a layout is read as it is asked for: each object counts or not, and regions are cut
+pub record IsReadAs (reading : Reading) (layout : Layout) : Type 0 where
+  pub flows : layout.flows ≡ reading.flows
+  pub cut : are_cut reading.shrink layout.objects.items ≡ true

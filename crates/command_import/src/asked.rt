@@ -1,0 +1,61 @@
+//! Whether a layout was read as it is asked for.
+ghost use Rattle.std.specs.Prelude.{◌≡◌, ◌<◌, IsTrue};
+ghost use Rattle.std.specs.List.{list_all, list_any};
+ghost use Rattle.command_import.specs.Asked as spec;
+
+use crate::laid_out::is_same;
+use cap_core::Kind;
+use setup_layout::{Layout, Object, Reading};
+
+/// Whether an object stands in a region, and is another one.
+fn covers(region: &Object, other: &Object) -> bool
+    requires { region.now.bits < 32 }
+    ensures { result ≡ spec.covers region.now other.now }
+{
+    let (base, place) = (u64::from(region.place), u64::from(other.place));
+    !is_same(region, other) && (base <= place && place < base + (1 << region.bits))
+}
+
+/// Whether some object stands in a region.
+fn covers_some(region: &Object, objects: &[Object]) -> bool
+    requires { region.now.bits < 32 }
+    ensures { result ≡ list_any (spec.covers region.now) objects.now }
+{
+    objects.iter().any(|object| covers(region, object))
+}
+
+/// Whether an object is no region of untyped memory, or has at most so many bits, or covers another one.
+fn is_cut(most: u64, objects: &[Object], object: &Object) -> bool
+    ensures { result ≡ spec.is_cut object.now.kind most objects.now object.now }
+{
+    match object.kind {
+        Kind::Untyped => {
+            u64::from(object.bits) <= most || (object.bits < 32 && covers_some(object, objects))
+        }
+        _ => true,
+    }
+}
+
+/// Whether each object is so.
+fn are_cut_to(most: u64, objects: &[Object]) -> bool
+    ensures { result ≡ list_all (λ o. spec.is_cut o.kind most objects.now o) objects.now }
+{
+    objects.iter().all(|object| is_cut(most, objects, object))
+}
+
+/// Whether the regions are cut as it is asked for.
+fn are_cut(shrink: Option<u64>, objects: &[Object]) -> bool
+    ensures { result ≡ spec.are_cut shrink objects.now }
+{
+    match shrink {
+        None => true,
+        Some(most) => are_cut_to(most, objects),
+    }
+}
+
+/// Whether a layout was read as it is asked for: each object counts in it or not, and its regions are cut.
+pub fn is_read_as(reading: Reading, layout: &Layout) -> bool
+    ensures { IsTrue result → spec.IsReadAs reading layout.now }
+{
+    layout.flows == reading.flows && are_cut(reading.shrink, layout.objects.as_slice())
+}

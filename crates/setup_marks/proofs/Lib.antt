@@ -1,0 +1,2 @@
+-- The mark of a set-up.
+pub mod Marked

@@ -1,0 +1,2 @@
+-- The mark of a set-up of `import --flows`.
+pub mod Marks

@@ -1,7 +1,0 @@
-use Rattle.std.proofs.Common.{◌≡◌}
-use Rattle.std.specs.Prelude.{IfSome}
-use Rattle.setup_policy.specs.declared.objects.Object.{Object}
-use Rattle.setup_policy.proofs.objects.Objects.at_address.Given as goal
-
-abbrev pub invariant-loop-live : goal.invariant-loop-live
-invariant-loop-live l = IfSome l.largest (λ (o : Object). o.base ≡ l.base)

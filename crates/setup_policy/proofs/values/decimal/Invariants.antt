@@ -1,6 +1,0 @@
-use Rattle.std.proofs.Common.{◌≡◌, drop}
-use Rattle.setup_policy.specs.Values.{decimal_after}
-use Rattle.setup_policy.proofs.values.decimal.Given as goal
-
-abbrev pub invariant-loop-byte : goal.invariant-loop-byte
-invariant-loop-byte l = decimal_after l.number (drop l.byte-index l.text) ≡ decimal_after 0 l.text

@@ -1,0 +1,14 @@
+//! The file of a policy: what it says, why it is refused, and where in its text an entry stands. What a file that is taken says
+//! is proved (`IsPolicyText`); its faults are tested.
+#![tactic(auto)]
+
+mod fault;
+mod file;
+mod near;
+mod reading;
+mod values;
+
+pub use fault::{Fault, Place, Refusal, Spot, line_and_column};
+pub use file::{GroupEntry, PolicyFile, UseEntry, WayEntry, Word};
+pub use near::{did_you_mean, nearest};
+pub use reading::read_policy;

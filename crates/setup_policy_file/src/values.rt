@@ -1,0 +1,330 @@
+//! The values of a policy's keys.
+ghost use Rattle.std.specs.Prelude.{◌≡◌, IfOk, IsErr, Some, map, string_bytes};
+ghost use Rattle.std.specs.List.{list_all};
+ghost use Rattle.toml.specs.View.{view};
+ghost use Rattle.setup_policy_file.specs.Values as spec;
+
+use crate::fault::Fault;
+use crate::file::Word;
+use cap_core::{Rights, Wide};
+use setup_values::kinds::Word as SetupWord;
+use setup_values::{Kind, KnownNames};
+use std::alloc::{AllocError, AllocFailed, Global};
+use toml::Value;
+
+/// The most bytes of a group's name.
+const MOST_NAME_BYTES: usize = 40;
+
+/// Why a value is not taken.
+#[derive(Drop)]
+pub enum Bad {
+    Memory,
+    Wrong(Fault, String),
+}
+
+impl<T: Drop> From<AllocFailed<T>> for Bad {
+    fn from(_refused: AllocFailed<T>) -> Bad {
+        Bad::Memory
+    }
+}
+
+impl From<AllocError> for Bad {
+    fn from(_refused: AllocError) -> Bad {
+        Bad::Memory
+    }
+}
+
+/// A value as it is told.
+fn shown(alloc: Global, value: &Value) -> Result<String, AllocError> {
+    match value {
+        Value::String(text) => format!(in alloc; "\"{text}\""),
+        Value::Integer(number) => format!(in alloc; "{number}"),
+        Value::Boolean(true) => String::from_str(alloc, "true"),
+        Value::Boolean(false) => String::from_str(alloc, "false"),
+        other => format!(in alloc; "of the type {}", other.type_str()),
+    }
+}
+
+/// That a value is of another type, with what it has to be.
+fn wrong_type<T>(alloc: Global, what: &str, value: &Value, remedy: &str) -> Result<T, Bad>
+    ensures { IsErr result }
+{
+    let shown = shown(alloc, value)?;
+    let words = format!(in alloc; "the {what} {shown}; {remedy}")?;
+    Err(Bad::Wrong(Fault::Type, words))
+}
+
+fn wrong_value<T>(words: String) -> Result<T, Bad>
+    ensures { IsErr result }
+{
+    Err(Bad::Wrong(Fault::Value, words))
+}
+
+/// The version of the form.
+pub fn version(alloc: Global, value: &Value) -> Result<(), Bad>
+    ensures { IfOk result (λ _. spec.version_of (view value.now) ≡ Some 1) }
+{
+    match value {
+        Value::Integer(1) => Ok(()),
+        Value::Integer(other) => wrong_value(format!(in alloc;
+            "the value is {other}; this program reads policy = 1"
+        )?),
+        other => wrong_type(alloc, "value is", other, "write policy = 1"),
+    }
+}
+
+/// `true` or `false`.
+pub fn switch(alloc: Global, value: &Value) -> Result<bool, Bad>
+    ensures { IfOk result (λ b. spec.switch_of (view value.now) ≡ Some b) }
+{
+    match value {
+        Value::Boolean(is_on) => Ok(*is_on),
+        other => wrong_type(
+            alloc,
+            "value is",
+            other,
+            "write true or false, without quotes",
+        ),
+    }
+}
+
+/// A number of calls.
+pub fn number(alloc: Global, value: &Value) -> Result<u64, Bad>
+    ensures { IfOk result (λ n. spec.number_of (view value.now) ≡ Some n) }
+{
+    match value {
+        Value::Integer(number) => match u64::try_from(*number) {
+            Ok(number) => Ok(number),
+            Err(_) => wrong_value(format!(in alloc;
+                "the value is {number}; it has to be a number from 0 on"
+            )?),
+        },
+        other => wrong_type(alloc, "value is", other, "it has to be a number"),
+    }
+}
+
+fn is_name_byte(byte: u8) -> bool
+    ensures { result ≡ spec.is_name_byte byte }
+{
+    byte.is_ascii_alphanumeric() || byte == b'_' || byte == b'-'
+}
+
+fn has_name_bytes(text: &[u8]) -> bool
+    ensures { result ≡ list_all spec.is_name_byte text.now }
+{
+    text.iter().all(|byte| is_name_byte(*byte))
+}
+
+/// Whether a text may be a group's name.
+pub fn is_group_name(text: &str) -> bool
+    ensures { result ≡ spec.is_group_name text.now }
+{
+    let bytes = text.as_bytes();
+    bytes.len() >= 1 && bytes.len() <= MOST_NAME_BYTES && has_name_bytes(bytes)
+}
+
+/// The name of a group.
+pub fn group_name(alloc: Global, value: &Value) -> Result<String, Bad>
+    ensures { IfOk result (λ s. spec.group_name_of (view value.now) ≡ Some (string_bytes s)) }
+{
+    match value {
+        Value::String(text) if is_group_name(text.as_str()) => {
+            Ok(String::from_str(alloc, text.as_str())?)
+        }
+        Value::String(text) => wrong_value(format!(in alloc;
+            "the value is \"{text}\"; a name has 1 to 40 letters, digits, _ and -"
+        )?),
+        other => wrong_type(alloc, "value is", other, "it has to be a name in quotes"),
+    }
+}
+
+/// The number of a text of decimal digits; none of another text, nor where it is longer than a number may be.
+fn decimal(text: &[u8]) -> Option<u64>
+    ensures { result ≡ spec.decimal_after 0 text.now }
+{
+    let mut number = 0u64;
+    for byte in text {
+        if !byte.is_ascii_digit() {
+            return None;
+        }
+        let digit = u64::from(*byte - b'0');
+        match number.checked_mul(10) {
+            Some(tens) => match tens.checked_add(digit) {
+                Some(sum) => number = sum,
+                None => return None,
+            },
+            None => return None,
+        }
+    }
+    Some(number)
+}
+
+/// A text without the `@` before it.
+fn without_at(text: &str) -> &str
+    ensures { result.now ≡ spec.without_at text.now }
+{
+    match text.strip_prefix("@") {
+        Some(name) => name,
+        None => text,
+    }
+}
+
+/// A word for a thread, an endpoint or a region, from a text.
+pub fn word_in(alloc: Global, text: &str) -> Result<Word, Bad>
+    ensures { IfOk result (λ w. spec.word_in text.now ≡ Some (spec.word_view w)) }
+{
+    let name = without_at(text);
+    if name.is_empty() {
+        return wrong_value(String::from_str(alloc, "the name is empty")?);
+    }
+    match decimal(text.as_bytes()) {
+        Some(number) => Ok(Word::Number(number)),
+        None => Ok(Word::Name(String::from_str(alloc, name)?)),
+    }
+}
+
+/// A word for a thread, an endpoint or a region.
+pub fn word(alloc: Global, value: &Value) -> Result<Word, Bad>
+    ensures { IfOk result (λ w. spec.word_of (view value.now) ≡ Some (spec.word_view w)) }
+{
+    match value {
+        Value::Integer(number) => match u64::try_from(*number) {
+            Ok(number) => Ok(Word::Number(number)),
+            Err(_) => wrong_value(format!(in alloc;
+                "the value is {number}; an address is a number from 0 on"
+            )?),
+        },
+        Value::String(text) => word_in(alloc, text.as_str()),
+        other => wrong_type(
+            alloc,
+            "value is",
+            other,
+            "it has to be a name of the set-up in quotes, or an address",
+        ),
+    }
+}
+
+/// The elements of a list.
+#[tactic(auto, using(setup_values::proofs::Loops::item_list_view))]
+fn elements(alloc: Global, value: &Value) -> Result<&[Value], Bad>
+    ensures { IfOk result (λ es. spec.elements_of (view value.now) ≡ Some (map view es.now)) }
+{
+    let Some(array) = value.as_array() else {
+        let shown = shown(alloc, value)?;
+        let words = format!(in alloc; "the value is {shown}; it has to be a list: [{shown}]")?;
+        return Err(Bad::Wrong(Fault::Type, words));
+    };
+    Ok(array.as_slice())
+}
+
+fn words_in(alloc: Global, elements: &[Value]) -> Result<Vec<Word>, Bad>
+    ensures { IfOk result (λ v. spec.all_of spec.word_of (map view elements.now) ≡ Some (map spec.word_view v.items)) }
+{
+    let mut read = Vec::new(alloc);
+    for element in elements {
+        let one = word(alloc, element)?;
+        read.push(one)?;
+    }
+    Ok(read)
+}
+
+/// A list of words.
+pub fn words(alloc: Global, value: &Value) -> Result<Vec<Word>, Bad>
+    ensures { IfOk result (λ v. spec.words_of (view value.now) ≡ Some (map spec.word_view v.items)) }
+{
+    let elements = elements(alloc, value)?;
+    words_in(alloc, elements)
+}
+
+fn group_names_in(alloc: Global, elements: &[Value]) -> Result<Vec<String>, Bad>
+    ensures { IfOk result (λ v. spec.all_of spec.group_name_of (map view elements.now) ≡ Some (map string_bytes v.items)) }
+{
+    let mut read = Vec::new(alloc);
+    for element in elements {
+        let one = group_name(alloc, element)?;
+        read.push(one)?;
+    }
+    Ok(read)
+}
+
+/// A list of names of groups.
+pub fn group_names(alloc: Global, value: &Value) -> Result<Vec<String>, Bad>
+    ensures { IfOk result (λ v. spec.group_names_of (view value.now) ≡ Some (map string_bytes v.items)) }
+{
+    let elements = elements(alloc, value)?;
+    group_names_in(alloc, elements)
+}
+
+/// What is wrong with a badge.
+fn wrong_badge(alloc: Global, value: &Value) -> Result<u64, Bad>
+    ensures { IsErr result }
+{
+    match value {
+        Value::String(text) => wrong_value(format!(in alloc;
+            "the badge is \"{text}\"; write a number, or \"any\""
+        )?),
+        Value::Integer(number) => wrong_value(format!(in alloc;
+            "the badge is {number}; it has to be a number from 1 to 2^64 - 1"
+        )?),
+        other => wrong_type(alloc, "badge is", other, "write a number, or \"any\""),
+    }
+}
+
+/// A badge, 0 for any.
+pub fn badge(alloc: Global, value: &Value) -> Result<u64, Bad>
+    ensures { IfOk result (λ n. spec.badge_of (view value.now) ≡ Some n) }
+{
+    if value.as_str() == Some("any") {
+        return Ok(0);
+    }
+    match SetupWord.read::<Wide>(&KnownNames::none(), value) {
+        Ok(0) => wrong_value(String::from_str(
+            alloc,
+            "the badge is 0; who holds an endpoint without a badge may mint any: write badge = \"any\"",
+        )?),
+        Ok(number) => Ok(number),
+        Err(_) => wrong_badge(alloc, value),
+    }
+}
+
+/// The rights with one more, by its letter; none where no right has it.
+fn with_letter(rights: Rights, letter: u8) -> Option<Rights>
+    ensures { result ≡ spec.with_letter rights letter }
+{
+    let right = match letter {
+        b'w' => Rights::WRITE,
+        b'r' => Rights::READ,
+        b'g' => Rights::GRANT,
+        b'p' => Rights::GRANT_REPLY,
+        b'-' => return Some(rights),
+        _ => return None,
+    };
+    Some(Rights(rights.0 | right.0))
+}
+
+/// Rights, by their letters.
+pub fn rights(alloc: Global, value: &Value) -> Result<Rights, Bad>
+    ensures { IfOk result (λ r. spec.rights_of (view value.now) ≡ Some r) }
+{
+    let Value::String(text) = value else {
+        return wrong_type(
+            alloc,
+            "rights are",
+            value,
+            "write letters of wrgp in quotes, as \"w\"",
+        );
+    };
+    let mut rights = Rights(0);
+    let letters = text.as_bytes();
+    for letter in letters {
+        match with_letter(rights, *letter) {
+            Some(more) => rights = more,
+            None => {
+                return wrong_value(format!(in alloc;
+                    "the rights are \"{text}\"; the letters are w (Write), r (Read), g (Grant) and p (GrantReply)"
+                )?);
+            }
+        }
+    }
+    Ok(rights)
+}

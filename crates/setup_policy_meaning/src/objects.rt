@@ -1,0 +1,469 @@
+//! Which object a word of a policy means, and what objects are called.
+ghost use Rattle.std.specs.Prelude.{◌≡◌, IfOk, IfSome, IsErr, string_bytes};
+ghost use Rattle.kernel_abstract.specs.Plan.{IsPlan, IsWithinLimits};
+ghost use Rattle.setup_values.specs.Names.{names_view};
+ghost use Rattle.setup_policy_meaning.specs.Meant as spec;
+
+use cap_core::{Cap, Profile};
+use ipc_core::Waiters;
+use kernel_core::{BootPlan, Kernel};
+use setup_format::Setup;
+use setup_policy::{Label, Labels};
+use setup_policy_file::{Word, did_you_mean};
+use setup_report::{ObjectKind, number_meant, object_meant};
+use setup_values::Name;
+use slot_core::{CapStore, Derivation};
+use std::alloc::{AllocError, Global};
+use std::fmt;
+
+/// What kind of object it is.
+#[derive(Clone, Copy, PartialEq, Eq)]
+pub enum Kind {
+    Thread,
+    Endpoint,
+    Region,
+    Node,
+}
+
+impl Kind {
+    /// The kind that a word is asked to stand for; no word is asked for a CNode.
+    fn meant(self) -> Option<ObjectKind>
+        ensures { result ≡ spec.kind_meant self }
+    {
+        match self {
+            Kind::Thread => Some(ObjectKind::Thread),
+            Kind::Endpoint => Some(ObjectKind::Endpoint),
+            Kind::Region => Some(ObjectKind::Region),
+            Kind::Node => None,
+        }
+    }
+
+    /// What it is called where a word is to mean one.
+    fn asked(self) -> &'static str {
+        match self {
+            Kind::Thread => "thread",
+            Kind::Endpoint => "endpoint",
+            Kind::Region => "untyped region",
+            Kind::Node => "CNode",
+        }
+    }
+}
+
+impl fmt::Display for Kind {
+    fn fmt<W: fmt::Write>(&self, f: &mut fmt::Formatter<W>) -> fmt::Result {
+        let word = match self {
+            Kind::Thread => "tcb",
+            Kind::Endpoint => "endpoint",
+            Kind::Region => "untyped",
+            Kind::Node => "cnode",
+        };
+        write!(f, "{word}")
+    }
+}
+
+/// An object: its kind, its address, and the bits of its size.
+#[derive(Clone, Copy)]
+pub struct Object {
+    pub kind: Kind,
+    pub base: u64,
+    pub bits: u32,
+}
+
+/// The object that a capability names.
+pub fn object_of<P: Profile>(cap: Cap) -> Option<Object> {
+    let (kind, base, bits) = match cap {
+        Cap::Null => return None,
+        Cap::Untyped { base, bits, .. } => (Kind::Region, base, bits),
+        Cap::Endpoint { base, .. } => (Kind::Endpoint, base, P::ENDPOINT_BITS),
+        Cap::CNode { base, radix, .. } => (Kind::Node, base, radix.wrapping_add(P::SLOT_BITS)),
+        Cap::Tcb { base } => (Kind::Thread, base, P::TCB_BITS),
+    };
+    Some(Object { kind, base, bits })
+}
+
+/// The objects of a state, by the names and the slots of its set-up, as they are told.
+#[derive(Clone, Copy)]
+pub struct Objects<'a> {
+    pub alloc: Global,
+    pub names: &'a [Name],
+    /// The objects that full slots name.
+    pub live: &'a [Object],
+    /// What boot put into the first slots of the root CNode; of another slot, what it holds.
+    pub slots: &'a [Option<Object>],
+}
+
+/// How many slots of the root CNode stand before those of boot's objects.
+const FIRST_SLOTS: usize = 2;
+
+/// What boot puts into the slots of the root CNode, and what others of them hold.
+pub fn root_slots<P: Profile>(
+    alloc: Global,
+    plan: &BootPlan,
+    slots: &[Derivation],
+) -> Result<Vec<Option<Object>>, AllocError>
+    requires { IsPlan P.profile plan.now }
+{
+    let mut objects = Vec::new(alloc);
+    for _empty in 0..FIRST_SLOTS {
+        objects.push(None)?;
+    }
+    add_threads::<P>(&mut objects, plan)?;
+    add_endpoints::<P>(&mut objects, plan)?;
+    for (base, bits) in plan.untypeds() {
+        objects.push(Some(Object {
+            kind: Kind::Region,
+            base: *base,
+            bits: *bits,
+        }))?;
+    }
+    add_others::<P>(&mut objects, plan, slots)?;
+    Ok(objects)
+}
+
+fn add_threads<P: Profile>(
+    objects: &mut Vec<Option<Object>>,
+    plan: &BootPlan,
+) -> Result<(), AllocError>
+    requires { IsPlan P.profile plan.now }
+{
+    for i in 0..plan.threads() {
+        objects.push(Some(Object {
+            kind: Kind::Thread,
+            base: plan.tcb_place::<P>(i),
+            bits: P::TCB_BITS,
+        }))?;
+    }
+    Ok(())
+}
+
+fn add_endpoints<P: Profile>(
+    objects: &mut Vec<Option<Object>>,
+    plan: &BootPlan,
+) -> Result<(), AllocError>
+    requires { IsPlan P.profile plan.now }
+{
+    for i in 0..plan.endpoints() {
+        objects.push(Some(Object {
+            kind: Kind::Endpoint,
+            base: plan.endpoint_place::<P>(i),
+            bits: P::ENDPOINT_BITS,
+        }))?;
+    }
+    Ok(())
+}
+
+/// Adds what the slots behind those of boot's objects hold.
+fn add_others<P: Profile>(
+    objects: &mut Vec<Option<Object>>,
+    plan: &BootPlan,
+    slots: &[Derivation],
+) -> Result<(), AllocError> {
+    let count = 1usize.checked_shl(plan.root_radix()).unwrap_or(0);
+    let first = objects.len();
+    for i in first..count {
+        let mut own = slots.iter().filter(|slot| slot.slot.address::<P>() >> P::SLOT_BITS
+            == i as u64);
+        objects.push(own.next().and_then(|slot| object_of::<P>(slot.cap)))?;
+    }
+    Ok(())
+}
+
+/// Why a word means no object, in words.
+pub enum Unmeant {
+    Memory,
+    Words(String),
+}
+
+impl From<AllocError> for Unmeant {
+    fn from(_refused: AllocError) -> Unmeant {
+        Unmeant::Memory
+    }
+}
+
+impl<'a> Objects<'a> {
+    /// Whether a number is a slot of the root CNode, and not an address.
+    fn is_slot(self, number: u64) -> bool {
+        number < self.slots.len() as u64
+    }
+
+    fn at_slot(self, number: u64) -> Option<Object> {
+        self.slots.get(number as usize).copied().flatten()
+    }
+
+    /// The largest live object of a kind at an address.
+    fn at_address(self, kind: Kind, base: u64) -> Option<Object>
+        ensures { IfSome result (λ o. o.base ≡ base) }
+    {
+        let mut largest: Option<Object> = None;
+        for live in self.live {
+            let is_larger = largest.is_none_or(|other| other.bits < live.bits);
+            if live.kind == kind && live.base == base && is_larger {
+                largest = Some(*live);
+            }
+        }
+        largest
+    }
+
+    /// Whether another region, of another size, begins where this one does.
+    fn is_one_of_several(self, region: Object) -> bool {
+        self.live.iter().any(|live| live.kind == Kind::Region
+            && live.base == region.base
+            && live.bits != region.bits)
+    }
+
+    /// What there is in place of an object that is not there.
+    fn in_place(self, number: u64) -> Result<String, AllocError> {
+        if self.is_slot(number) {
+            return match self.at_slot(number) {
+                Some(Object { kind, base, .. }) => format!(in self.alloc;
+                    ": slot {number} of the root CNode is for {kind} {base}"
+                ),
+                None => format!(in self.alloc; ": slot {number} of the root CNode is empty"),
+            };
+        }
+        match self.live.iter().find(|live| live.base == number) {
+            Some(Object { kind, .. }) => format!(in self.alloc; ": {kind} {number} is there"),
+            None => Ok(String::new(self.alloc)),
+        }
+    }
+
+    /// That a number means no object of a kind.
+    fn nothing_there<T>(self, kind: Kind, number: u64, text: &str) -> Result<T, Unmeant>
+        ensures { IsErr result }
+    {
+        let (what, more) = (kind.asked(), self.in_place(number)?);
+        let words = format!(in self.alloc; "no {what} is live at {text}{more}")?;
+        Err(Unmeant::Words(words))
+    }
+
+    /// That the set-up has no such name.
+    fn no_name<T>(self, name: &str) -> Result<T, Unmeant>
+        ensures { IsErr result }
+    {
+        let names = self.names.iter().map(|other| other.text.as_str());
+        let names: Vec<&str> = names.collect(self.alloc)?;
+        let question = did_you_mean(
+            self.alloc,
+            name,
+            names.as_slice(),
+            "; write a name of its [names], or an address",
+        )?;
+        let words = format!(in self.alloc; "the set-up has no name {name}{question}")?;
+        Err(Unmeant::Words(words))
+    }
+
+    /// That a word, whose number this is, means no object of a kind.
+    fn unmeant<T>(self, kind: Kind, word: &Word, number: Option<u64>) -> Result<T, Unmeant>
+        ensures { IsErr result }
+    {
+        match (word, number) {
+            (Word::Number(number), _) => {
+                let text = format!(in self.alloc; "{number}")?;
+                self.nothing_there(kind, *number, text.as_str())
+            }
+            (Word::Name(name), Some(number)) => {
+                let text = format!(in self.alloc; "{name}, which is {number}")?;
+                self.nothing_there(kind, number, text.as_str())
+            }
+            (Word::Name(name), None) => self.no_name(name.as_str()),
+        }
+    }
+
+    /// Whether a name means an object: by its address, or by its slot.
+    fn is_named(self, name: &Name, object: Object, by_slot: bool) -> bool {
+        if self.is_slot(name.word) != by_slot {
+            return false;
+        }
+        let found = self.at_slot(name.word);
+        let is_there = found.is_some_and(|other| other.kind == object.kind
+            && other.base == object.base);
+        if by_slot {
+            is_there
+        } else {
+            name.word == object.base
+        }
+    }
+
+    fn only_name(self, object: Object, by_slot: bool) -> Option<&'a str> {
+        let mut names = self
+            .names
+            .iter()
+            .filter(|name| self.is_named(name, object, by_slot));
+        let first = names.next()?;
+        match names.next() {
+            None => Some(first.text.as_str()),
+            Some(_) => None,
+        }
+    }
+
+    /// What an object is called: the one name with its address, or, where none has it, the one name of its slot.
+    pub fn name(self, object: Object) -> Option<&'a str> {
+        let mut names = self.names.iter();
+        if names.any(|name| self.is_named(name, object, false)) {
+            self.only_name(object, false)
+        } else {
+            self.only_name(object, true)
+        }
+    }
+
+    /// Adds what an object of a kind is called, where it has a name.
+    fn add_label(
+        self,
+        labels: &mut Vec<Label>,
+        kind: Kind,
+        object: Object,
+    ) -> Result<(), AllocError> {
+        if object.kind == kind
+            && let Some(name) = self.name(object)
+        {
+            labels.push(Label {
+                base: object.base,
+                text: String::from_str(self.alloc, name)?,
+            })?;
+        }
+        Ok(())
+    }
+
+    fn labels_of(self, kind: Kind) -> Result<Vec<Label>, AllocError> {
+        let mut labels = Vec::new(self.alloc);
+        for object in self.live {
+            self.add_label(&mut labels, kind, *object)?;
+        }
+        for object in self.slots {
+            if let Some(object) = object {
+                self.add_label(&mut labels, kind, *object)?;
+            }
+        }
+        Ok(labels)
+    }
+
+    /// What the live objects are called, and those that boot put into slots.
+    pub fn labels(self) -> Result<Labels, AllocError> {
+        Ok(Labels {
+            threads: self.labels_of(Kind::Thread)?,
+            endpoints: self.labels_of(Kind::Endpoint)?,
+            regions: self.labels_of(Kind::Region)?,
+        })
+    }
+}
+
+/// The state that the words of a policy are about.
+#[derive(Drop)]
+pub struct Meaning<'a, P: Profile, S: CapStore<P> + Drop, W: Waiters<P> + Drop> {
+    pub objects: Objects<'a>,
+    pub setup: &'a Setup,
+    pub kernel: &'a Kernel<P, S, W>,
+    ghost limits: { IsWithinLimits P.profile setup.now.plan },
+}
+
+/// A word as it stands for a number: a name behind a `@`.
+fn text_of_word(alloc: Global, word: &Word) -> Result<String, AllocError>
+    ensures { IfOk result (λ text. string_bytes text ≡ spec.word_text word.now) }
+{
+    match word {
+        Word::Number(number) => format!(in alloc; "{number}"),
+        Word::Name(name) => format!(in alloc; "@{name}"),
+    }
+}
+
+impl<'a, P: Profile, S: CapStore<P> + Drop, W: Waiters<P> + Drop> Meaning<'a, P, S, W> {
+    /// The objects of a kernel, by the names and the slots of its set-up.
+    pub fn new(
+        objects: Objects<'a>,
+        setup: &'a Setup,
+        kernel: &'a Kernel<P, S, W>,
+    ) -> Meaning<'a, P, S, W>
+        requires { IsPlan P.profile setup.now.plan }
+    {
+        Meaning {
+            objects,
+            setup,
+            kernel,
+        }
+    }
+
+    /// The live object of a kind that a text means, whose number is given.
+    #[tactic(auto, using(crate::proofs::Meant::meant_there))]
+    fn found(&self, kind: Kind, text: &str, number: u64) -> Option<Object>
+        ensures { IfSome result (λ o. spec.IsMeant kind P.profile (names_view self.now.objects.names.now) self.now.setup.now.plan self.now.kernel.now text.now o.base) }
+    {
+        let Objects { names, .. } = self.objects;
+        let asked = kind.meant()?;
+        let base = object_meant::<P, S, W>(names, self.setup, self.kernel, asked, text.as_bytes())?;
+        if matches!(kind, Kind::Region) && self.objects.is_slot(number) {
+            return self.objects.at_slot(number);
+        }
+        self.objects.at_address(kind, base)
+    }
+
+    fn of_word(&self, kind: Kind, word: &Word) -> Result<Object, Unmeant>
+        ensures { IfOk result (λ o. spec.IsMeant kind P.profile (names_view self.now.objects.names.now) self.now.setup.now.plan self.now.kernel.now (spec.word_text word.now) o.base) }
+    {
+        let text = text_of_word(self.objects.alloc, word)?;
+        let number = number_meant(self.objects.names, text.as_bytes());
+        let found = match number {
+            Some(number) => self.found(kind, text.as_str(), number),
+            None => None,
+        };
+        match found {
+            Some(object) => Ok(object),
+            None => self.objects.unmeant(kind, word, number),
+        }
+    }
+
+    /// The part of a region that a text with a stroke means: `NAME/BITS`.
+    fn of_part(&self, text: &str, first: &str, bits: &str) -> Result<Object, Unmeant> {
+        let alloc = self.objects.alloc;
+        let word = match first.parse::<u64>() {
+            Ok(number) => Word::Number(number),
+            Err(_) => Word::Name(String::from_str(alloc, first)?),
+        };
+        let region = self.of_word(Kind::Region, &word)?;
+        match bits.parse::<u32>() {
+            Ok(bits) if bits <= region.bits => Ok(Object { bits, ..region }),
+            _ => {
+                let most = region.bits;
+                let words = format!(in alloc; "{text}: the region {first} has {most} bits")?;
+                Err(Unmeant::Words(words))
+            }
+        }
+    }
+
+    /// The region that a word means. An address at which several begin means none of them: the word has to say the size.
+    fn of_region(&self, word: &Word) -> Result<Object, Unmeant> {
+        let region = self.of_word(Kind::Region, word)?;
+        let alloc = self.objects.alloc;
+        let text = text_of_word(alloc, word)?;
+        let number = number_meant(self.objects.names, text.as_bytes());
+        let is_slot = number.is_some_and(|number| self.objects.is_slot(number));
+        if is_slot || !self.objects.is_one_of_several(region) {
+            return Ok(region);
+        }
+        let words = format!(in alloc;
+            "{word}: several untyped regions begin there; write the bits of one behind a stroke, as \"{word}/{}\"",
+            region.bits
+        )?;
+        Err(Unmeant::Words(words))
+    }
+
+    /// The live object of a kind that a word means (`object_meant`); of a region by its address, the one that begins there.
+    pub fn meant(&self, kind: Kind, word: &Word) -> Result<Object, Unmeant>
+        ensures { IfOk result (λ o. spec.IsMeant kind P.profile (names_view self.now.objects.names.now) self.now.setup.now.plan self.now.kernel.now (spec.word_text word.now) o.base) }
+    {
+        match kind {
+            Kind::Region => self.region_meant(word),
+            _ => self.of_word(kind, word),
+        }
+    }
+
+    /// The live region that a word means.
+    fn region_meant(&self, word: &Word) -> Result<Object, Unmeant> {
+        match word {
+            Word::Name(name) => match name.as_str().split_once('/') {
+                Some((first, bits)) => self.of_part(name.as_str(), first, bits),
+                None => self.of_region(word),
+            },
+            Word::Number(_) => self.of_region(word),
+        }
+    }
+}
