@@ -1,7 +1,7 @@
 # The targets of this repository; make help lists them. Each says first what it needs and does not find.
 .DEFAULT_GOAL := run
 
-.PHONY: help run test prove gate dist dist-test install rows rows-needs rows-python browser browser-test page page-test needs bench named-bodies wrong-bodies
+.PHONY: help run test prove gate dist dist-test install uninstall rows rows-needs rows-python browser browser-test browser-short page page-test needs bench named-bodies wrong-bodies
 
 program = crates/sel4sim/out/sel4sim
 calls = crates/test_memory/out/test_memory
@@ -36,7 +36,7 @@ prove:
 gate:
 	@python3 tools/gate.py
 
-# packs the proved program with examples, pages, man page and completions into dist/
+# packs the proved program into dist/: an archive with examples, pages, man page and completions, a Debian package, and the module for WebAssembly
 dist:
 	@python3 tools/archive.py dist
 
@@ -47,6 +47,10 @@ dist-test:
 # installs the proved program below PREFIX (/usr/local) and DESTDIR
 install:
 	@python3 tools/archive.py install
+
+# removes what make install put there, by the same PREFIX and DESTDIR
+uninstall:
+	@python3 tools/archive.py uninstall
 
 rows-needs:
 	@python3 tests/needs.py
@@ -63,24 +67,18 @@ rows: rows-needs prove
 rows-python:
 	@python3 tests/needs.py $(program)
 	python3 tools/test_build.py
-	python3 tools/completions_test.py
-	python3 tools/completions.py --check $(program)
-	python3 tools/options.py --check $(program)
-	python3 tools/architecture.py --check
-	python3 tools/definitions.py --check
+	python3 tools/pages_test.py
+	python3 tools/pages.py --check $(program)
 	python3 tests/exercises.py $(setups)
-	python3 tests/run.py $(program) $(setups)
+	python3 tests/goals.py $(program) $(answers)/goals
+	python3 tests/answers.py $(program) $(setups) $(answers)
 	python3 tests/command_lines.py $(program)
 	python3 tests/several_files.py $(program) $(setups)
 	python3 tests/marks.py $(program) $(setups)
-	python3 tests/migrate.py $(program) $(setups)
-	python3 tests/traces.py $(program) $(setups)
-	python3 tests/why.py $(program) $(setups)
-	python3 tests/audits.py $(program) $(answers)/audits $(answers)/parts $(answers)/trees
-	python3 tests/names.py $(program) $(answers)/audits $(answers)/parts $(answers)/trees
-	python3 tests/report_names.py $(program) $(setups)/examples $(setups)/capabilities $(setups)/why_lookups $(answers)/explorations $(answers)/trees
+	python3 tests/beside_check.py $(program) $(setups)
+	python3 tests/names.py audits $(program) $(answers)/audits $(answers)/parts $(answers)/trees
+	python3 tests/names.py reports $(program) $(setups)/examples $(setups)/capabilities $(setups)/why_lookups $(answers)/explorations $(answers)/trees
 	python3 tests/parts.py $(program) $(answers)/parts 5
-	python3 tests/policies.py $(program) $(answers)/policies $(answers)/policy_faults
 	python3 tests/random_policies.py $(program) 1 60 $(answers)/parts
 	python3 tests/drafts.py $(program) 1 60 $(answers)/policies $(answers)/parts
 	python3 tests/hows.py $(program) $(answers)/hows $(answers)/parts $(answers)/policies
@@ -102,7 +100,7 @@ rows-python:
 	python3 tests/run_clients.py --first 5 $(program) tests/three_of_four_calls.toml 5
 	python3 tests/unmet_by_threads.py $(program)
 	python3 tests/problem_matcher.py $(program)
-	python3 tests/documents.py $(dir $(program)) README.md CONTRIBUTING.md docs/*.md
+	python3 tests/documents.py $(dir $(program)) README.md CONTRIBUTING.md CHANGELOG.md docs/*.md
 
 # makes web/site/sel4sim.html, the program as one page for any browser
 browser: prove
@@ -112,9 +110,12 @@ browser: prove
 browser-test: prove
 	python3 web/browser/test/browser_test.py $(program) $(setups) $(if $(pictures),--pictures $(pictures))
 
+# tries how the page behaves, of its sources as they are, in chromium alone; says so where there is none
+browser-short:
+	@python3 web/browser/test/short_test.py
+
 # makes a page of the run of each example, in web/page/out/
 page: prove
-	python3 web/page/join.py
 	web/page/pages.sh $(program) $(setups)/examples web/page/out
 
 # steps through these pages in chromium; traces=FOLDER: of other traces

@@ -1,15 +1,16 @@
 #!/usr/bin/env python3
 """command_lines.py PROGRAM: whole command lines, by their exit status and by a part of what is written.
 
-A stored set-up of two calls, whose one expectation is met, is on standard input; the folder has one file, text.toml, which
-is no set-up. Where the command line is refused, or the input cannot be read, standard error says so and nothing is
+A stored set-up of two calls, whose one expectation is met, is on standard input; the folder has two files, text.toml and
+run_me, which are no set-ups. Where the command line is refused, or the input cannot be read, standard error says so and nothing is
 written.
 """
 import pathlib
 import shlex
-import subprocess
 import sys
 import tempfile
+
+from program import answer
 
 STORED = """format = 1
 memory_bits = 16
@@ -41,9 +42,17 @@ LINES = [
     ("check none.toml", 3, UNREAD),
     ("text.toml", 2, "set-up refused 200 at text\n"),
     ("trace -", 0, "  + endpoint 6144 sending 2048\n"),
-    ("chek", 3, UNREAD),
+    ("chek", 4, REFUSED),
+    ("none.toml", 4, REFUSED),
+    ("chek text.toml", 4, REFUSED),
+    ("trace chek", 3, UNREAD),
+    ("run_me", 2, "set-up refused 200 at text\n"),
+    ("run_me text.toml", 2, "files 2 met 0 unmet 0 refused 2 unread 0\n"),
     ("-x", 4, REFUSED),
     ("--help", 0, "Usage: sel4sim"),
+    ("--version", 0, "sel4sim 20"),
+    ("-V", 0, "sel4sim 20"),
+    ("check --version", 4, REFUSED),
     ("explore text.toml", 2, "set-up refused 200 at text\n"),
     ("audit --ever text.toml", 2, "set-up refused 200 at text\n"),
     # reasons and audits
@@ -130,28 +139,29 @@ LINES = [
     ("check - -", 4, REFUSED),
     ("- text.toml -", 4, REFUSED),
     ("trace - text.toml", 4, REFUSED),
+    ("audit --policy - text.toml", 4, REFUSED),
+    ("marks --of - text.toml", 4, REFUSED),
 ]
 
 
 def fault_of(program, folder, words, status, part):
     """Returns what is wrong with how the words end, or None."""
-    done = subprocess.run(
-        [program, *shlex.split(words)], input=STORED, capture_output=True, text=True, cwd=folder, timeout=600
-    )
+    ended, text, error = answer(program, *shlex.split(words), text=STORED, cwd=folder)
     is_fault = part in (REFUSED, UNREAD)
-    if done.returncode != status:
-        return f"status {done.returncode}, wanted {status}"
-    if is_fault and done.stdout:
-        return f"{part} is wanted, and this was written: {done.stdout[:200]!r}"
-    if part not in (done.stderr if is_fault else done.stdout):
-        return f"{part!r} is wanted; written was {done.stdout[:400]!r}, and on standard error {done.stderr[:400]!r}"
+    if ended != status:
+        return f"status {ended}, wanted {status}"
+    if is_fault and text:
+        return f"{part} is wanted, and this was written: {text[:200]!r}"
+    if part not in (error if is_fault else text):
+        return f"{part!r} is wanted; written was {text[:400]!r}, and on standard error {error[:400]!r}"
     return None
 
 
 def main():
     program, failed = str(pathlib.Path(sys.argv[1]).resolve()), 0
     with tempfile.TemporaryDirectory() as folder:
-        pathlib.Path(folder, "text.toml").write_text("format\n", encoding="utf-8")
+        for name in ("text.toml", "run_me"):
+            pathlib.Path(folder, name).write_text("format\n", encoding="utf-8")
         for words, status, part in LINES:
             fault = fault_of(program, folder, words, status, part)
             if fault:

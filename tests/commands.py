@@ -26,7 +26,7 @@ import tempfile
 
 sys.path.insert(0, os.path.join(os.path.dirname(os.path.dirname(os.path.abspath(__file__))), "tools"))
 
-from completions import helps  # noqa: E402
+from helps import helps  # noqa: E402
 
 SIZES = "memory_bits = 16\nroot_radix = 4\nthreads = 2\nendpoints = 1\n"
 NAMED = f"format = 2\n{SIZES}names = {{ a = 2048, b = 4096, endpoint = 4 }}\n"
@@ -83,6 +83,7 @@ LINES = [
     ("tree", "set_up.toml"), ("tree --after 1 --dot --names", "set_up.toml"),
     ("new", ""), ("new --profile narrow --threads 3 --endpoints 2 --untyped 16384:12", ""),
     ("import", "layout.cdl"), ("import --shrink 12 --flows", "layout.cdl"), ("import --listing", "layout.cdl"),
+    ("import --rights least", "layout.cdl"),
     ("help", ""), ("help why", ""),
 ]
 # These write a row of each file, also of one that cannot be read.

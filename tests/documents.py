@@ -14,7 +14,8 @@ A page's blocks are taken in order, in a folder of the page's own that has `crat
 - ```text           is not run.
 
 A line of three dots stands for any lines. A block of another kind is a fault, so that none is forgotten. Each link to a file
-of the repository has to lead to one, and to a heading where it names one.
+of the repository has to lead to one, and to a heading where it names one. No line of prose, and none of README, is longer than 120 columns,
+and no cell of a table has more than 60 words, but for what a tool makes. The newest version of a change log is the one that the program prints.
 """
 import os
 import pathlib
@@ -23,6 +24,9 @@ import subprocess
 import sys
 import tempfile
 
+MOST_COLUMNS, MOST_WORDS = 120, 60
+MADE = re.compile(r"<!-- (?:crates|options of|figures:).*?<!-- (?:to here|end of the figures) -->", re.S)
+VERSION = re.compile(r"^## (\d{4}-\d\d-\d\d)$", re.M)
 ROOT = pathlib.Path(__file__).resolve().parent.parent
 ANY_LINES = r"(?:.*\n)*?"
 
@@ -138,9 +142,28 @@ def lost_links(page):
             yield f"{page}: the link {link} leads nowhere"
 
 
+def too_long(page):
+    """The lines of prose and the cells of tables of a page by hand that are too long."""
+    text = page.read_text()
+    made = {line for found in MADE.findall(text) for line in found.splitlines()}
+    for line in () if "<!-- Made by " in text else (it for it in prose(page) if it not in made):
+        cells = [cell.split() for cell in line.strip("|").split("|")] if line.startswith("|") else []
+        if len(line) > MOST_COLUMNS and (not cells or page.name == "README.md"):
+            yield f"{page}: a line of more than {MOST_COLUMNS} columns: {line[:40]}.."
+        yield from (f"{page}: a cell of more than {MOST_WORDS} words: {' '.join(cell[:8])} .." for cell in cells if len(cell) > MOST_WORDS)
+
+
+def other_version(page, program):
+    """That the newest version of a change log is not the one that the program prints."""
+    newest = VERSION.search(page.read_text()) if page.name == "CHANGELOG.md" else None
+    said = subprocess.run([program / "sel4sim", "--version"], stdout=subprocess.PIPE, text=True, check=True).stdout if newest else ""
+    if newest and newest[1] not in said:
+        yield f"{page}: its newest version is {newest[1]}, and the program says {said.strip()}"
+
+
 def faults(page, program):
     """What is wrong on a page."""
-    yield from lost_links(page)
+    yield from (*lost_links(page), *too_long(page), *other_version(page, program))
     with tempfile.TemporaryDirectory() as name:
         folder = pathlib.Path(name)
         for top in ("crates", "examples", "tests"):

@@ -9,23 +9,17 @@ and each region in turn is taken out, MOST of them at the most: a line of a brea
 import pathlib
 import random
 import re
-import subprocess
 import sys
 import tempfile
 import tomllib
 
 import random_policies
+from program import answer
 
 MOST = 12
 ENTRY = re.compile(r"  \{ (?:from|group) = .*\},\n")
 REGION = re.compile(r', regions = \["[^"]*"\]|"[^"]*/\d+", |, "[^"]*/\d+"')
 NOTE = "# No policy allows "
-
-
-def told(program, words, text):
-    """Runs the program on a text, and returns what it writes and its status."""
-    done = subprocess.run([program, *words], input=text, capture_output=True, text=True, timeout=600)
-    return done.stdout, done.returncode, done.stderr
 
 
 def trust_of(policy):
@@ -66,12 +60,12 @@ class Drafts:
 
     def held(self, policy, text):
         self.file.write_text(policy)
-        return told(self.program, ["audit", "--policy", str(self.file), "-"], text)
+        return answer(self.program, "audit", "--policy", str(self.file), "-", text=text)
 
     def faults(self, name, text, trust):
         """What is wrong with the draft of a layout."""
-        ever, status, _ = told(self.program, ["audit", "--ever", *trust, "-"], text)
-        draft, drafted, err = told(self.program, ["audit", "--ever", "--draft", *trust, "-"], text)
+        status, ever, _ = answer(self.program, "audit", "--ever", *trust, "-", text=text)
+        drafted, draft, err = answer(self.program, "audit", "--ever", "--draft", *trust, "-", text=text)
         if drafted != status:
             yield f"{name}: --ever ends with {status}, and --draft with {drafted}\n{err}"
         if status or drafted:
@@ -84,7 +78,7 @@ class Drafts:
         parts = int(re.search(r"^parts (\d+) ", ever, re.M)[1])
         if not len(policy["group"]) <= parts:
             yield f"{name}: {parts} parts, and in the draft\n{draft}"
-        kept, held, err = self.held(draft, text)
+        held, kept, err = self.held(draft, text)
         breaches = [line for line in kept.splitlines() if line.startswith("breach ") and not line.startswith("breach thread ")]
         if breaches or held != (1 if NOTE in draft else 0) or not kept.endswith(" unused 0\n"):
             yield f"{name} {trust}: its own draft is not kept, status {held}\n{draft}{kept}{err}"
@@ -92,7 +86,7 @@ class Drafts:
         found = list(cuts(draft))
         for entry, less in chance.sample(found, min(MOST, len(found))):
             self.tally["cut"] += 1
-            kept, held, err = self.held(less, text)
+            held, kept, err = self.held(less, text)
             breaches = [line for line in kept.splitlines() if line.startswith("breach ") and not line.startswith("breach thread ")]
             if held == 1 and breaches:
                 self.tally["told"] += 1

@@ -5,11 +5,14 @@ The two are the same text but for what their calls expect. In the exercise that 
 LAST is the last part of a delivery that some answer of the key tells: so no question tells which calls deliver. The first line is
 the title. The report of the exercise is that of the key with no answer met, and its status is 1. The link that tools/links.py
 writes for it has its title and its text.
+
+No number has two names in an exercise or in one of FOLDER/examples: a drawing tells a name only where it is the one of its number.
 """
 import base64
 import pathlib
 import re
 import sys
+import tomllib
 import zlib
 
 sys.path.append(str(pathlib.Path(__file__).resolve().parent.parent / "tools"))
@@ -60,11 +63,19 @@ def faults(exercise, key):
         yield "its link has another title or text"
 
 
+def named_twice(path):
+    """The numbers that have more than one name in a set-up."""
+    values = list(tomllib.loads(path.read_text()).get("names", {}).values())
+    return sorted({it for it in values if values.count(it) > 1})
+
+
 def main():
     exercises, keys = (pathlib.Path(sys.argv[1], it) for it in ("exercises", "exercise_answers"))
     found, wanted = ({path.name for path in folder.glob("*.toml")} for folder in (exercises, keys))
     wrong = [f"{name} stands in one folder alone" for name in sorted(found ^ wanted)]
     wrong += [f"{name}: {fault}" for name in sorted(found & wanted) for fault in faults(exercises / name, keys / name)]
+    texts = [*exercises.glob("*.toml"), *pathlib.Path(sys.argv[1], "examples").glob("*.toml")]
+    wrong += [f"{path.name}: {it} has two names" for path in sorted(texts) for it in named_twice(path)]
     questions = sum(len(EXPECT.findall((exercises / name).read_text())) for name in found)
     print("\n".join([*wrong, f"{len(found)} exercises with {questions} questions, {len(wrong)} faults"]))
     return 1 if wrong or not found else 0

@@ -10,16 +10,13 @@ is left, all clients are one group, and both tell the same states.
 
 In the end two set-ups whose clients form more than one group are compared with each other, and have to differ.
 """
-import concurrent.futures
 import itertools
-import json
 import math
-import os
 import random
 import re
 import sys
 
-from orders_one_by_one import run
+from program import document, run, side_by_side
 
 THREADS, ENDPOINTS, CLIENTS, MOST_CALLS = 5, 4, 4, 3
 FIRST_TCB = {"wide": 2048, "narrow": 1024}
@@ -36,11 +33,8 @@ WAITS = re.compile(r"(?m)^thread (\d+) (?:sending|receiving) (\d+)")
 
 
 def text_of(profile, calls):
-    lines = ["format = 2", f'profile = "{profile}"', "memory_bits = 16", "root_radix = 4", f"threads = {THREADS}",
-             f"endpoints = {ENDPOINTS}", f"clients = {CLIENTS}"]
-    for call in calls:
-        lines += ["[[call]]", *(f"{key} = {json.dumps(value)}" for key, value in call.items())]
-    return "".join(f"{line}\n" for line in lines)
+    return document({"format": 2, "profile": profile, "memory_bits": 16, "root_radix": 4, "threads": THREADS, "endpoints": ENDPOINTS,
+                     "clients": CLIENTS, "call": calls})
 
 
 def call_drawn(draw, client, threads, endpoint):
@@ -93,7 +87,7 @@ def groups_of(program, profile, calls, first):
     left = calls[first:]
     if any(call["op"] not in KEEPS for call in left):
         return {tuple(range(CLIENTS))}
-    _, report = run(program, ["check", "-"], text_of(profile, calls[:first]))
+    _, report = run(program, "check", "-", text=text_of(profile, calls[:first]))
     waits = {int(thread): int(endpoint) for thread, endpoint in WAITS.findall(report)}
     endpoints = [FIRST_ENDPOINT + n for n in range(ENDPOINTS)]
     bases = {slot: base for slot, base in zip(endpoints, sorted({int(it) for it in re.findall(r"(?m)^endpoint (\d+)", report)}))}
@@ -128,8 +122,8 @@ def answers_of(report):
 def faults(program, profile, calls, first):
     """What is wrong, how many groups there are, and what both tell of calls."""
     text = text_of(profile, calls)
-    status, whole = run(program, ["explore", "--first", str(first), "-"], text)
-    status_by_groups, report = run(program, ["explore", "--ends", "--first", str(first), "-"], text)
+    status, whole = run(program, "explore", "--first", str(first), "-", text=text)
+    status_by_groups, report = run(program, "explore", "--ends", "--first", str(first), "-", text=text)
     groups = [([int(it) for it in clients.split()], *map(int, counts)) for clients, *counts in GROUP.findall(report)]
     wanted = groups_of(program, profile, calls, first)
     ends = int(re.search(r"(?m)^states \d+ ends (\d+)$", whole)[1])
@@ -150,8 +144,7 @@ def main():
     program, count = sys.argv[1], int(sys.argv[2])
     draw = random.Random(int(sys.argv[3]) if len(sys.argv) > 3 else 1)
     asked = [drawn(draw) for _ in range(count)]
-    with concurrent.futures.ThreadPoolExecutor(len(os.sched_getaffinity(0))) as pool:
-        done = list(pool.map(lambda it: faults(program, *it), asked))
+    done = side_by_side(lambda it: faults(program, *it), asked)
     wrong = 0
     for (profile, calls, first), (found, _, _) in zip(asked, done):
         if found:

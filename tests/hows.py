@@ -3,7 +3,8 @@
 
 NAME.toml is a set-up, NAME.args has the words behind `--how`, one a line, and NAME.status the wanted status. Where that is 1, NAME.how
 is the wanted line, byte for byte. Where it is 0, NAME.how is a witness, and another one is as good: the program's own has to be met
-by `check` in all that it expects, with as many calls found, and its last call has to be answered as that of NAME.how.
+by `check` in all that it expects, with as many calls found, each of which expects the whole of its answer, and its last call has to be
+answered as that of NAME.how.
 
 In PARTS each NAME.PAIR.never is asked with `--how` in place of `--never`: where that says `excluded`, so has this; and
 `check` has to meet each witness. Where it says that it is possible, a comment of NAME.toml says what `--how` finds.
@@ -13,40 +14,45 @@ Of the others `check` meets each witness, and the last call is the delivery that
 or the line says that it is excluded, by parts or by flow, or that nothing is found. That is never said of a way between two parts that
 only pass messages.
 
+Of a set-up that says that `import --flows` made it nothing is written, and the status is 4; so of a breach of its policy. A breach of
+which it is asked of no two threads is told by a line of its own.
+
 In the end the first witness is compared with the second, and has to differ.
 """
 import pathlib
 import re
-import subprocess
 import sys
+import tempfile
 import tomllib
 
+from program import answer, run
 
-def run(program, words, text=None):
-    """The status and the output of the program, which ends."""
-    done = subprocess.run([program, *words], input=text, capture_output=True, timeout=600)
-    return done.returncode, done.stdout
+
+# what a call is answered that meets what it expects
+MET = re.compile(r"^\d+ \d+ \w+: (.*) \[met\]$", re.M)
 
 
 def found(text):
     """What the calls that a witness has found are answered."""
-    return [call["expect"] for call in tomllib.loads(text.decode()).get("call", []) if "expect" in call]
+    return [call["expect"] for call in tomllib.loads(text).get("call", []) if "expect" in call]
 
 
 def faults(program, setup, wanted):
     """What is wrong with the answer for a set-up, where that of `wanted` is the wanted one."""
     words = setup.with_suffix(".args").read_text().split()
-    status, text = run(program, ["audit", "--how", *words, str(setup)])
+    status, text = run(program, "audit", "--how", *words, setup)
     want_status = int(wanted.with_suffix(".status").read_text())
-    want = wanted.with_suffix(".how").read_bytes()
+    want = wanted.with_suffix(".how").read_text()
     if status != want_status:
         yield f"status {status}, wanted {want_status}"
     elif status == 1 and text != want:
-        yield f"wanted {want.decode()}got {text.decode()}"
+        yield f"wanted {want}got {text}"
     elif status == 0:
-        met, report = run(program, ["check", "-"], text)
+        met, report = run(program, "check", "-", text=text)
         if met != 0:
-            yield f"check does not meet the witness:\n{report.decode()}"
+            yield f"check does not meet the witness:\n{report}"
+        if found(text) != MET.findall(report):
+            yield f"the witness expects {found(text)}, and the answers are {MET.findall(report)}"
         if len(found(text)) != len(found(want)) or found(text)[-1] != found(want)[-1]:
             yield f"wanted {found(want)}, got {found(text)}"
 
@@ -68,12 +74,12 @@ def asked_faults(program, never):
     """What is wrong where `--how` is asked in place of `--never`."""
     words = never.with_suffix(".args").read_text().split()
     setup = never.with_name(never.name.split(".")[0] + ".toml")
-    status, text = run(program, ["audit", *("--how" if word == "--never" else word for word in words), str(setup)])
-    first = text.split(b"\n")[0].decode("utf-8", "replace")
+    status, text = run(program, "audit", *("--how" if word == "--never" else word for word in words), setup)
+    first = text.split("\n")[0]
     if status == 0:
-        met, report = run(program, ["check", "-"], text)
+        met, report = run(program, "check", "-", text=text)
         if met != 0:
-            yield f"check does not meet the witness:\n{report.decode()}"
+            yield f"check does not meet the witness:\n{report}"
     answer, one_thread = answer_of(never), len(set(question(words).split()[0].split(","))) == 1
     if one_thread and answer and status != 4:
         yield f"status {status} of a thread and itself"
@@ -103,8 +109,8 @@ def address_of(program, setup, word):
     number = int(read["names"][word[1:]])
     if number >= 2 ** read["root_radix"]:
         return number
-    _, report = run(program, ["check", str(setup)])
-    slot = re.search(rf"^slot {32 * number} endpoint (\d+) ", report.decode(), re.M)
+    _, report = run(program, "check", setup)
+    slot = re.search(rf"^slot {32 * number} endpoint (\d+) ", report, re.M)
     return int(slot[1])
 
 
@@ -114,10 +120,10 @@ def still_groups(program, policy, setup):
     names = tomllib.loads(setup.read_text())["names"]
     trusted = [str(it) for it in [*words.get("silent", []), *words.get("messages", [])]]
     after = ["--after", str(words["after"])] if "after" in words else []
-    _, text = run(program, ["audit", "--ever", "--without", ",".join(trusted), *after, str(setup)])
+    _, text = run(program, "audit", "--ever", "--without", ",".join(trusted), *after, setup)
     alone = {str(names[it]): it for it in words.get("alone", []) if it in names}
     still, members = set(), []
-    for line in text.decode().splitlines():
+    for line in text.splitlines():
         if line.startswith("part "):
             members = []
         elif line.startswith("thread "):
@@ -129,9 +135,9 @@ def still_groups(program, policy, setup):
 
 def delivery_faults(program, setup, line, text):
     """What is wrong with a witness of a breach."""
-    met, report = run(program, ["check", "-"], text)
+    met, report = run(program, "check", "-", text=text)
     if met != 0:
-        yield f"check does not meet the witness:\n{report.decode()}"
+        yield f"check does not meet the witness:\n{report}"
     asked = PASSING.fullmatch(line).groupdict()
     endpoint = next((asked[it] for it in ("e", "e2", "e3", "e4") if asked[it]), None)
     badge = next((asked[it] for it in ("b", "b2", "b3") if asked[it]), "any")
@@ -146,34 +152,76 @@ def delivery_faults(program, setup, line, text):
 
 def breach_faults(program, policy, setup, number, line, still):
     """What is wrong with the answer for the breach with a number."""
-    words = [program, "audit", "--policy", str(policy), "--how", str(number), str(setup)]
-    done = subprocess.run(words, capture_output=True, timeout=600)
+    status, text, error = answer(program, "audit", "--policy", policy, "--how", str(number), setup)
     passing = PASSING.fullmatch(line)
     if not passing:
-        if done.returncode != 4 or done.stdout or line not in done.stderr.decode() or "audit --never" not in done.stderr.decode():
-            yield f"{line}: status {done.returncode}, {done.stderr.decode()}"
+        if status != 4 or text or line not in error or "audit --never" not in error:
+            yield f"{line}: status {status}, {error}"
         return
-    if done.returncode == 0:
-        yield from delivery_faults(program, setup, line, done.stdout)
-    elif done.returncode != 1 or not re.fullmatch(rf"how {number} (excluded|excluded by flow|not found|not found of \d+)\n", done.stdout.decode()):
-        yield f"{line}: status {done.returncode}, {done.stdout[:200]}"
+    if status == 0:
+        yield from delivery_faults(program, setup, line, text)
+    elif status != 1 or not re.fullmatch(rf"how {number} (excluded|excluded by flow|not found|not found of \d+)\n", text):
+        yield f"{line}: status {status}, {text[:200]}"
     is_still = passing["g"] in still and passing["h"] in still
-    if done.returncode != 0 and is_still:
-        yield f"{line}: {done.stdout.decode()}"
+    if status != 0 and is_still:
+        yield f"{line}: {text}"
 
 
 def policy_faults(program, policy, counted):
     """What is wrong with the answers for each breach of a policy, and for the one behind the last."""
     setup = policy.with_name(policy.name.replace(".policy.toml", ".toml"))
-    _, text = run(program, ["audit", "--policy", str(policy), str(setup)])
-    lines = [line for line in text.decode().splitlines() if line.startswith("breach ")]
+    _, text = run(program, "audit", "--policy", policy, setup)
+    lines = [line for line in text.splitlines() if line.startswith("breach ")]
     still = still_groups(program, policy, setup)
     for number, line in enumerate(lines, 1):
         counted.append(line)
         yield from breach_faults(program, policy, setup, number, line, still)
-    done = subprocess.run([program, "audit", "--policy", str(policy), "--how", str(len(lines) + 1), str(setup)], capture_output=True, timeout=600)
-    if done.returncode != 4 or done.stdout or f"count of breaches: {len(lines)}\n" not in done.stderr.decode():
-        yield f"behind the last breach: status {done.returncode}, {done.stderr.decode()}"
+    status, text, error = answer(program, "audit", "--policy", policy, "--how", str(len(lines) + 1), setup)
+    if status != 4 or text or f"count of breaches: {len(lines)}\n" not in error:
+        yield f"behind the last breach: status {status}, {error}"
+
+
+ONE_THREAD = """format = 2
+memory_bits = 16
+root_radix = 4
+threads = 1
+endpoints = 1
+names = { thread_0 = 2048, ep_0 = 3 }
+call = [{ thread = "@thread_0", op = "send", cap = "@ep_0", label = 7, words = [1] }]
+"""
+ONE_POLICY = """policy = 1
+group = [{ name = "g", threads = ["thread_0"], regions = [] }]
+use = [{ group = "g", of = "ep_0", badge = 5, rights = "wrgp" }]
+"""
+FLOWS = "sel4sim: --how: made by import --flows: no calls are looked for; audit --never has the chain\n"
+
+
+def one_thread_faults(program, folder):
+    """What is wrong with the answers for the breaches of a set-up with one thread: no message of it can reach another part."""
+    setup, policy = folder / "one.toml", folder / "one.policy.toml"
+    setup.write_text(ONE_THREAD)
+    policy.write_text(ONE_POLICY)
+    words = ["audit", "--policy", str(policy)]
+    breaches = [line for line in run(program, *words, setup)[1].splitlines() if line.startswith("breach ")]
+    if len(breaches) != 2 or not breaches[0].startswith("breach badge ") or not breaches[1].startswith("breach waiting "):
+        yield f"the breaches are {breaches}"
+    for number in 1, 2:
+        if run(program, *words, "--how", str(number), setup) != (1, f"how {number} not asked\n"):
+            yield f"--how {number} of one thread"
+
+
+def flows_faults(program, folder, setup, policy):
+    """What is wrong with the answers for set-ups that say that `import --flows` made them."""
+    marked = folder / "marked.toml"
+    asked = [(setup, ["--how", *setup.with_suffix(".args").read_text().split()]),
+             (policy.with_name(policy.name.replace(".policy.toml", ".toml")), ["--policy", str(policy), "--how", "1"])]
+    for unmarked, words in asked:
+        text = unmarked.read_text()
+        with_mark = re.sub(r"^names = \{", "names = { import_flows = 1048576,", text, count=1, flags=re.M)
+        marked.write_text(re.sub(r"^\[names\]\n", "[names]\nimport_flows = 1048576\n", with_mark, count=1, flags=re.M))
+        status, text, error = answer(program, "audit", *words, marked)
+        if status != 4 or text or FLOWS not in error:
+            yield f"{unmarked} with the mark of import --flows: status {status}, {error}"
 
 
 def main():
@@ -184,6 +232,9 @@ def main():
     wrong = [(it, fault) for it in setups for fault in faults(program, it, it)]
     wrong += [(it, fault) for it in nevers for fault in asked_faults(program, it)]
     wrong += [(it, fault) for it in policies for fault in policy_faults(program, it, breaches)]
+    with tempfile.TemporaryDirectory() as place:
+        wrong += [("one thread", fault) for fault in one_thread_faults(program, pathlib.Path(place))]
+        wrong += [("flows", fault) for fault in flows_faults(program, pathlib.Path(place), setups[0], policies[0])]
     for it, fault in wrong:
         print(f"{it}: {fault}")
     print(f"{len(setups)} set-ups asked how, {len(nevers)} questions of --never asked, {len(breaches)} breaches, {len(wrong)} faults")

@@ -2,7 +2,8 @@
 """imports.py PROGRAM FOLDER SEED COUNT: imports layouts, runs the set-ups, and compares their ends with what the layouts say.
 
 FOLDER has layouts, each with its listing in a file `.listing`, and with `--flows` in a file `.flows`, written by another
-reader; and in `wrong` layouts with one fault each. COUNT random layouts are drawn from SEED, and their listings are
+reader; in `wrong` layouts with one fault each; in `names` those whose names look alike or are long; in `hardware` those whose
+threads share a guest, memory, ports or an interrupt; and in `spellings` those that are spelt as tools spell them. COUNT random layouts are drawn from SEED, and their listings are
 compared with what was drawn. A `.system` file NAME has to come to the set-up of the layout NAME_from_system, which another program
 made of it. The end of each set-up is read off the report of `check`: each slot of the layout holds its capability, no other slot is
 full but the loader's, threads are ready or inactive as asked, and nobody waits on an endpoint; what the slots have to hold is drawn
@@ -13,6 +14,7 @@ import random
 import re
 import subprocess
 import sys
+import tempfile
 
 # The line of the first fault, by the name of the layout.
 FAULTS = {
@@ -24,9 +26,11 @@ FAULTS = {
     "attribute_twice": 14, "comment_not_closed": 13, "document_type": 2, "domain_misspelt": 15, "domain_twice": 9,
     "element_not_closed": 16, "equals_sign_missing": 7, "id_of_an_interrupt": 14, "id_too_large": 14, "interrupt_twice": 11,
     "name_with_blank": 9, "neither_true_nor_false": 15, "no_name": 3, "no_system": 2, "one_end": 13, "permissions_unknown": 11,
-    "region_misspelt": 11, "region_named_as_thread": 10, "sign_by_name": 10, "three_ends": 13, "two_systems": 18,
+    "region_misspelt": 11, "region_named_as_thread": 10, "sign_by_itself": 10, "three_ends": 13, "two_systems": 18,
     "value_not_closed": 5,
 }
+# The words by which `.system` files are read as the layouts that another program made of them.
+LEAST = ["--rights", "least"]
 RIGHTS = (("W", "w"), ("R", "r"), ("G", "g"), ("P", "p"))
 
 
@@ -120,10 +124,6 @@ def named(text):
     return {line.split(" = ")[0]: int(line.split(" = ")[1]) for line in table.splitlines()}
 
 
-def plain(name):
-    return re.sub(r"[^a-z0-9_]", "_", name.lower().replace("]", ""))[:36]
-
-
 def shown(report):
     """Returns what the lines of a report tell: full slots, threads and endpoints by their addresses."""
     slots, states = {}, {}
@@ -144,8 +144,8 @@ def differences(report, text, objects, want, inactive, size):
     expected = {places["loader"]: None}
     kinds = {"cnode": "cnode", "tcb": "tcb", "ep": "endpoint", "ut": "untyped"}
     for (holder, slot), (name, told) in want.items():
-        at = places[plain(holder)] + slot * size
-        kind, place = kinds[objects[name][0]], places.get(plain(name))
+        at = places[called(holder)] + slot * size
+        kind, place = kinds[objects[name][0]], places.get(called(name))
         expected[at] = f"{kind} {place} {told}".strip() if place is not None else None
         if at not in slots or not slots[at].startswith(kind):
             yield f"{holder}[{slot}] holds {slots.get(at)}"
@@ -156,8 +156,8 @@ def differences(report, text, objects, want, inactive, size):
             yield f"slot {at} holds {slots[at]}"
     for name, (kind, _) in objects.items():
         state = {"tcb": "inactive" if name in inactive else "ready", "ep": "idle"}.get(kind)
-        if state and states.get(places[plain(name)]) != state:
-            yield f"{name} is {states.get(places[plain(name)])}"
+        if state and states.get(places[called(name)]) != state:
+            yield f"{name} is {states.get(places[called(name)])}"
 
 
 def held(line):
@@ -185,6 +185,139 @@ def flows_of(program, folder):
             yield f"microkit_hello.cdl: it is not {answer} that hello leads to serial, with {flows}"
 
 
+def tail_of(name):
+    """Returns the name that an object has where a set-up cannot have its own: 27 letters, and a number of all its bytes (FNV-1a)."""
+    number = 0x811C9DC5
+    for byte in name.encode():
+        number = (number ^ byte) * 0x01000193 % 2**32
+    return re.sub(r"[^a-z0-9_]", "_", name.lower().replace("]", ""))[:27] + f"_{number:08x}"
+
+
+def called(name):
+    """Returns the name of an object in a set-up: its own, where that can stand there and is none of the importer's."""
+    return name if re.fullmatch("[a-z0-9_]{1,36}", name) and name not in ("loader", "import_flows") else tail_of(name)
+
+
+def names_of(program, folder):
+    """Yields what is wrong with the names of layouts in which they look alike, are the importer's, or are long."""
+    text = (folder / "alike.cdl").read_text()
+    objects = {*re.findall(r"^(\w+) = ", text, re.M), "pump[0]", "pump[1]"}
+    for flows, importers in (([], {"loader"}), (["--flows"], {"import_flows", "loader", "log_reply", "loader_slots", "valve_slots"})):
+        made = run(program, ["import", *flows, "-"], text)
+        tails = {tail_of(name): name for name in objects if called(name) != name or name in importers}
+        if set(named(made.stdout)) != importers | set(tails) | {name for name in objects if name not in tails.values()}:
+            yield f"alike.cdl: other names with {flows}: {named(made.stdout)}"
+        if dict(re.findall("^# name (.*): (.*)$", made.stdout, re.M)) != tails:
+            yield f"alike.cdl: not these names are told as comments with {flows}: {tails}"
+        for tail, name in tails.items():
+            said = "is a name of the importer: this object is" if re.fullmatch(r"\w+", name) and name == name.lower() else "is"
+            if f"warning: {name} {said} {tail} in the set-up\n" not in made.stderr:
+                yield f"alike.cdl: no warning says with {flows} that {name} is {tail}"
+    one, other = [run(program, ["import", str(folder / f"{name}.cdl")], "").stdout for name in ("long", "long_swapped")]
+    with tempfile.NamedTemporaryFile("w", suffix=".toml") as policy:
+        policy.write(run(program, ["audit", "--ever", "--draft", "--without", "loader", "-"], one).stdout)
+        policy.flush()
+        status = [run(program, ["audit", "--policy", policy.name, "-"], made).returncode for made in (one, other)]
+    if status != [0, 1]:
+        yield f"long.cdl: a policy of it has the statuses {status} of it and of a layout in which the names are exchanged"
+    made = run(program, ["import", "--flows", str(folder / "threads.cdl")], "")
+    both = ",".join(tail_of(f"camera_driver_component_instance_{side}_control_tcb") for side in ("left", "right"))
+    for words, status, said in ((["--never", both], 1, " possible\n"), (["--how", both], 4, "")):
+        asked = run(program, ["audit", *words, "--without", "loader", "-"], made.stdout)
+        if asked.returncode != status or said not in asked.stdout or "excluded" in asked.stdout:
+            yield f"threads.cdl: {words[0]} of two threads that share a page: {asked.returncode} {asked.stdout[:200]!r}"
+
+
+# Of layouts whose threads share hardware: what is asked of two threads with `--flows`, and whether it is possible.
+SHARED = {
+    "guests.system": [("north_tcb,south_tcb", True), ("keeper_tcb,south_tcb", True), ("keeper_tcb,south_guest_tcb_3", True),
+                      ("north_guest_tcb,south_guest_tcb", True), ("keeper_tcb,alone_tcb", False), ("north_tcb,alone_tcb", False)],
+    "overlaps.system": [("one_tcb,two_tcb", True), ("one_tcb,clock_tcb", True), ("two_tcb,three_tcb", False), ("two_tcb,clock_tcb", False)],
+    "software_interrupt.cdl": [("sender,hearer", True), ("sender,mapper", True), ("hearer,mapper", False), ("sender,alone", False)],
+}
+
+
+def shared_of(program, folder):
+    """Yields which threads that share a guest, memory, ports or an interrupt are told apart, and which are not that share nothing."""
+    for name, asked in SHARED.items():
+        made = run(program, ["import", "--flows", *LEAST, str(folder / name)], "")
+        if made.returncode:
+            yield f"{name}: status {made.returncode} {made.stderr[-200:]}"
+        trusted = "loader,monitor_tcb" if name.endswith(".system") else "loader"
+        for both, possible in asked:
+            told = run(program, ["audit", "--never", both, "--without", trusted, "-"], made.stdout)
+            if told.returncode != possible or ("excluded" in told.stdout) == possible:
+                yield f"{name}: {both}: status {told.returncode} {told.stdout[-200:]!r}"
+    listed = run(program, ["import", "--listing", *LEAST, str(folder / "guests.system")], "").stdout
+    for line in ("south_cnode[269] tcb south_guest_tcb_3", "south_cnode[266] tcb south_guest_tcb", "north_guest_cnode[1] endpoint north_ep badge 4611686018427387904 rights w--p",
+                 "south_guest_tcb_3.cspace cnode south_guest_cnode radix 6 guard 0 size 58"):
+        if f"{line}\n" not in listed:
+            yield f"guests.system: no line {line!r}"
+    made = run(program, ["import", "--flows", str(folder / "in_a_region.cdl")], "")
+    if made.returncode != 2 or "page is in the physical memory of memory, which does not cover it" not in made.stderr:
+        yield f"in_a_region.cdl: status {made.returncode} {made.stderr[:200]!r}"
+
+
+def shares(seed):
+    """Returns a random layout of threads with long names, of which the first and the last have one object in common or none, and
+    whether they have. Each object for ports has its own 32, but one that has the last port of another: these are one object."""
+    r = random.Random(seed)
+    kind, letters = r.choice([("frame (4k)", "RW"), ("notification", "RW"), ("ep", "RWGP"), ("vcpu", ""), ("io_ports", ""), ("sc", "")])
+    common, is_mapped = r.random() < 0.7, kind.startswith("frame") and r.random() < 0.7
+    names = [f"{r.choice(['camera', 'network', 'storage'])}_{'component_' * r.randint(0, 5)}{i}_tcb" for i in range(r.randint(2, 5))]
+    last, has_a_port_of_the_first = len(names) - 1, common and kind == "io_ports" and r.random() < 0.5
+    kinds = [kind + (f" (ports: [{96 + 32 * i}-{127 + 32 * i}])" if kind == "io_ports" else "") for i in range(len(names))]
+    if has_a_port_of_the_first:
+        kinds[last] = "io_ports (ports: [64-96])"
+    text = ["arch aarch64", "objects {", *(f"{name} = tcb\ncn_{i} = cnode (4 bits)\npt_{i} = pt\nown_{i} = {kinds[i]}" for i, name in enumerate(names)), "}", "caps {"]
+    for i, name in enumerate(names):
+        held = "own_0" if common and i == last and not has_a_port_of_the_first else f"own_{i}"
+        cap = held + (f" ({letters})" if letters else "")
+        text += [f"pt_{i} {{ {r.randint(0, 99)}: {cap} }}" if is_mapped else f"cn_{i} {{ {r.randint(0, 15)}: {cap} }}",
+                 f"{name} {{ cspace: cn_{i} (guard: 0, guard_size: 60)\nvspace: pt_{i} }}"]
+    return "\n".join([*text, "}", ""]), names[0], names[-1], common
+
+
+def shares_of(program, seed, count):
+    """Yields which random layouts are told apart although two threads have an object in common, or the other way round."""
+    for number in range(count):
+        text, one, other, common = shares(f"{seed} shares {number}")
+        made = run(program, ["import", "--flows"], text)
+        told = run(program, ["audit", "--never", f"{called(one)},{called(other)}", "--without", "loader", "-"], made.stdout)
+        if made.returncode or told.returncode != common:
+            yield f"shares {number} of {seed}: {common}, but status {told.returncode} {told.stdout[-120:]!r}"
+
+
+def losses_of(program, folder):
+    """Yields the statements of layouts that could be lost: without one of them the listing with `--flows` has to be another one."""
+    for name in ("file_server.cdl", "hardware/guests.system", "hardware/overlaps.system"):
+        lines = (folder / name).read_text().splitlines(keepends=True)
+        whole = run(program, ["import", "--flows", "--listing", "-"], "".join(lines)).stdout
+        for number, line in enumerate(lines):
+            # That a guest has a processor 0 is so without a word, and the number of an interrupt counts where a thread signals it.
+            if re.match(r"(\w+: |\s*<(map|irq|ioport|vcpu) )", line) and '<vcpu id="0"' not in line and line != "14: disk_irq\n":
+                less = run(program, ["import", "--flows", "--listing", "-"], "".join(lines[:number] + ["\n"] + lines[number + 1 :]))
+                if less.stdout == whole:
+                    yield f"{name}: nothing is read of line {number + 1}: {line.strip()}"
+
+
+def spellings_of(program, folder):
+    """Yields which layouts are not read that are spelt as tools spell them."""
+    for path in sorted(folder.glob("*.cdl")):
+        listed = run(program, ["import", "--listing", str(path)], "")
+        if sorted(listed.stdout.splitlines()) != sorted(path.with_suffix(".listing").read_text().splitlines()):
+            yield f"{path.name}: its listing has other lines: {listed.stderr[:300]!r}"
+        made = run(program, ["import", str(path)], "")
+        if made.returncode or run(program, ["check", "-"], made.stdout).returncode:
+            yield f"{path.name}: status {made.returncode}"
+    text = (folder / "copies.cdl").read_text()
+    for old, new, line, said in (("<master> (masked", "<mastr> (masked", 15, "there is no capability mastr"),
+                                 ("(RWP, masked: WP)", "(RWP, maskd: WP)", 23, "there is no parameter maskd of a capability")):
+        made = run(program, ["import", "-"], text.replace(old, new))
+        if (made.returncode != 2 or made.stdout != f"layout refused at {line}\n" or said not in made.stderr):
+            yield f"copies.cdl with {new!r}: {made.returncode} {made.stdout[:40]!r} {made.stderr[:200]!r}"
+
+
 def faults_of(program, folder):
     """Yields which layouts of a folder are not imported, or not refused at their lines."""
     for path in sorted(folder.glob("*.cdl")):
@@ -210,7 +343,7 @@ def faults_of_systems(program, folder):
     what is not told of them with its line: what stands above a call, what is assumed, and what is left out."""
     for path in sorted(folder.glob("*.system")):
         for flows in ([], ["--flows"]):
-            made, wanted = [run(program, ["import", *flows, str(it)], "") for it in (path, folder / f"{path.stem}_from_system.cdl")]
+            made, wanted = [run(program, ["import", *flows, *words, str(it)], "") for it, words in ((path, LEAST), (folder / f"{path.stem}_from_system.cdl", []))]
             if made.returncode or plain_lines(made.stdout) != plain_lines(wanted.stdout):
                 yield f"{path.name}: status {made.returncode}, or not the set-up of its layout, with {flows}"
             if "Microkit's tool is assumed" not in made.stderr:
@@ -247,7 +380,9 @@ def faults_by_name(program, folder):
 
 def main(program, folder, seed, count):
     folder = pathlib.Path(folder)
-    wrong = [*faults_of(program, folder), *flows_of(program, folder), *faults_of_systems(program, folder)]
+    wrong = [*faults_of(program, folder), *names_of(program, folder / "names"),
+             *shared_of(program, folder / "hardware"), *spellings_of(program, folder / "spellings"), *losses_of(program, folder), *shares_of(program, seed, int(count) // 10),
+             *flows_of(program, folder), *faults_of_systems(program, folder)]
     changed = unseen = 0
     for number in range(int(count)):
         text, *said = layout(f"{seed} {number}")

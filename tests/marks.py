@@ -18,12 +18,12 @@ import itertools
 import os
 import pathlib
 import re
-import subprocess
 import sys
 import tempfile
 import tomllib
 
-SECONDS = 600
+from program import answer, run, side_by_side
+
 CALL = re.compile(r"(\d+ \d+ [a-z_]+): [a-z0-9 /]+?(?: \[(met|not met: (.*))\])?")
 COUNT = re.compile(r"expected (\d+) of (\d+)")
 EXPECT = re.compile(r'(\bexpect\s*=\s*)"[^"\n]*"')
@@ -34,11 +34,8 @@ BOOT = ["profile", "memory_bits", "root_radix", "threads", "endpoints", "untyped
 WORDS = ["thread", "op", "cap", "kind", "size_bits", "root", "index", "depth", "offset", "count", "src_root", "src_index", "src_depth", "rights", "word",
          "label", "words"]
 NAMES = ["a, b.toml", 'a "b".toml', "a\nb.toml", "\u00e9 \u4e2d.toml"]
-
-
-def run(program, *words, text=b""):
-    done = subprocess.run([program, *words], input=text, stdout=subprocess.PIPE, stderr=subprocess.PIPE, timeout=SECONDS)
-    return done.returncode, done.stdout.decode()
+# A spreadsheet computes a cell that begins so.
+FORMULAS = ["=cmd()|evil.toml", "+1.toml", "-1+1.toml", "@sum(1,1).toml"]
 
 
 def marks_in(report):
@@ -76,10 +73,9 @@ def table(program, names, text=b""):
 def faults_of_all(program, paths):
     """Each set-up alone, and all of them in one table."""
     rows, statuses = [], []
-    for path in paths:
-        checked, report = run(program, "check", path)
+    for path, (checked, report), marked in side_by_side(lambda path: (path, run(program, "check", path), run(program, "marks", path)), paths):
         text, row = wanted(report)
-        if run(program, "marks", path) != (checked, text):
+        if marked != (checked, text):
             yield f"{path}: not the marks of its report"
         rows.append([str(path), *row])
         statuses.append(checked)
@@ -97,7 +93,7 @@ def faults_of_exercises(program, folder):
         if run(program, "marks", asked)[1].splitlines()[-1] != f"marks 0 of {count} open {count}":
             yield f"{asked}: not all open"
         changed = EXPECT.sub(r'\1"dropped by nobody"', text, count=1)
-        status, out = run(program, "marks", "-", text=changed.encode())
+        status, out = run(program, "marks", "-", text=changed)
         lines = out.splitlines()
         if (status, lines[-1]) != (1, f"marks {count - 1} of {count} open 0") or not lines[0].endswith(": not dropped by nobody"):
             yield f"{key}: the answer that was changed is not told"
@@ -115,6 +111,19 @@ def faults_of_names(program, key):
         rows = [HEAD, *([name, *cells] for name in names), [missing, "", "", "", "", "cannot be read"], ["-", *cells]]
         if table(program, [*names, missing, "-"], text=key.read_bytes()) != (3, rows):
             yield "files with such names have other rows"
+
+
+def faults_of_formulas(program, key, exercise):
+    """Files whose names a spreadsheet would compute, given as `./NAME`: each name in the table begins so."""
+    with tempfile.TemporaryDirectory() as folder:
+        for name in FORMULAS:
+            pathlib.Path(folder, name).write_text(key.read_text())
+        names = [f"./{name}" for name in FORMULAS]
+        for words in (["marks"], ["marks", "--of", str(exercise.resolve())]):
+            text = answer(program, *words, *names, cwd=folder)[1]
+            rows = list(csv.reader(io.StringIO(text, newline="")))[1:]
+            if [row[0] for row in rows] != names:
+                yield f"{' '.join(words[:2])}: files whose names are formulas are told as {[row[0] for row in rows]}"
 
 
 def made(setup, call):
@@ -158,7 +167,7 @@ def row_of(program, exercise, answers):
     asked, given = tomllib.loads(exercise), tomllib.loads(answers)
     if found := difference(asked, given):
         return ["", "", "", "", "", found]
-    report = run(program, "check", "-", text=answers.encode())[1].splitlines()
+    report = run(program, "check", "-", text=answers)[1].splitlines()
     marks = [(number, mark_of(question["expect"], call.get("expect"), REPLY.fullmatch(line)[1]))
              for number, (question, call, line) in enumerate(zip(asked["call"], given["call"], report), 1) if "expect" in question]
     numbers = [" ".join(str(number) for number, mark in marks if mark == kind) for kind in ("wrong", "too short", "open")]
@@ -208,38 +217,39 @@ def faults_of_statuses(program, path, place, of):
             yield f"{path}: of {' and '.join(names)} the exit status is not {status}"
 
 
-def faults_by_exercises(program, folder):
-    for path in sorted(folder.glob("exercise_answers/*.toml")):
-        key, exercise = path.read_text(), (folder / "exercises" / path.name).read_text()
-        with tempfile.TemporaryDirectory() as place:
-            files = [(pathlib.Path(place, name), text) for name, text in answers_of(key, exercise)]
-            for file, text in files:
-                file.write_text(text)
-            for asked in (exercise, key):
-                of = pathlib.Path(place, "of.toml")
-                of.write_text(asked)
-                rows = [[str(file), *row_of(program, asked, text)] for file, text in files if file.name != "client"]
-                rows.append([str(files[-1][0]), *rows[0][1:]])
-                if table(program, ["--of", of, *(file for file, _ in files)]) != (1, [HEAD_OF, *rows]):
-                    yield f"{path}: other marks by {'the key' if asked == key else 'the exercise'}"
-                if table(program, ["--of", of], text=key.encode()) != (0, [HEAD_OF, ["-", *rows[0][1:]]]):
-                    yield f"{path}: other marks of standard input"
-                for (file, _), row in zip(files, rows):
-                    if table(program, ["--of", of, file]) != (status_of(row[1:]), [HEAD_OF, row]):
-                        yield f"{path}: other marks of {file.name} alone"
-            yield from faults_of_statuses(program, path, pathlib.Path(place), of)
-            of.write_text("format = 3")
-            if table(program, ["--of", of, files[0][0]]) != (2, [HEAD_OF, [str(files[0][0]), "", "", "", "", "", "exercise refused"]]):
-                yield f"{path}: an exercise that is refused marks"
-            if run(program, "marks", "--of", pathlib.Path(place, "none"), files[0][0]) != (3, ""):
-                yield f"{path}: an exercise that cannot be read marks"
+def faults_by_exercise(program, folder, path):
+    key, exercise = path.read_text(), (folder / "exercises" / path.name).read_text()
+    with tempfile.TemporaryDirectory() as place:
+        files = [(pathlib.Path(place, name), text) for name, text in answers_of(key, exercise)]
+        for file, text in files:
+            file.write_text(text)
+        for asked in (exercise, key):
+            of = pathlib.Path(place, "of.toml")
+            of.write_text(asked)
+            rows = [[str(file), *row_of(program, asked, text)] for file, text in files if file.name != "client"]
+            rows.append([str(files[-1][0]), *rows[0][1:]])
+            if table(program, ["--of", of, *(file for file, _ in files)]) != (1, [HEAD_OF, *rows]):
+                yield f"{path}: other marks by {'the key' if asked == key else 'the exercise'}"
+            if table(program, ["--of", of], text=key.encode()) != (0, [HEAD_OF, ["-", *rows[0][1:]]]):
+                yield f"{path}: other marks of standard input"
+            for (file, _), row in zip(files, rows):
+                if table(program, ["--of", of, file]) != (status_of(row[1:]), [HEAD_OF, row]):
+                    yield f"{path}: other marks of {file.name} alone"
+        yield from faults_of_statuses(program, path, pathlib.Path(place), of)
+        of.write_text("format = 3")
+        if table(program, ["--of", of, files[0][0]]) != (2, [HEAD_OF, [str(files[0][0]), "", "", "", "", "", "exercise refused"]]):
+            yield f"{path}: an exercise that is refused marks"
+        if run(program, "marks", "--of", pathlib.Path(place, "none"), files[0][0]) != (3, ""):
+            yield f"{path}: an exercise that cannot be read marks"
 
 
 def main():
     program, folder = os.path.abspath(sys.argv[1]), pathlib.Path(sys.argv[2])
     paths = sorted(folder.glob("*/*.toml"))
-    key = next(iter(sorted(folder.glob("exercise_answers/*.toml"))))
-    wrong = [*faults_of_all(program, paths), *faults_of_exercises(program, folder), *faults_by_exercises(program, folder), *faults_of_names(program, key)]
+    keys = sorted(folder.glob("exercise_answers/*.toml"))
+    by_exercises = side_by_side(lambda key: list(faults_by_exercise(program, folder, key)), keys)
+    wrong = [*faults_of_all(program, paths), *faults_of_exercises(program, folder), *sum(by_exercises, []), *faults_of_names(program, keys[0]),
+             *faults_of_formulas(program, keys[0], folder / "exercises" / keys[0].name)]
     print("\n".join([*wrong, f"{len(paths)} set-ups marked, {len(wrong)} wrong"]))
     return 1 if wrong or not paths else 0
 

@@ -6,9 +6,10 @@ addresses and the slots that docs/formats.md gives, and its report has each thre
 set-up is there give status 4 with nothing written."""
 import itertools
 import re
-import subprocess
 import sys
 import tomllib
+
+from program import answer, run
 
 # Of each profile: the bits of a slot and of a thread control block. An endpoint has as many bits in both.
 PROFILES = {"wide": (5, 11), "narrow": (4, 10)}
@@ -17,10 +18,6 @@ REGIONS = ([], [(0x8000, 12)], [(0x8000, 12), (0xA000, 10), (0xFFF0, 4)])
 WRONG = (["--threads", "0"], ["--threads", "65"], ["--threads", "4294967297"], ["--endpoints", "257"], ["--untyped", "32768"],
          ["--untyped", "32768:x"], ["--untyped", ""], ["--untyped", "0:12"], ["--untyped", "32769:12"], ["--untyped", "1048576:12"],
          ["--untyped", "32768:12,32768:12"], ["--profile", "Wide"], ["--profile", "mcs"], ["--untyped", "32768:12,"])
-
-
-def run(program, words, text=b""):
-    return subprocess.run([program, *words], input=text, capture_output=True, timeout=600)
 
 
 def names_wanted(profile, radix, threads, endpoints, regions):
@@ -53,23 +50,23 @@ def radix_wanted(profile, threads, endpoints, regions):
 def faults(program, profile, threads, endpoints, regions):
     words = ["new", "--profile", profile, "--threads", str(threads), "--endpoints", str(endpoints)]
     words += ["--untyped", ",".join(f"{base}:{bits}" for base, bits in regions)] if regions else []
-    made = run(program, words)
+    status, made, error = answer(program, *words)
     radix = radix_wanted(profile, threads, endpoints, regions)
     if radix is None:
-        return [] if (made.returncode, made.stdout) == (4, b"") else [f"status {made.returncode}, and there is no room"]
-    if made.returncode or made.stderr:
-        return [f"status {made.returncode}, {made.stderr}"]
-    read = tomllib.loads(made.stdout.decode())
+        return [] if (status, made) == (4, "") else [f"status {status}, and there is no room"]
+    if status or error:
+        return [f"status {status}, {error}"]
+    read = tomllib.loads(made)
     wanted = {"format": 2, "profile": profile, "root_radix": radix, "threads": threads, "endpoints": endpoints,
               "names": names_wanted(profile, radix, threads, endpoints, regions)}
     found = [f"{key}: {read.get(key)}, wanted {value}" for key, value in wanted.items() if read.get(key) != value]
     if [(it["base"], it["bits"]) for it in read.get("untyped", [])] != regions:
         found.append("other regions")
-    report = run(program, ["check", "-"], made.stdout)
-    told = {int(it) for it in re.findall(rb"^thread (\d+)", report.stdout, re.M)}
-    if report.returncode or told != {wanted["names"][f"thread_{i}"] for i in range(threads)}:
-        found.append(f"check: status {report.returncode}, threads {sorted(told)}")
-    if b"refused" in report.stdout:
+    checked, report = run(program, "check", "-", text=made)
+    told = {int(it) for it in re.findall(r"^thread (\d+)", report, re.M)}
+    if checked or told != {wanted["names"][f"thread_{i}"] for i in range(threads)}:
+        found.append(f"check: status {checked}, threads {sorted(told)}")
+    if "refused" in report:
         found.append("its call is refused")
     return found
 
@@ -82,15 +79,15 @@ def main():
             wrong += 1
             print(f"new of {size}: {fault}")
     for words in WRONG:
-        done = run(program, ["new", *words])
-        if done.returncode != 4 or done.stdout or done.stderr.count(b"\n") != 2:
+        status, made, error = answer(program, "new", *words)
+        if status != 4 or made or error.count("\n") != 2:
             wrong += 1
-            print(f"new {words}: status {done.returncode}, {done.stdout}, {done.stderr}")
+            print(f"new {words}: status {status}, {made}, {error}")
     for words in ([], ["--threads", "64"], ["--endpoints", "256"]):
-        done = run(program, ["new", *words])
-        if done.returncode or run(program, ["check", "-"], done.stdout).returncode:
+        status, made = run(program, "new", *words)
+        if status or run(program, "check", "-", text=made)[0]:
             wrong += 1
-            print(f"new {words}: status {done.returncode}")
+            print(f"new {words}: status {status}")
     print(f"{len(sizes)} new set-ups as asked for and {len(WRONG)} wrong sizes, {wrong} faults")
     return 1 if wrong else 0
 

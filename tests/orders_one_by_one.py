@@ -9,13 +9,12 @@ orders are taken for one, so the counts of states are only compared with what th
 
 In the end two reports are compared with what another set-up's orders come to, and have to differ.
 """
-import concurrent.futures
-import json
 import os
 import random
 import re
-import subprocess
 import sys
+
+from program import document, run, side_by_side
 
 THREADS, ENDPOINTS = 3, 2
 CLIENTS = 3
@@ -32,18 +31,10 @@ RUNNING = re.compile(r"(?m)^thread (\d+) (ready|inactive|sending \d+|receiving \
 DELIVERED = re.compile(r"delivered \d+ from (\d+) to (\d+) ")
 
 
-def run(program, words, text):
-    done = subprocess.run([program, *words], input=text.encode(), capture_output=True, timeout=600)
-    return done.returncode, done.stdout.decode()
-
-
 def text_of(profile, calls):
     memory_bits, base = TOP[profile]
-    lines = ["format = 2", f'profile = "{profile}"', f"memory_bits = {memory_bits}", "root_radix = 4", f"threads = {THREADS}",
-             f"endpoints = {ENDPOINTS}", f"clients = {CLIENTS}", "[[untyped]]", f"base = {base}", "bits = 12"]
-    for call in calls:
-        lines += ["[[call]]", *(f"{key} = {json.dumps(value)}" for key, value in call.items())]
-    return "".join(f"{line}\n" for line in lines)
+    return document({"format": 2, "profile": profile, "memory_bits": memory_bits, "root_radix": 4, "threads": THREADS, "endpoints": ENDPOINTS,
+                     "clients": CLIENTS, "untyped": [{"base": base, "bits": 12}], "call": calls})
 
 
 def states_in(report):
@@ -136,7 +127,7 @@ class Orders:
     def after(self, order):
         """The reply of an order's last call, and what the report tells of the state then."""
         calls = [{key: value for key, value in self.calls[n - 1].items() if key != "expect"} for n in order]
-        _, report = run(self.program, ["check", "-"], text_of(self.profile, calls))
+        _, report = run(self.program, "check", "-", text=text_of(self.profile, calls))
         lines = report.splitlines()
         reply = lines[len(order) - 1].split(": ", 1)[1] if order else ""
         return reply, "\n".join(lines[len(order):-1])
@@ -228,7 +219,7 @@ def without_states(report):
 
 def faults(program, profile, calls):
     """What is wrong with the report of a set-up, and how many orders it has."""
-    status, report = run(program, ["explore", "-"], text_of(profile, calls))
+    status, report = run(program, "explore", "-", text=text_of(profile, calls))
     orders = Orders(program, profile, calls)
     wanted, told = list(orders.lines()), without_states(report)
     wrong = [f"{one!r}, and not {other!r}" for one, other in zip(told, wanted) if one != other]
@@ -244,7 +235,7 @@ def faults(program, profile, calls):
 
 
 def threads_of(program, profile):
-    return sorted(states_in(run(program, ["check", "-"], text_of(profile, []))[1]))
+    return sorted(states_in(run(program, "check", "-", text=text_of(profile, []))[1]))
 
 
 def main():
@@ -252,8 +243,7 @@ def main():
     draw = random.Random(seed)
     threads = {profile: threads_of(program, profile) for profile in TOP}
     asked = [(profile, Drawn(draw, threads[profile]).calls()) for profile in [*TOP] * (count // 2)]
-    with concurrent.futures.ThreadPoolExecutor(len(os.sched_getaffinity(0))) as pool:
-        done = list(pool.map(lambda it: faults(program, *it), asked))
+    done = side_by_side(lambda it: faults(program, *it), asked)
     wrong = 0
     for (profile, calls), (found, _) in zip(asked, done):
         if found:
@@ -268,7 +258,7 @@ def main():
     if missing:
         print("never answered but by a refusal: " + ", ".join(missing))
     others = [list(orders.lines()) for _, orders in done]
-    planted = sum(without_states(run(program, ["explore", "-"], text_of(*asked[at]))[1]) != others[at + 1] for at in (0, 1))
+    planted = sum(without_states(run(program, "explore", "-", text=text_of(*asked[at]))[1]) != others[at + 1] for at in (0, 1))
     return 0 if not wrong and not missing and planted == 2 else 1
 
 

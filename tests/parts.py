@@ -14,8 +14,9 @@ import itertools
 import pathlib
 import random
 import re
-import subprocess
 import sys
+
+from program import run
 
 CALLS = 40
 MESSAGES = ("send", "nbsend", "recv", "nbrecv")
@@ -24,10 +25,6 @@ HELD = re.compile(r"slot (\d+) (.*?)(?: children)?$")
 TAKE = re.compile(r"^take (\d+) -> (\d+)$", re.M)
 SLOT = re.compile(r"slot (\d+) (\w+) (\d+)(?: (?:radix|bits) (\d+))?")
 DELIVERED = re.compile(r"\d+ \d+ \w+: delivered (\d+) from (\d+) to (\d+) ")
-
-
-def run(program, words, text=None):
-    return subprocess.run([program, *words], input=text, capture_output=True, text=True, timeout=600).stdout
 
 
 def trusted_by(args):
@@ -134,7 +131,7 @@ def tried(program, layout, how, who, count):
     """Looks at one layout with its trusted threads, and yields what is broken; also how much there was to look at."""
     text = layout.read_text()
     trust = [f"--{how}", who] if who else []
-    ever = run(program, ["audit", "--ever", *trust, "-"], text)
+    ever = run(program, "audit", "--ever", *trust, "-", text=text)[1]
     if not ever.startswith("ever "):
         return
     threads, memory = parts_of(ever)
@@ -143,15 +140,15 @@ def tried(program, layout, how, who, count):
     free = [int(word) for word in re.findall(rf"^{how} (\d+)", ever, re.M) if int(word) not in threads]
     answers, apart = {}, []
     for one, other in itertools.permutations(threads, 2):
-        told = run(program, ["audit", "--never", f"{one},{other}", *trust, "-"], text)
+        told = run(program, "audit", "--never", f"{one},{other}", *trust, "-", text=text)[1]
         answers[threads[one], threads[other]] = " excluded\n" in told
         if " excluded by flow\n" in told:
             apart.append((one, other))
         if " possible decided\n" in told and how == "without":
-            found = run(program, ["audit", "--how", f"{one},{other}", *trust, "-"], text)
+            found = run(program, "audit", "--how", f"{one},{other}", *trust, "-", text=text)[1]
             yield True, [] if "expect = " in found else [f"{layout.name}: {one} -> {other} is decided, and --how says {found.strip()}"]
     alone, takes = only_messages(ever), {(int(one), int(other)) for one, other in TAKE.findall(ever)}
-    before = held(run(program, ["check", "-"], text))
+    before = held(run(program, "check", "-", text=text)[1])
     for seed in range(count):
         chance = random.Random(f"{layout.name} {how} {seed}")
         calls = ""
@@ -161,7 +158,7 @@ def tried(program, layout, how, who, count):
             passes = how == "messages" and free and chance.random() < 0.3
             calls += random_call(chance, chance.choice(free), MESSAGES) if passes else \
                 random_call(chance, chance.choice(callers), MESSAGES if chance.random() < 0.5 else OTHERS)
-        report = run(program, ["check", "-"], text + "\n" + calls)
+        report = run(program, "check", "-", text=text + "\n" + calls)[1]
         kept = quiet if all(other != quiet for one, other in takes) else None
         yield True, [f"{layout.name} --{how} {seed}: {line}" for line in changed(before, held(report), memory, alone, kept)]
         for one, other in apart:

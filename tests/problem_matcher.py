@@ -5,9 +5,10 @@ Each fault has to be marked at its file, line and column, with its severity, and
 import json
 import pathlib
 import re
-import subprocess
 import sys
 import tempfile
+
+from program import answer
 
 MATCHER = pathlib.Path(__file__).resolve().parent.parent / "docs" / "problem-matcher.json"
 LAYOUT = """format = 2
@@ -45,8 +46,7 @@ def faults(program, folder, matchers):
     """What is marked otherwise than it should be."""
     for name, text, wanted in CASES:
         (pathlib.Path(folder) / name).write_text(text)
-        lines = subprocess.run([program, "check", name], cwd=folder, stdin=subprocess.DEVNULL, stderr=subprocess.PIPE,
-                               stdout=subprocess.DEVNULL, text=True, timeout=600).stderr.splitlines()
+        lines = answer(program, "check", name, cwd=folder)[2].splitlines()
         found = [it for matcher in matchers for it in marked(lines, matcher)]
         same = len(found) == len(wanted) and all(
             it[:4] == (name, *want[:3]) and it[4].startswith(want[3]) for it, want in zip(found, wanted))

@@ -10,12 +10,12 @@ the policy does not allow, and no message may pass without a way."""
 import pathlib
 import random
 import re
-import subprocess
 import sys
 import tempfile
 
 import imports
 import parts
+from program import run
 
 LETTERS = "wrgp"
 USE = re.compile(r"  use (\d+) badge (\w+) rights (\S+)")
@@ -34,18 +34,12 @@ def letters_of(rights):
     return frozenset(rights) & frozenset(LETTERS)
 
 
-def told(program, words, text):
-    """Runs the program on a text, and returns what it writes and its status."""
-    done = subprocess.run([program, *words], input=text, capture_output=True, text=True, timeout=600)
-    return done.stdout, done.returncode
-
-
 class Layout:
     """A layout with its parts: threads and memory by part, uses, ways, and the regions in slots of each part."""
 
     def __init__(self, program, name, text, trust):
         self.name, self.text, self.trust = name, text, trust
-        ever, _ = told(program, ["audit", "--ever", *trust, "-"], text)
+        _, ever = run(program, "audit", "--ever", *trust, "-", text=text)
         self.is_read = ever.startswith("ever ")
         self.threads, self.memory = parts.parts_of(ever)
         # A trusted thread whose control block a part has is a thread of that part: no policy allows that.
@@ -59,7 +53,7 @@ class Layout:
                 uses.add((part, endpoint, any_of(badge), letters_of(rights)))
         self.uses = sorted(uses, key=repr)
         self.ways = sorted({(int(a), e, any_of(b), int(c)) for a, e, b, c in WAY.findall(ever)})
-        report, _ = told(program, ["check", "-"], text)
+        _, report = run(program, "check", "-", text=text)
         self.is_read = self.is_read and not re.search(r"^thread \d+ (?:sending|receiving) ", report, re.M)
         self.calls = len(re.findall(r"^\d+ \d+ \w+: ", report, re.M))
         self.regions = sorted({(part, base, bits) for slot, base, bits in REGION.findall(report)
@@ -149,7 +143,7 @@ def layouts(program, seed, count, folders):
             if args.exists() and not after:
                 yield Layout(program, file.name, file.read_text(), ["--without", who] if who else [])
     for k in range(seed, seed + count):
-        text, status = told(program, ["import", "-"], imports.layout(k)[0])
+        status, text = run(program, "import", "-", text=imports.layout(k)[0])
         if status == 0:
             yield Layout(program, f"random {k}", text, ["--without", "loader"])
 
@@ -157,7 +151,7 @@ def layouts(program, seed, count, folders):
 def held(program, policy, layout, folder):
     file = pathlib.Path(folder) / "policy.toml"
     file.write_text(policy)
-    return told(program, ["audit", "--policy", str(file), "-"], layout.text)
+    return run(program, "audit", "--policy", str(file), "-", text=layout.text)
 
 
 def main():
@@ -170,7 +164,7 @@ def main():
                 continue
             chance = random.Random(layout.name)
             tally["layouts"] += 1
-            text, status = held(program, layout.whole(), layout, folder)
+            status, text = held(program, layout.whole(), layout, folder)
             tally["kept"] += status == 0
             if status:
                 faults.append(f"{layout.name}: its own policy is not kept, status {status}\n{text}")
@@ -180,7 +174,7 @@ def main():
                     continue
                 kind, policy, wanted = cut
                 tally["cut"] += 1
-                text, status = held(program, policy, layout, folder)
+                status, text = held(program, policy, layout, folder)
                 if status == 1 and any(wanted.match(line) for line in text.splitlines()):
                     tally["told"] += 1
                 elif status == 0:
@@ -189,7 +183,7 @@ def main():
                     faults.append(f"{layout.name}: a {kind} is cut, status {status}, wanted {wanted.pattern}\n{policy}{text}")
             ops = (parts.MESSAGES, parts.OTHERS)
             calls = "".join(parts.random_call(chance, chance.choice(list(layout.threads)), chance.choice(ops)) for _ in range(parts.CALLS))
-            report, _ = told(program, ["check", "-"], layout.text + "\n" + calls)
+            _, report = run(program, "check", "-", text=layout.text + "\n" + calls)
             tally["calls"] += parts.CALLS
             faults += [f"{layout.name}: {line}" for line in layout.broken(report)]
     for fault in faults[:5]:

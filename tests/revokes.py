@@ -9,14 +9,12 @@ trace below the call, but for the lines of siblings, which an audit does not hav
 How many revokes no thread that is ready can make is told too. In the end one audit is compared with another revoke's trace, and has
 to differ.
 """
-import concurrent.futures
-import json
-import os
 import pathlib
 import re
-import subprocess
 import sys
 import tomllib
+
+from program import document, run, side_by_side
 
 SLOT_BYTES = {"wide": 32, "narrow": 16}
 NAMED = re.compile(r"thread (?P<thread>\d+).*|  as (?P<first>\d+).*|  reach \d+ (?P<word>\d+) slot \d+ (?P<capability>.*)")
@@ -27,23 +25,9 @@ KINDS = {"tcb": "thread"}
 REFUSED = 2
 
 
-def run(program, words, text):
-    done = subprocess.run([program, *words], input=text.encode(), capture_output=True, timeout=600)
-    return done.returncode, done.stdout.decode()
-
-
-def value_text(value):
-    """A value as a set-up has it."""
-    if isinstance(value, dict):
-        return "{" + ", ".join(f"{key} = {value_text(inner)}" for key, inner in value.items()) + "}"
-    if isinstance(value, list):
-        return "[" + ", ".join(map(value_text, value)) + "]"
-    return json.dumps(value)
-
-
 def with_call(setup, call):
     """The text of a set-up with one call more behind the others."""
-    return "".join(f"{key} = {value_text(value)}\n" for key, value in {**setup, "call": [*setup.get("call", []), call]}.items())
+    return document({**setup, "call": [*setup.get("call", []), call]})
 
 
 def slots_in(report):
@@ -106,7 +90,7 @@ def changes_in(text):
 def faults(program, text, before, slot, told, call):
     """What is wrong with what is told of one revoke."""
     setup = with_call(tomllib.loads(text), call)
-    _, report = run(program, ["check"], setup)
+    _, report = run(program, "check", text=setup)
     after = slots_in(report)
     number = len(tomllib.loads(setup)["call"])
     if f"\n{number} {call['thread']} revoke: done\n" not in "\n" + report:
@@ -114,8 +98,8 @@ def faults(program, text, before, slot, told, call):
     cleared, ended = len(before.keys() - after.keys()), objects_in(before) - objects_in(after)
     if told != (cleared, ended):
         yield f"told {told}, and the report has lost {cleared}, {ended}"
-    _, trace = run(program, ["trace"], setup)
-    _, audit = run(program, ["audit", "--slot", str(slot)], text)
+    _, trace = run(program, "trace", text=setup)
+    _, audit = run(program, "audit", "--slot", str(slot), text=text)
     made = changes_in(trace[trace.index(f"\n{number} {call['thread']} revoke: "):])
     if changes_in(audit) != made:
         yield "other changes than those of the trace"
@@ -124,10 +108,10 @@ def faults(program, text, before, slot, told, call):
 def faults_in(program, path):
     """How many revokes of a set-up are compared, how many no thread can make, and what is wrong."""
     text = path.read_bytes().decode("utf-8", "replace")
-    status, audit = run(program, ["audit"], text)
+    status, audit = run(program, "audit", text=text)
     if status == REFUSED:
         return 0, 0, []
-    before = slots_in(run(program, ["check"], text)[1])
+    before = slots_in(run(program, "check", text=text)[1])
     told, calls = told_revokes(audit), calls_of(audit, audit.split()[2])
     wrong = [f"{path}: revoke {slot}: {fault}" for slot in told.keys() & calls.keys()
              for fault in faults(program, text, before, slot, told[slot], calls[slot])]
@@ -136,18 +120,17 @@ def faults_in(program, path):
 
 def differs(program, text):
     """Whether what is told of the set-up's first revoke differs from its last revoke, made as a call."""
-    _, audit = run(program, ["audit"], text)
+    _, audit = run(program, "audit", text=text)
     told, calls = told_revokes(audit), calls_of(audit, audit.split()[2])
     first, last = min(told), max(told)
-    before = slots_in(run(program, ["check"], text)[1])
+    before = slots_in(run(program, "check", text=text)[1])
     return len(list(faults(program, text, before, first, told[first], calls[last]))) > 1
 
 
 def main():
     program, folders = sys.argv[1], map(pathlib.Path, sys.argv[2:])
     paths = sorted(path for folder in folders for path in folder.rglob("*.toml"))
-    with concurrent.futures.ThreadPoolExecutor(os.cpu_count()) as pool:
-        found = list(pool.map(lambda path: faults_in(program, path), paths))
+    found = side_by_side(lambda path: faults_in(program, path), paths)
     wrong = [fault for _, _, faults_of_one in found for fault in faults_of_one]
     for fault in wrong:
         print(fault)

@@ -14,31 +14,13 @@ certain number: orders that a gate of the test makes are tests of `test_engines`
 """
 import argparse
 import itertools
-import json
 import re
-import subprocess
 import sys
 import tomllib
 
+from program import document, run
+
 ENTRY = re.compile(r"(\d+) client (\d+) number (\d+): (\d+) (\w+): .*")
-
-
-def text_of(setup, calls):
-    def lines(table):
-        return [f"{key} = {json.dumps(value)}" for key, value in table.items()]
-
-    top = {k: v for k, v in setup.items() if k not in ("untyped", "call", "names", "clients", "limit")}
-    parts = [lines(top)]
-    if "names" in setup:
-        parts.append(["[names]", *lines(setup["names"])])
-    parts += [["[[untyped]]", *lines(table)] for table in setup.get("untyped", [])]
-    parts += [["[[call]]", *lines({k: v for k, v in call.items() if k not in ("client", "expect")})] for call in calls]
-    return "".join(line + "\n" for part in parts for line in part)
-
-
-def run(program, words, text):
-    done = subprocess.run([program, *words], input=text.encode(), capture_output=True, timeout=600)
-    return done.returncode, done.stdout.decode().splitlines()
 
 
 def first_calls(setup, first):
@@ -52,7 +34,8 @@ def faults(program, setup, text, orders, first=None):
     calls = setup.get("call", [])
     own = [[call for call in calls if call.get("client", 0) == client] for client in range(setup.get("clients", 1))]
     option = [] if first is None else ["--first", str(first)]
-    status, lines = run(program, ["threads", *option], text)
+    status, history = run(program, "threads", *option, text=text)
+    lines = history.splitlines()
     entries = [ENTRY.fullmatch(line) for line in lines if " client " in line]
     made, seen = [], [0] * len(own)
     for place, entry in enumerate(entries):
@@ -73,7 +56,9 @@ def faults(program, setup, text, orders, first=None):
         yield f"last line {lines[-1]!r}"
     if status != (0 if len(made) == len(calls) else 1):
         yield f"status {status}"
-    again = run(program, ["check"], text_of(setup, made))[1]
+    plain = {key: value for key, value in setup.items() if key not in ("clients", "limit")}
+    plain["call"] = [{key: value for key, value in call.items() if key not in ("client", "expect")} for call in made]
+    again = run(program, "check", text=document(plain))[1].splitlines()
     if [re.sub(r" client \d+ number \d+:", "", line) for line in lines[:-1]] != again[:-1]:
         yield "the history's calls, made again, give another report"
 

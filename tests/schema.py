@@ -6,14 +6,13 @@ and each that it refuses has to be invalid, except those in BEYOND. Then single 
 another value, at bounds and past them: for each key of a set-up and of each operation, in both formats and profiles.
 Schema and program have to agree on each, except where `beyond` says why a schema cannot.
 """
-import concurrent.futures
 import json
-import os
 import pathlib
-import subprocess
 import sys
 
 import jsonschema
+
+from program import document, run, side_by_side
 
 SCHEMA = pathlib.Path(__file__).resolve().parent.parent / "docs" / "set-up.schema.json"
 
@@ -65,27 +64,9 @@ KINDS = {"profile": TEXTS, "op": TEXTS, "expect": TEXTS, "names": TABLES, "untyp
          "base": WORDS, "thread": WORDS, "cap": WORDS, "label": [*WORDS, *NUMBERS], "x": [1]}
 
 
-def toml(value):
-    """A value as TOML. A text of these has the same form as in JSON."""
-    if isinstance(value, dict):
-        return "{" + ", ".join(f"{json.dumps(key)} = {toml(part)}" for key, part in value.items()) + "}"
-    if isinstance(value, list):
-        return "[" + ", ".join(map(toml, value)) + "]"
-    return json.dumps(value, ensure_ascii=False)
-
-
-def document(table):
-    return "".join(f"{json.dumps(key)} = {toml(value)}\n" for key, value in table.items())
-
-
 def answered(program, texts):
     """The exit status of `check` and what it writes, for each of the texts."""
-    def one(text):
-        done = subprocess.run([program, "check"], input=text.encode(), capture_output=True, timeout=600)
-        return done.returncode, done.stdout.decode()
-
-    with concurrent.futures.ThreadPoolExecutor(len(os.sched_getaffinity(0))) as pool:
-        return list(pool.map(one, texts))
+    return side_by_side(lambda text: run(program, "check", text=text), texts)
 
 
 def setup(form, profile, op):
@@ -150,7 +131,7 @@ def wrong_files(program, folders, valid):
     import tomllib
     left = dict(BEYOND)
     for path in sorted(it for folder in folders for it in pathlib.Path(folder).rglob("*.toml")):
-        status = subprocess.run([program, "check", path], capture_output=True, timeout=600).returncode
+        status = run(program, "check", path)[0]
         why = left.pop(path.stem, None) if status == 2 else None
         try:
             is_valid = valid(tomllib.loads(path.read_bytes().decode()))

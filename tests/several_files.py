@@ -90,7 +90,8 @@ def runs_of(files, setups):
     for other in ("met.toml", "unmet.toml", "refused.toml", "missing.toml"):
         for name in ("met.toml", "-", "unmet.toml", "refused.toml", "missing.toml", "/", ""):
             yield ["check", name, other], [name, other]
-            yield [name, other], [name, other]
+            if name:
+                yield [name, other], [name, other]
     yield ["check", "-", "met.toml"], ["-", "met.toml"]
     yield ["check", "met.toml", "met.toml"], ["met.toml", "met.toml"]
     yield ["check", "met.toml", "--", "-", "-name"], ["met.toml", "-", "-name"]
@@ -105,8 +106,11 @@ def runs_of(files, setups):
 
 
 def other_lines(program):
-    """Lines that take one file alone, and those that name standard input twice: what is wrong."""
-    for words in (["trace", "met.toml", "unmet.toml"], ["why", "met.toml", "unmet.toml"], ["check", "-", "-"], ["-", "met.toml", "-"]):
+    """Lines that take one file alone, those that name standard input twice, and those that begin with a word that is neither a
+    command nor a file: what is wrong."""
+    refused = (["trace", "met.toml", "unmet.toml"], ["why", "met.toml", "unmet.toml"], ["check", "-", "-"], ["-", "met.toml", "-"],
+               ["chek", "met.toml"], ["", "met.toml"])
+    for words in refused:
         status, out, error = run(program, words)
         if status != 4 or out or not error.startswith("sel4sim: command line refused\n"):
             yield f"{words}: {status}, {out!r}, {error!r}"

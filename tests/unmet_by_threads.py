@@ -4,8 +4,9 @@
 In these set-ups nobody ever waits. So in each order a send is dropped and a receive finds nothing, and the same is said; which is
 said first hangs on the order, but where `--first` has all calls made in that of the set-up."""
 import re
-import subprocess
 import sys
+
+from program import answer
 
 HEAD = "format = 2\nmemory_bits = 16\nroot_radix = 4\nthreads = 2\nendpoints = 1\nclients = 2\n"
 SEND = '  { client = 0, thread = 2048, op = "nbsend", cap = 4, expect = "%s" },\n'
@@ -53,14 +54,14 @@ def parts(error):
 def main():
     wrong = 0
     for words, text, status, wanted in CASES:
-        done = subprocess.run([sys.argv[1], "threads", *words], input=text, capture_output=True, text=True, timeout=600)
-        found = parts(done.stderr)
+        ended, _, error = answer(sys.argv[1], "threads", *words, text=text)
+        found = parts(error)
         has_order = words and int(words[1]) >= text.count("client =")
         same = found == wanted if has_order else sorted(found) == sorted(wanted)
-        if done.returncode != status or not same:
+        if ended != status or not same:
             wrong += 1
-            print(f"threads {' '.join(words)}: status {done.returncode}, wanted {status}; standard error")
-            print(done.stderr, "wanted\n", *wanted, "of\n", text, sep="")
+            print(f"threads {' '.join(words)}: status {ended}, wanted {status}; standard error")
+            print(error, "wanted\n", *wanted, "of\n", text, sep="")
     print(f"{len(CASES)} set-ups, {wrong} wrong")
     return 1 if wrong else 0
 

@@ -4,8 +4,9 @@
 The set-up is written to the program's standard input, and its whole report is compared. In the end the endpoint is made
 once more, and nobody waits on it.
 """
-import subprocess
 import sys
+
+from program import run
 
 SIZES = """format = 1
 memory_bits = 16
@@ -45,8 +46,7 @@ def main():
     calls = [RETYPE, SEND, DELETE] * rounds + [RETYPE, RECEIVE]
     setup = SIZES + "call = [\n" + "".join(f"  {call},\n" for call in calls) + "]\n"
     wanted = "".join(f"{number} {REPLIES[call]}\n" for number, call in enumerate(calls, 1)) + END
-    done = subprocess.run([program, "check"], input=setup.encode(), capture_output=True, timeout=600)
-    right = done.returncode == 0 and done.stdout == wanted.encode()
+    right = run(program, "check", text=setup) == (0, wanted)
     print(f"an address used again in {rounds} rounds: {'passed' if right else 'failed'}")
     return 0 if right else 1
 

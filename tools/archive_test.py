@@ -1,10 +1,12 @@
 #!/usr/bin/env python3
-"""archive_test.py: tries what make dist puts into its archive, with the program that is built.
+"""archive_test.py: tries what make dist puts into its packages, with the program that is built.
 
-The same bytes come twice; the program gives each example's report in an empty root that has the C library alone; the
+The same bytes come twice; the program gives each example's report in an empty root that has only the C library; the
 page's script makes a page; the page for browsers is there, with what it links to; bash completes by the file that is
-put where it looks; an installation has the same files; the man page has no warnings and names the commands that
-`sel4sim --help` does. The empty root takes root, or a user that may make user namespaces."""
+put where it looks; an installation has the same files, and is removed whole; the man page has no warnings. The Debian package
+is installed below an empty root and removed from it, so that this machine stays as it is. The module for WebAssembly gives
+each example's report by node, and by Rust if cargo has the crate wasmtime. The empty root takes root, or a user that may make user
+namespaces; what is missing for a test is told, and the test is left out."""
 import io
 import os
 import re
@@ -23,7 +25,9 @@ def output(*words, **how):
     return subprocess.run(words, stdout=subprocess.PIPE, text=True, check=True, **how).stdout
 
 
-class Archive(unittest.TestCase):
+class Unpacked(unittest.TestCase):
+    """The archive, packed and unpacked."""
+
     @classmethod
     def setUpClass(cls):
         cls.commit, cls.changed = archive.state()
@@ -44,8 +48,13 @@ class Archive(unittest.TestCase):
     def files(self, folder):
         return {os.path.relpath(os.path.join(at, it), folder) for at, _, names in os.walk(folder) for it in names}
 
+    def installed(self):
+        return {it for it in self.files(self.root) if it.startswith(("bin/", "share/"))}
+
+
+class Archive(Unpacked):
     def test_same_bytes_twice(self):
-        self.assertEqual(archive.packed(self.commit, self.changed), (self.name, self.bytes))
+        self.assertTrue(archive.packed(self.commit, self.changed) == (self.name, self.bytes), "they differ")
 
     def test_says_what_it_is(self):
         with open(self.below("PROVED"), encoding="utf-8") as file:
@@ -87,9 +96,10 @@ class Archive(unittest.TestCase):
     def test_has_the_page_for_browsers(self):
         page = self.below("share/doc/sel4sim/web/site/sel4sim.html")
         with open(page, encoding="utf-8") as file:
-            linked = re.findall(r'href="([^"#]+)"', file.read())
-        self.assertIn("../../docs/browser.md", linked)
-        for it in linked:
+            text = file.read()
+        # It names this page of the package, and links to nothing that is not there.
+        self.assertIn("docs/browser.md", text)
+        for it in ("../../docs/browser.md", *re.findall(r'href="([^"#]+)"', text)):
             self.assertTrue(os.path.isfile(os.path.join(os.path.dirname(page), it)), it)
 
     def test_installs_the_same(self):
@@ -98,8 +108,85 @@ class Archive(unittest.TestCase):
         for _ in range(2):
             output("make", "--no-print-directory", "-C", TOP, "install", env=env)
         there = os.path.join(to, "opt/seL4 tools")
-        self.assertEqual(self.files(there), {it for it in self.files(self.root) if it.startswith(("bin/", "share/"))})
+        self.assertEqual(self.files(there), self.installed())
         self.assertEqual(os.stat(os.path.join(there, "bin/sel4sim")).st_mode & 0o777, 0o755)
+        with open(os.path.join(there, "share/another"), "w", encoding="utf-8"):
+            pass
+        output("make", "--no-print-directory", "-C", TOP, "uninstall", env=env)
+        self.assertEqual(self.files(there), {"share/another"})
+        self.assertEqual(os.listdir(there), ["share"])
+
+
+@unittest.skipUnless(shutil.which("dpkg-deb") and shutil.which("dpkg"), "there is no dpkg-deb, or no dpkg")
+class DebianPackage(Unpacked):
+    @classmethod
+    def setUpClass(cls):
+        super().setUpClass()
+        cls.deb, cls.package = archive.debian(cls.commit, cls.changed)
+        cls.path = os.path.join(cls.folder, cls.deb)
+        with open(cls.path, "wb") as file:
+            file.write(cls.package)
+
+    def test_same_bytes_twice(self):
+        self.assertTrue(archive.debian(self.commit, self.changed) == (self.deb, self.package), "they differ")
+
+    def test_names_its_version(self):
+        told = output("dpkg-deb", "--field", self.path, "Version", "Architecture").splitlines()
+        self.assertEqual(told[0].split()[1].split("+")[0], archive.version().replace("-", "."))
+        self.assertEqual(told[1], "Architecture: amd64")
+
+    @unittest.skipUnless(os.geteuid() == 0 or shutil.which("fakeroot"), "it takes root, or fakeroot")
+    def test_is_installed_and_removed(self):
+        root = os.path.join(self.folder, "an empty root")
+        for it in ("info", "updates"):
+            os.makedirs(os.path.join(root, "var/lib/dpkg", it))
+        for it in ("status", "available"):
+            with open(os.path.join(root, "var/lib/dpkg", it), "w", encoding="utf-8"):
+                pass
+        # Nothing of this machine is changed: not its list of packages, and not its log. There is no C library in the root.
+        dpkg = [*([] if os.geteuid() == 0 else ["fakeroot"]), "dpkg", f"--root={root}", f"--log={root}/log", "--no-triggers",
+                "--force-depends", "--force-not-root", "--path-include=*"]
+        output(*dpkg, "--install", self.path, stderr=subprocess.DEVNULL)
+        beside = {"share/doc/sel4sim/PROVED", "share/doc/sel4sim/copyright"}
+        self.assertEqual(self.files(os.path.join(root, "usr")), self.installed() | beside)
+        said = output(os.path.join(root, "usr/bin/sel4sim"), "--version")
+        self.assertIn(archive.version(), said)
+        output(*dpkg, "--remove", "sel4sim", stderr=subprocess.DEVNULL)
+        self.assertFalse(os.path.exists(os.path.join(root, "usr")) and self.files(os.path.join(root, "usr")))
+
+
+class WebAssemblyModule(Unpacked):
+    """Each example's report, as from the native program."""
+
+    def gives_each_report(self, *runner):
+        examples = self.below("share/sel4sim/examples")
+        for it in sorted(it for it in os.listdir(examples) if it.endswith(".toml")):
+            words = [*runner, self.below("share/sel4sim/sel4sim.wasm"), "check", os.path.join(examples, it)]
+            wanted = subprocess.run([self.program, *words[-2:]], stdout=subprocess.PIPE, stderr=subprocess.DEVNULL, check=False)
+            ran = subprocess.run(words, stdout=subprocess.PIPE, stderr=subprocess.DEVNULL, check=False)
+            self.assertEqual((ran.returncode, ran.stdout), (wanted.returncode, wanted.stdout), it)
+
+    @unittest.skipUnless(shutil.which("node"), "there is no node")
+    def test_by_node(self):
+        self.gives_each_report("node", self.below("share/sel4sim/wasm/run.mjs"))
+
+    @unittest.skipUnless(shutil.which("node"), "there is no node")
+    def test_of_what_is_missing_or_fails(self):
+        words = ["node", self.below("share/sel4sim/wasm/run.mjs"), self.below("share/sel4sim/sel4sim.wasm"), "check"]
+        with open("/dev/full", "w", encoding="utf-8") as full:
+            ended = [subprocess.run([*words, name], stdout=to, stderr=subprocess.DEVNULL, check=False).returncode
+                     for name, to in (("there_is_no_such_file.toml", subprocess.DEVNULL), (self.below("share/sel4sim/examples/send_then_receive.toml"), full))]
+        self.assertEqual(ended, [3, 3])
+
+    @unittest.skipUnless(shutil.which("cargo"), "there is no cargo")
+    def test_by_rust(self):
+        crate = os.path.join(self.folder, "run")
+        output("cargo", "init", "--quiet", "--vcs", "none", "--name", "run", crate)
+        shutil.copy(self.below("share/sel4sim/wasm/run.rs"), os.path.join(crate, "src/main.rs"))
+        if subprocess.run(["cargo", "add", "--quiet", "--offline", "wasmtime"], cwd=crate, stderr=subprocess.DEVNULL, check=False).returncode:
+            self.skipTest("cargo has no crate wasmtime here")
+        output("cargo", "build", "--quiet", "--offline", "--release", cwd=crate)
+        self.gives_each_report(os.path.join(crate, "target/release/run"))
 
 
 class ManPage(unittest.TestCase):

@@ -1,29 +1,25 @@
-#!/usr/bin/env python3
-"""definitions.py [--check]: writes docs/definitions.md, the definitions that clauses of public functions name.
+"""The page docs/definitions.md: the definitions that clauses of public functions name.
 
 It looks at what stands on a public path of each crate: the functions, the methods of types and traits, and what an `impl`
 says of a type (`ghost view`, `ghost invariant`, ..). Each definition of a `specs/` folder that these name has a line on the
-page, with the comment above it in its file. With --check nothing is written, and the status is 1 where the page is not what
-these sources give, or where one of these rules is broken:
+page, with the comment above it in its file. These are the rules:
 
 - each definition that a public clause names has a comment;
 - none of them is imported from `specs/Private`, of whatever crate, and no other file of `specs/` imports one from there: what
   stands in it serves the proofs of private functions alone. A file of lemmas in `specs/Evidence` may, and is private then."""
 import pathlib
 import re
-import sys
 
 from crates import TOP, listed
 
 CRATES = pathlib.Path(TOP) / "crates"
-PAGE = pathlib.Path(TOP) / "docs" / "definitions.md"
 HEAD = """# The definitions
 
-<!-- Made by tools/definitions.py from the sources: change the comments there, and run it. -->
+<!-- Made by tools/pages.py from the sources: change the comments there, and run it. -->
 
 These are the definitions that clauses of public functions name, by crate and by file, each with the comment above it in its
-file. A contract is worth what they say. [twelve-definitions.md](twelve-definitions.md) has those to read first. The
-definitions that they use in turn are in the same file, or in one that the file imports.
+file. A contract is worth what they say. [reading-a-contract.md](reading-a-contract.md#twelve-definitions-to-read-first) has
+those to read first. The definitions that they use in turn are in the same file, or in one that the file imports.
 """
 LEAST = 300
 IMPORT = re.compile(r"use Rattle\.(\w+)\.specs\.([\w.]+?)(?:\.\{([^}]*)\}| as (\w+))?;?$")
@@ -212,17 +208,9 @@ def page_of(found):
     return "".join(text)
 
 
-def main():
+def made():
+    """The text of the page, and what is wrong."""
     found, wrong, count = look()
     if count < LEAST:
         wrong.append(f"only {count} public functions and ghost members were found")
-    if not wrong and "--check" not in sys.argv:
-        PAGE.write_text(page_of(found))
-    if not wrong and PAGE.read_text() != page_of(found):
-        wrong.append(f"{PAGE.name} is not what these sources give: tools/definitions.py writes it")
-    print("\n".join([*wrong, f"{count} public functions and ghost members, {len(found)} definitions, {len(wrong)} faults"]))
-    return 1 if wrong else 0
-
-
-if __name__ == "__main__":
-    sys.exit(main())
+    return "" if wrong else page_of(found), wrong

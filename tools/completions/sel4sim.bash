@@ -1,4 +1,4 @@
-# Made by tools/completions.py from what `sel4sim --help` and `sel4sim COMMAND --help` print.
+# Made by tools/pages.py from what `sel4sim --help` and `sel4sim COMMAND --help` print.
 _sel4sim() {
     local word=${COMP_WORDS[COMP_CWORD]} command= at
     for ((at = 1; at < COMP_CWORD; at++)); do
@@ -25,10 +25,11 @@ _sel4sim() {
         --endpoints) COMPREPLY=($(compgen -W '' -- "$word")); return ;;
         --untyped) COMPREPLY=($(compgen -W '' -- "$word")); return ;;
         --shrink) COMPREPLY=($(compgen -W '' -- "$word")); return ;;
+        --rights) COMPREPLY=($(compgen -W '' -- "$word")); return ;;
     esac
     case $command in
         '')
-            COMPREPLY=($(compgen -W 'check marks trace migrate threads why audit explore tree new import help -V --version -h --help' -- "$word"))
+            COMPREPLY=($(compgen -W 'check marks trace migrate threads why audit explore tree new import help -h --help -V --version' -- "$word"))
             [[ $word == -* ]] || mapfile -t -O "${#COMPREPLY[@]}" COMPREPLY < <(compgen -f -- "$word")
             ;;
         check)
@@ -71,7 +72,7 @@ _sel4sim() {
             COMPREPLY=($(compgen -W '--profile --threads --endpoints --untyped -h --help' -- "$word"))
             ;;
         import)
-            COMPREPLY=($(compgen -W '--shrink --listing --flows -h --help' -- "$word"))
+            COMPREPLY=($(compgen -W '--shrink --listing --flows --rights -h --help' -- "$word"))
             [[ $word == -* ]] || mapfile -t -O "${#COMPREPLY[@]}" COMPREPLY < <(compgen -f -- "$word")
             ;;
         help)

@@ -1,7 +1,7 @@
-# Made by tools/completions.py from what `sel4sim --help` and `sel4sim COMMAND --help` print.
+# Made by tools/pages.py from what `sel4sim --help` and `sel4sim COMMAND --help` print.
 complete -c sel4sim -f
-complete -c sel4sim -n '__fish_use_subcommand' -s V -l version -d 'Print help, which begins with the version'
 complete -c sel4sim -n '__fish_use_subcommand' -s h -l help -d 'Print help'
+complete -c sel4sim -n '__fish_use_subcommand' -s V -l version -d 'Print version'
 complete -c sel4sim -n '__fish_use_subcommand' -F
 complete -c sel4sim -n '__fish_use_subcommand' -a check -d 'Runs a set-up and prints its report'
 complete -c sel4sim -n '__fish_seen_subcommand_from check' -l strict -d 'End with status 1 also where a call is refused and has no expectation'
@@ -72,6 +72,7 @@ complete -c sel4sim -n '__fish_use_subcommand' -a import -d 'Reads a layout as c
 complete -c sel4sim -n '__fish_seen_subcommand_from import' -l shrink -x -a '' -d 'Cut untyped regions that cover nothing to N bits'
 complete -c sel4sim -n '__fish_seen_subcommand_from import' -l listing -d 'Print what was read of the layout'
 complete -c sel4sim -n '__fish_seen_subcommand_from import' -l flows -d 'Count each object that a set-up lacks, each answer and each Grant'
+complete -c sel4sim -n '__fish_seen_subcommand_from import' -l rights -x -a '' -d 'Take these where a .system file says no rights: all, or least'
 complete -c sel4sim -n '__fish_seen_subcommand_from import' -s h -l help -d 'Print help'
 complete -c sel4sim -n '__fish_seen_subcommand_from import' -F
 complete -c sel4sim -n '__fish_use_subcommand' -a help -d 'Print this message or the help of the given subcommand(s)'

@@ -1,13 +1,15 @@
 #!/usr/bin/env python3
-"""Tests of completions.py with a stand-in for the program, which has options with values too: its files in bash, and
-where these are installed in fish, and read by zsh; and the statuses of the man page."""
+"""Tests of what is made of a help, by a stand-in for the program, which has options with values too: the completions in bash, and
+where these are installed in fish, and read by zsh; the man page; and what stands between marks in other pages."""
 import os
 import shutil
 import subprocess
 import tempfile
 import unittest
 
-import completions
+import man_page
+import pages
+from helps import helps
 
 HELP = {
     "": """A stand-in
@@ -27,6 +29,11 @@ Options:
   -V, --version  Print version
 
 Without a command, standard input is read.
+
+Examples:
+  sel4sim check layout.toml     what its calls are answered
+  sel4sim tree --after 3 --form text layout.toml
+                                who was derived
 
 Exit status:
   0  all is well, by
@@ -77,7 +84,7 @@ class Completions(unittest.TestCase):
                 file.write(f"{name or '*'}) cat <<'END'\n{HELP[name]}END\n;;\n")
             file.write("esac\n")
         os.chmod(program, 0o755)
-        for name, text in completions.completions(program).items():
+        for name, text in pages.completions(*helps(program)).items():
             with open(os.path.join(cls.folder, name), "w", encoding="utf-8") as file:
                 file.write(text)
         os.mkdir(os.path.join(cls.folder, "work"))
@@ -105,17 +112,40 @@ class Completions(unittest.TestCase):
         return [it.split("\t")[0] for it in self.output("fish", "-c", f"source ../sel4sim.fish; complete -C 'sel4sim {line}'")]
 
     def test_reads_the_help(self):
-        whole, commands = completions.helps(f"{self.folder}/sel4sim")
+        whole, commands = helps(f"{self.folder}/sel4sim")
         self.assertEqual([name for name, _, _ in commands], ["check", "tree", "help"])
         self.assertEqual([option.spellings for option in whole.options], [["-h", "--help"], ["-V", "--version"]])
         form, after, _ = commands[1][2].options
-        self.assertEqual((form.values, form.about, after.has_value), (["text", "dot"], "How it is drawn", True))
+        self.assertEqual((form.values, form.about, after.value), (["text", "dot"], "How it is drawn", "N"))
         self.assertEqual([told.takes_files for told in (whole, *(it[2] for it in commands))], [True, True, False, False])
 
-    def test_statuses_of_the_help_are_in_the_man_page(self):
-        page = '.SH "EXIT STATUS"\n.TP\n.B 0\nIt is otherwise.\n.PP\nMore.\n.SH FILES\n'
-        made = '.SH "EXIT STATUS"\n.TP\n.B 0\nAll is well, by \\-\\-strict too.\n.TP\n.B 4\nThe command line is refused.\n'
-        self.assertEqual(completions.with_statuses(page, HELP[""]), f"{made}.PP\nMore.\n.SH FILES\n")
+    def filled(self, words, old):
+        """What a page has between two marks, where another text stood."""
+        of_help = pages.OfHelp(f"{self.folder}/sel4sim")
+        begin, end = f"<!-- {words} -->\n", "<!-- to here -->\n"
+        made = pages.filled(f"Before.\n{begin}{old}{end}After.\n", {"options": of_help.options})
+        self.assertTrue(made.startswith(f"Before.\n{begin}") and made.endswith(f"{end}After.\n"))
+        return made.removeprefix(f"Before.\n{begin}").removesuffix(f"{end}After.\n")
+
+    def test_man_page_has_what_the_help_has(self):
+        page = "".join(man_page.page(*helps(f"{self.folder}/sel4sim"), "2026-01-31"))
+        statuses = '.SH "EXIT STATUS"\n.TP\n.B 0\nAll is well, by \\-\\-strict too.\n.TP\n.B 4\nThe command line is refused.\n.PP\n'
+        tree = ".SS tree\n.B sel4sim tree [OPTIONS]\n.PP\nPrints the forest; it's text.\n.TP\n\\fB\\-\\-form\\fR \\fIFORM\\fR\n"
+        examples = (".SH EXAMPLES\n.TP\n.B sel4sim check layout.toml\nWhat its calls are answered.\n"
+                    ".TP\n.B sel4sim tree \\-\\-after 3 \\-\\-form text layout.toml\nWho was derived.\n.SH ")
+        self.assertIn('.TH SEL4SIM 1 "2026-01-31" ', page)
+        for made in (statuses, tree, examples, ".TP\n\\fB\\-\\-after\\fR \\fIN\\fR\nBehind call N.\n"):
+            self.assertIn(made, page)
+
+    def test_tables_of_options(self):
+        head = "| option | what it does |\n|---|---|\n"
+        self.assertEqual(self.filled("options of tree: after", ""), f"{head}| `--after N` | Behind call N |\n")
+        self.assertEqual(self.filled("options of check", "old\n"), f"{head}| `--strict` | Refuses [what] is doubtful |\n")
+        self.assertIn("there is no such option", self.filled("options of check: strikt", ""))
+
+    def test_no_mark_is_filled_without_a_maker(self):
+        page = "<!-- options of tree -->\nold\n<!-- to here -->\n"
+        self.assertEqual(pages.filled(page, {}), page)
 
     def test_in_bash(self):
         words = ["check", "tree", "help", "-h", "--help", "-V", "--version"]

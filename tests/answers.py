@@ -1,0 +1,111 @@
+#!/usr/bin/env python3
+"""answers.py PROGRAM SETUPS ANSWERS [WORD..]: each text that is wanted in the folders of SETUPS and ANSWERS, by the program, byte for
+byte; with words, those alone whose paths have one.
+
+NAME.toml is a set-up. What a command writes of it stands beside it, in a file whose suffix FORMS has with the command. Options stand in
+the file NAME.args, one word a line, or else in the name: NAME.after-14.slot-320.audit is what `audit --after 14 --slot 320` writes, and
+NAME.first_2.explore what `explore --first 2` does. FORMS says which status is wanted: that in NAME.status, and 0 where there is no such
+file, or the one that the text stands for. Where NAME.err is there, it is what standard error says.
+
+In the end, of each folder, what the first command wrote is compared with another text, and has to differ."""
+import os
+import pathlib
+import re
+import subprocess
+import sys
+
+from program import side_by_side
+
+
+def noted(file, _):
+    """The status that a file has beside it."""
+    status = file.with_suffix(".status")
+    return int(status.read_text()) if status.exists() else 0
+
+
+def told(_, text):
+    """The status that a text stands for."""
+    if not text:
+        return 4
+    return 2 if text.startswith(b"set-up refused ") else 1 if UNMET.search(text) else 0
+
+
+UNMET = re.compile(rb"^never .* possible( decided)?$|\[not met\]|^stuck\.| limit calls ", re.M)
+FORMS = {
+    ".report": ("check", noted),
+    ".trace": ("trace", noted),
+    ".why": ("why", noted),
+    ".tree": ("tree", told),
+    ".dot": ("tree --dot", told),
+    ".audit": ("audit", told),
+    ".ever": ("audit --ever", told),
+    ".never": ("audit", told),
+    ".out": ("audit --policy {name}.policy.toml", noted),
+    ".explore": ("explore", told),
+}
+# What stands beside these texts; the answers to --how are for hows.py.
+BESIDE = (".toml", ".status", ".args", ".err", ".how")
+# Of a policy that is no TOML document the words on standard error are those of the reader: their place alone is compared.
+NO_TOML = b"policy refused 600 at text\n"
+
+
+def words_of(file):
+    """The words of the command line whose text a file has, behind the program."""
+    name, *parts = file.stem.split(".")
+    args = file.with_suffix(".args")
+    options = args.read_text().split() if args.exists() else \
+        [word for option, *value in (re.split("[-_]", part, maxsplit=1) for part in parts) for word in (f"--{option}", *value)]
+    return [*FORMS[file.suffix][0].format(name=name).split(), *options, f"{name}.toml"]
+
+
+def wanted_by(file):
+    """The status, the text, and what standard error says, or None where that is not compared."""
+    text, error = file.read_bytes(), file.with_suffix(".err")
+    return FORMS[file.suffix][1](file, text), text, error.read_bytes() if error.exists() or file.suffix == ".out" else None
+
+
+def answer_to(program, file):
+    done = subprocess.run([program, *words_of(file)], cwd=file.parent, stdin=subprocess.DEVNULL, capture_output=True, timeout=600)
+    return done.returncode, done.stdout, done.stderr
+
+
+def faults(answer, wanted):
+    """What of an answer is not as wanted."""
+    for what, got, want in zip(("status", "text", "standard error"), answer, wanted):
+        is_place = what == "standard error" and wanted[1] == NO_TOML
+        if want is not None and (got != want if not is_place else got.split(b": error: ")[0] != want.split(b": error: ")[0]):
+            yield f"{what} wanted\n{shown(want)}\ngot\n{shown(got)}"
+
+
+def shown(it):
+    return it.decode("utf-8", "replace") if isinstance(it, bytes) else it
+
+
+def planted(answers):
+    """The folders in which an answer is as wanted where another text is."""
+    folders = {}
+    for file in answers:
+        folders.setdefault(file.parent, []).append(file)
+    for folder, (first, *others) in folders.items():
+        other = next((it for it in others if it.read_bytes() != first.read_bytes()), None)
+        if other and not any(faults(answers[first], wanted_by(other))):
+            yield f"{first}: no fault where {other} is wanted"
+
+
+def main():
+    program, folders, words = os.path.abspath(sys.argv[1]), map(pathlib.Path, sys.argv[2:4]), sys.argv[4:]
+    there = sorted(it for folder in folders for it in folder.glob("*/*.*"))
+    files = [it for it in there if it.suffix in FORMS and (not words or any(word in str(it) for word in words))]
+    answers = dict(zip(files, side_by_side(lambda file: answer_to(program, file), files)))
+    wrong = [f"{file}: {fault}" for file in files for fault in faults(answers[file], wanted_by(file))]
+    wrong += planted(answers)
+    wrong += [f"{it}: FORMS has no command for it" for it in there if it.suffix not in (*FORMS, *BESIDE)]
+    counts = {suffix: sum(it.suffix == suffix for it in files) for suffix in FORMS}
+    wrong += [f"there is no {suffix}" for suffix, count in counts.items() if not count and not words]
+    told_counts = ", ".join(f"{count} {suffix}" for suffix, count in counts.items())
+    print("\n".join([*wrong, f"{told_counts}: {len(files)} texts, {len(wrong)} faults"]))
+    return 1 if wrong or not files else 0
+
+
+if __name__ == "__main__":
+    sys.exit(main())
