@@ -1,7 +1,7 @@
 #!/usr/bin/env python3
 """build.py [--check | --draft FILE]: writes web/site/sel4sim.html, the proved program as a page of one file.
 
-The page has in it the program's WebAssembly module (module.py), the page of a trace (web/page/viewer.html), the editor
+The page has in it the program's WebAssembly module (module.py), the page of a trace (web/page/join.py), the editor
 CodeMirror as Debian packs it, the worked set-ups, and the modules in source/, joined as the page of a trace is. It
 tells the last commit of what it is made of, and the toolchain's line; where these files are not as committed, it says
 so. The same commit gives the same bytes.
@@ -33,13 +33,13 @@ CODEMIRROR = pathlib.Path("/usr/share/javascript/codemirror")
 SCRIPTS = ("lib/codemirror.js", "mode/toml/toml.js")
 # What the page is made of; a change elsewhere leaves it as it is.
 MADE_OF = ("crates", "crates.txt", "web/page/source", "web/page/join.py", "web/browser/source", "web/browser/c", "web/browser/build.py",
-           "web/browser/module.py", "web/browser/retarget.py", "docs/behaviour.md")
+           "web/browser/module.py", "web/browser/retarget.py", "docs/behaviour.md", "tests/answers")
 RULES = TOP / "docs" / "behaviour.md"
 FIRST_TOPICS, LAST_TOPICS = ("exercises", "examples"), ("expectations", "refused")
 # The set-ups of other topics are tests, each of one reason: they come behind the others.
 TESTS = re.compile("why_")
-# So many exercises belong to each lecture, in the order of their names.
-LECTURES = (("capability spaces", 3), ("untyped memory", 2), ("derivation", 3), ("endpoints", 2), ("confinement", 2))
+# So many exercises belong to each lecture, in the order of their names; those with a goal come behind them.
+LECTURES = (("capability spaces", 3), ("untyped memory", 2), ("derivation", 3), ("endpoints", 2), ("confinement", 2), ("goals", 4))
 # With these one begins, in this order.
 BEGIN_HERE = ("send_then_receive", "guarded_address_space", "revocation_of_badged_copies", "two_clients_by_badge",
               "layout_of_three_components", "three_clients")
@@ -47,6 +47,7 @@ BEGIN_HERE = ("send_then_receive", "guarded_address_space", "revocation_of_badge
 ANSWERS_OF_EXERCISES = ("exercise_answers/", "examples/exercise_copies_and_badges")
 # Set-ups that are told of by another subcommand than check: their folder, and the tab that they are opened in.
 ANSWERS = TOP / "tests" / "answers"
+GOALS = ANSWERS / "goals"
 FOR_TABS = (("explorations", "orders"), ("audits", "audit"), ("parts", "ever"), ("policies", "policy"), ("trees", "tree"))
 POLICY = ".policy.toml"
 FIRST_CALLS = re.compile(r"^#.*--first (\d+)", re.M)
@@ -143,7 +144,8 @@ def topics():
     found = {}
     for path, text in readable(it for it in SETUPS.glob("*/*.toml") if not is_answer(it)):
         found.setdefault(path.parent.name, []).append({"name": path.stem, "text": text})
-    found["exercises"], found["examples"] = by_lecture(found["exercises"]), first_ones_first(found["examples"])
+    goals = [{"name": path.stem, "text": text} for path, text in readable(GOALS.glob("*.toml"))]
+    found["exercises"], found["examples"] = by_lecture([*found["exercises"], *goals]), first_ones_first(found["examples"])
     others = sorted(found.keys() - set(FIRST_TOPICS), key=lambda it: (it in LAST_TOPICS, bool(TESTS.match(it)), it))
     told = {it: {"topic": it, "setups": found[it]} for it in (*FIRST_TOPICS, *others)}
     return [*(told[it] for it in FIRST_TOPICS), *for_tabs(), *(told[it] for it in others)]
@@ -187,7 +189,7 @@ def policy(style, *scripts):
 
 def page(made_of, packed, toolchain, editor_style, codemirror):
     """Returns the text of the page, which tells the commit that it is made of."""
-    before, behind = (("colours.css", "wires.css"), ("style.css", "exercise.css"))
+    before, behind = (("colours.css", "shared.css", "wires.css"), ("style.css", "exercise.css"))
     style = "\n" + "".join([*((join.SOURCE / it).read_text() for it in before), editor_style, *((SOURCE / it).read_text() for it in behind)])
     style, codemirror, script = join.harmless(style, codemirror, join.joined(SOURCE / "page.mjs", apart=("worker.mjs",)))
     return join.filled((SOURCE / "page.html").read_text(), policy=policy(style, codemirror, script), style=style,

@@ -1,13 +1,11 @@
 #!/usr/bin/env python3
-"""join.py [--check]: makes viewer.html out of the files in source/.
+"""join.py: makes viewer.html out of the files in source/.
 
 viewer.html opens a trace from a file. page.sh makes a page of a run of it: it writes another title, the trace and the
 audits into the lines that begin with <title>, <pre id="trace"> and <pre id="audits", which stand once each. The modules become one script, in the
 order in which they need one another: each is a function that gives what the module exports, and an import takes it from
 there. The page's policy lets the browser run just this script and use just this style, by their hashes, and load
 nothing.
-
-With --check nothing is written, and the status is 1 where the file is not what would be written.
 """
 import base64
 import hashlib
@@ -18,7 +16,7 @@ import sys
 FOLDER = pathlib.Path(__file__).resolve().parent
 SOURCE = FOLDER / "source"
 FIRST_MODULE = SOURCE / "page.mjs"
-STYLES = ("colours.css", "style.css", "wires.css")
+STYLES = ("colours.css", "shared.css", "style.css", "wires.css")
 IMPORT = re.compile(r'^import \{ ([\w, ]+) \} from "([./\w]+)/(\w+\.mjs)";\n', re.M)
 EXPORT = re.compile(r"^export (?=(?:async )?(?:function|class|const) (\w+))", re.M)
 
@@ -108,15 +106,8 @@ def viewer():
 
 
 def main():
-    path = FOLDER / "viewer.html"
-    text = viewer()
-    if sys.argv[1:] != ["--check"]:
-        path.write_text(text)
-    elif not path.exists() or path.read_text() != text:
-        print(f"{path} is not what join.py makes")
-        return 1
-    return 0
+    (FOLDER / "viewer.html").write_text(viewer())
 
 
 if __name__ == "__main__":
-    sys.exit(main())
+    main()

@@ -1,15 +1,20 @@
 #!/bin/sh
 # page.sh PROGRAM SETUP > run.html: a page that steps through the run of a set-up.
-# It is viewer.html, which stands beside this script, with three lines filled in: the title, by the set-up's name; the
-# trace that `PROGRAM trace SETUP` writes; and, where the run has at most 200 calls, the lines of what threads name, and
-# of who can send to whom, that `PROGRAM audit --after N SETUP` writes for each N, from 0 on. & and < are escaped.
+# It is viewer.html, which stands beside this script, or which join.py makes there first, with three lines filled in: the
+# title, by the set-up's name; the trace that `PROGRAM trace SETUP` writes; and, where the run has at most 200 calls, the
+# lines of what threads name, and of who can send to whom, that `PROGRAM audit --after N SETUP` writes for each N, from 0
+# on. & and < are escaped.
 # The status is the program's: 0, or 1 where an expectation is not met. With any other status no page is written, and
 # what the program wrote instead of a trace goes to standard error; 3 also where the page could not be made or written.
 if [ $# -ne 2 ]; then
     echo "page.sh: PROGRAM SETUP > run.html" >&2
     exit 4
 fi
-viewer=$(dirname "$(readlink -f "$0")")/viewer.html
+folder=$(dirname "$(readlink -f "$0")")
+viewer=$folder/viewer.html
+if [ -r "$folder/join.py" ]; then
+    python3 "$folder/join.py" || exit 3
+fi
 if ! [ -r "$viewer" ]; then
     echo "page.sh: there is no $viewer" >&2
     exit 3

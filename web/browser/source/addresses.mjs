@@ -9,7 +9,7 @@ const NARROW_WINDOW = "(max-width: 800px)";
 
 export class Addresses {
   constructor(page) {
-    Object.assign(this, { page, read: "", frame: undefined });
+    Object.assign(this, { page, read: "", frame: undefined, isReading: false });
     window.addEventListener("hashchange", () => this.openAddress());
   }
 
@@ -26,11 +26,14 @@ export class Addresses {
     const { page } = this;
     const fragment = location.hash;
     let setup = null;
+    this.isReading = true;
     try {
       if (fragment !== this.read) setup = await readFragment(fragment);
     } catch (fault) {
       const why = fault instanceof TooLong ? "it is longer than 8 MiB" : "a part of it is missing";
       return { isOpened: false, fault: `The address has a set-up that cannot be read: ${why}. What you see is another one.` };
+    } finally {
+      this.isReading = false;
     }
     if (setup === null) return { isOpened: false };
     this.read = fragment;

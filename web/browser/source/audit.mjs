@@ -1,6 +1,6 @@
 // Who reaches what, who can send to whom, and what each revoke would destroy.
 import { drawChannels, wayOf } from "../../page/source/channels.mjs";
-import { dim, element, fold, heading } from "../../page/source/element.mjs";
+import { button, dim, element, fold, heading } from "../../page/source/element.mjs";
 import { drawNamed } from "./named.mjs";
 import { savable } from "./savable.mjs";
 
@@ -69,16 +69,14 @@ function drawChange({ found: [sign, line] }) {
 }
 
 function drawRevoke({ found: [slot, capability, count], below }, choose) {
-  const row = element("button", { type: "button", class: "link", title: "What such a revoke changes, line by line" }, `slot ${slot}`);
-  row.addEventListener("click", () => choose(slot));
+  const row = button(`slot ${slot}`, () => choose(slot), { class: "link", title: "What such a revoke changes, line by line" });
   const ends = below.filter(({ form }) => form === "ends").map(({ found: [what] }) => element("li", {}, `ends ${what}`));
   return element("div", { class: "revoke" }, row, ` ${capability} `, element("b", {}, `clears ${count}`),
     ends.length > 0 ? element("ul", { class: "reason" }, ends) : null);
 }
 
 function drawOne(into, revoke, choose) {
-  const all = element("button", { type: "button" }, "all that the audit says");
-  all.addEventListener("click", () => choose(""));
+  const all = button("all that the audit says", () => choose(""));
   into.replaceChildren(element("p", {}, all), heading("A revoke of one slot", "as if a thread made it now; + comes, - goes"),
     drawRevoke(revoke, choose), element("div", { class: "changes" }, revoke.below.filter(({ form }) => form === "change").map(drawChange)));
 }

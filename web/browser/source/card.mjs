@@ -3,14 +3,8 @@ import { Prediction } from "./prediction.mjs";
 import { drawBits } from "./bits.mjs";
 import { code, dim, element } from "../../page/source/element.mjs";
 import { drawReason } from "./report.mjs";
+import { link } from "./basics.mjs";
 import { meaningOf } from "../../page/source/refusals.mjs";
-
-/** A button that looks like a link. */
-function link(words, label, act) {
-  const made = element("button", { type: "button", class: "link", "aria-label": label }, words);
-  made.addEventListener("click", act);
-  return made;
-}
 
 /** The call as it is written. */
 function drawPairs(pairs) {
@@ -19,7 +13,7 @@ function drawPairs(pairs) {
 }
 
 /** The way to the rule of the operation of a call. */
-const drawRule = (operation, rule) => link("rule", `the rule of ${operation}`, () => rule(operation));
+const drawRule = (operation, rule) => link("rule", () => rule(operation), `the rule of ${operation}`);
 
 /** The steps of help with a wrong answer, in their order. */
 const HELP = ["help: the rule", "more help: how far it gets", "show the answer of this call"];
@@ -34,8 +28,9 @@ export class Card {
     Object.assign(this, { call, step, help, wordBits, number: call.number, isShown: false, outcome: element("div", { class: "outcome" }) });
     this.prediction = call.asked ? new Prediction(call, objects, () => answered(this)) : null;
     const words = call.words ? element("p", { class: "words" }, call.words) : null;
+    this.pairs = drawPairs(call.pairs);
     this.element = element("li", { value: String(call.number), class: call.asked ? "card asks" : "card" }, words,
-      drawPairs(call.pairs), element("div", { class: "answering" }, this.prediction?.element, drawRule(call.pairs.get("op"), rule)),
+      this.pairs, element("div", { class: "answering" }, this.prediction?.element, drawRule(call.pairs.get("op"), rule)),
       this.outcome);
   }
 
@@ -76,7 +71,7 @@ export class Card {
   offer(steps, told) {
     const words = HELP[steps];
     this.outcome.replaceChildren(tag(false, "✗ not this"), " ", ...(told ? [drawReason(told)] : []),
-      link(words, `Call ${this.number}, ${words}`, () => this.help(this)));
+      link(words, () => this.help(this), `Call ${this.number}, ${words}`));
   }
 
   /** Shows what was said, what the call was answered, and why. */
@@ -85,8 +80,7 @@ export class Card {
     this.isShown = true;
     if (this.prediction) this.look(isRight);
     this.prediction?.element.remove();
-    const effect = element("button", { type: "button", class: "link" }, "what it changed");
-    effect.addEventListener("click", () => this.step(this.number));
+    const effect = link("what it changed", () => this.step(this.number));
     const mark = tag(isRight, isRight ? "✓ right" : "✗ wrong");
     this.outcome.replaceChildren(...[
       this.prediction ? element("p", {}, mark, ` you said: ${this.prediction.words || "nothing"}`) : "",

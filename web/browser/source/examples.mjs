@@ -1,6 +1,6 @@
 // The set-ups to choose from: in a list those with which one begins and those of the reader that were changed and left for others; and
 // all of them, by topic, in a dialog with a field to search in.
-import { counted, dim, element } from "../../page/source/element.mjs";
+import { button, counted, dim, element } from "../../page/source/element.mjs";
 import { leftSetUps } from "./kept.mjs";
 
 /** The topic of the reader's own set-ups. */
@@ -111,12 +111,10 @@ export class Examples {
   }
 
   drawOne({ topic, name, text }) {
-    const made = element("button", { type: "button", class: "line" }, words(name), " ", dim(aboutOf(text)));
-    made.addEventListener("click", () => {
+    return element("li", {}, button([words(name), " ", dim(aboutOf(text))], () => {
       this.dialog.close();
       this.open(topic, name);
-    });
-    return element("li", {}, made);
+    }, { class: "line" }));
   }
 
   /** Down and Up go through what is found, from the field on; Enter in the field opens the first. */

@@ -1,14 +1,16 @@
 // An exercise on the page: its sheet, and beside it the state that its questions begin in. What the program answers is shown
 // once every answer is given and marked, by the program itself: an answer is right where its expectation is met.
 import { ASKED, MARKED, SHOWN, Sheet } from "./sheet.mjs";
+import { Goal } from "./goal.mjs";
 import { STEPS_OF_HELP } from "./card.mjs";
 import { STOPPED } from "./program.mjs";
 import { Steps } from "./steps.mjs";
 import { callsOf } from "./report.mjs";
 import { courseOf, drawCourse } from "./course.mjs";
-import { element } from "../../page/source/element.mjs";
+import { button, element } from "../../page/source/element.mjs";
 import { drawPrinted } from "./printed.mjs";
 import { exerciseOf, withExpectations } from "./exercise_text.mjs";
+import { goalOf } from "./goal_text.mjs";
 import { keepAt, keptAt } from "./kept.mjs";
 import { reasonsByCall } from "./why.mjs";
 import { traceBefore } from "./trace_text.mjs";
@@ -57,8 +59,7 @@ export class Exercise {
     Object.assign(this, { page, told: null, text: "", name: "", course: [] });
     const sheet = element("section", { class: "sheet", role: "main", "aria-label": "Exercise" });
     this.heading = element("h2", {});
-    const back = element("button", { type: "button", class: "link way" }, "back to the questions");
-    back.addEventListener("click", () => sheet.scrollIntoView());
+    const back = button("back to the task", () => sheet.scrollIntoView(), { class: "link way" });
     this.beside = element("section", { class: "beside", "aria-label": "The run" }, this.heading, back);
     parent.append(sheet, this.beside);
     window.addEventListener("beforeprint", () => this.print());
@@ -69,6 +70,7 @@ export class Exercise {
       see: () => this.heading.scrollIntoView(), rule: (operation) => page.rules.show(operation),
       help: (card) => this.alone(() => this.help(card)),
     });
+    this.goal = new Goal(this);
   }
 
   get isOpen() {
@@ -77,11 +79,17 @@ export class Exercise {
 
   /** Shows the exercise of a set-up, if it is one: whether it is. */
   async open(text, name) {
-    const told = exerciseOf(text);
+    const told = exerciseOf(text) ?? goalOf(text);
     this.close();
     if (!told) return false;
-    Object.assign(this, { told, text, name, course: courseOf(this.page.data.topics, text) });
+    const asked = told.bare ?? text;
+    Object.assign(this, { told, text: asked, opened: text, name, course: courseOf(this.page.data.topics, asked) });
     document.body.classList.add("exercise");
+    if (told.goal) {
+      this.sheet.parent.inert = false;
+      await this.goal.open(told, keptAt(KEPT)[text]);
+      return true;
+    }
     // Until the new sheet is drawn, the one before it takes no answers.
     this.sheet.parent.inert = true;
     const trace = await this.ask("trace", text);
@@ -95,6 +103,7 @@ export class Exercise {
 
   close() {
     this.told = null;
+    this.goal.close();
     document.body.classList.remove("exercise");
   }
 
@@ -136,19 +145,20 @@ export class Exercise {
     return this.course[1 + this.course.findIndex(({ text }) => text === this.text)];
   }
 
-  showTrace(trace, number) {
+  /** Shows a trace beside the sheet, at a call; `how` says what else there is to do with it. */
+  showTrace(trace, number, how = { canAsk: false }) {
     const { page } = this;
     this.steps ??= new Steps({ viewer: page.markup(page.data.viewer), title: "The run, call by call",
-      listen: (frame) => page.keys.listenInFrame(frame), shown: () => {} });
+      listen: (frame) => page.keys.listenInFrame(frame), shown: () => {}, asked: (told) => this.goal.asked(told) });
     if (!this.steps.frame.isConnected) this.beside.append(this.steps.frame);
     this.trace = trace;
-    this.steps.show(trace, page.title, number);
+    this.steps.show(trace, page.title, number, how);
   }
 
   /** Puts the state that the questions begin in on the print, while no answer is shown. */
   print() {
     if (!this.isOpen || !this.steps?.isLoaded) return;
-    const isAsked = this.state.stage !== SHOWN && !this.current;
+    const isAsked = this.goal.isOpen || this.state.stage !== SHOWN && !this.current;
     this.sheet.printed.hidden = !isAsked;
     if (isAsked) drawPrinted(this.sheet.printed, this.steps.frame, { markup: this.page.markup, title: this.heading.textContent });
   }
@@ -159,10 +169,15 @@ export class Exercise {
     if (matchMedia(NARROW).matches) this.heading.scrollIntoView();
   }
 
+  /** Keeps how far one is with what was opened, over a reload. */
+  keepState(state) {
+    keepAt(KEPT, { ...keptAt(KEPT), [this.opened]: state });
+  }
+
   /** Keeps what is new of the state, and shows how far one is. */
   keep(news) {
     Object.assign(this.state, news);
-    keepAt(KEPT, { ...keptAt(KEPT), [this.text]: this.state });
+    this.keepState(this.state);
     const { stage, of, atFirst, inTurn } = this.state;
     const { checked, current } = this;
     const right = current ? checked.filter((number) => this.state.checked[number]).length : this.state.right;

@@ -9,18 +9,23 @@ const MAY_ASK = /["']\?/u;
 const QUESTION = /^\?(?: (from|to|badge|label|words))?$/u;
 const PAIR = /(\w+)\s*=\s*("[^"]*"|'[^']*'|\[[^\]]*\]|[^\s,}]+)/gu;
 const BECAUSE = "#>";
+/** The line behind which the reader's calls of an exercise with a goal stand; it may name their threads. */
+export const YOUR_CALLS = /^\s*# your calls(?: of (.+?))?\s*$/u;
 /** The parts of a delivered answer, in their order. */
 export const PARTS = ["endpoint", "from", "to", "badge", "label", "words"];
 
 const isComment = (line) => /^\s*#/u.test(line);
 const bareComment = (line) => line.replace(/^\s*#>?\s?/u, "").trimEnd();
 
-/** The comments right above a line. */
-function commentsAbove(lines, line) {
+/** The first line of the comments right above a line. */
+export function firstCommentAbove(lines, line) {
   let first = line;
-  while (first > 0 && isComment(lines[first - 1])) first -= 1;
-  return lines.slice(first, line).map((it) => it.trim());
+  while (first > 0 && isComment(lines[first - 1]) && !YOUR_CALLS.test(lines[first - 1])) first -= 1;
+  return first;
 }
+
+/** The comments right above a line. */
+const commentsAbove = (lines, line) => lines.slice(firstCommentAbove(lines, line), line).map((it) => it.trim());
 
 /** The words above a call: what it does, without a number in front, and why it is answered so. */
 function wordsAbove(lines, line) {
@@ -31,7 +36,7 @@ function wordsAbove(lines, line) {
 }
 
 /** What the comments at the head tell: the title, the paragraphs of the task, and whether the calls are asked in turn. */
-function headOf(lines) {
+export function headOf(lines) {
   const end = lines.findIndex((it) => !isComment(it));
   const head = lines.slice(0, end < 0 ? lines.length : end).map(bareComment);
   const [, title = ""] = TITLE.exec(head[0] ?? "") ?? [];
@@ -47,6 +52,9 @@ function pairsOf(lines, entry) {
   return new Map(pairs.filter(([key]) => key !== "expect"));
 }
 
+/** A call of a set-up: its number, what its comments say, and its keys. */
+export const callIn = (lines, entry, number) => ({ number, ...wordsAbove(lines, entry.line), pairs: pairsOf(lines, entry) });
+
 /** What an expectation asks for: null where it is no question, or the last part of a delivered answer that is asked for. */
 function askedBy(expectation) {
   const found = QUESTION.exec(expectation);
@@ -60,8 +68,7 @@ export function exerciseOf(text) {
   if (!MAY_ASK.test(text)) return null;
   const lines = text.split("\n");
   const calls = placesOf(text).call.map((entry, at) => ({
-    number: at + 1, ...wordsAbove(lines, entry.line), pairs: pairsOf(lines, entry),
-    asked: askedBy(entry.texts.get("expect")?.text ?? ""),
+    ...callIn(lines, entry, at + 1), asked: askedBy(entry.texts.get("expect")?.text ?? ""),
   }));
   return calls.some(({ asked }) => asked) ? { ...headOf(lines), calls } : null;
 }

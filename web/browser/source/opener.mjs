@@ -1,17 +1,13 @@
 // Buttons that each open a set-up which the program writes.
-import { element } from "../../page/source/element.mjs";
+import { button, element } from "../../page/source/element.mjs";
 
 /** Draws such buttons, each `{ words, title, open }`. Where the program writes no set-up, what it says in its place, which `open`
     gives, stands behind them. */
 export function drawOpeners(openers) {
   const told = element("span", { class: "code", role: "status" });
-  const buttons = openers.map(({ words, title, open }) => {
-    const button = element("button", { type: "button", class: "opener", title }, words);
-    button.addEventListener("click", async () => {
-      told.textContent = "";
-      told.textContent = await open();
-    });
-    return button;
-  });
+  const buttons = openers.map(({ words, title, open }) => button(words, async () => {
+    told.textContent = "";
+    told.textContent = await open();
+  }, { class: "opener", title }));
   return [buttons, " ", told];
 }

@@ -1,6 +1,6 @@
 // Every order of the clients' calls: for each call its answers, with the shortest order where one is not as expected, and
 // each way to end stuck. An order that is told can be opened as a set-up that makes its calls.
-import { code, element } from "../../page/source/element.mjs";
+import { button, code, element } from "../../page/source/element.mjs";
 import { drawLine, drawRows } from "./report.mjs";
 import { drawOpeners } from "./opener.mjs";
 
@@ -17,17 +17,14 @@ function drawMark(mark) {
 }
 
 function drawCall([, number, words, mark], { go }) {
-  const row = element("button", { type: "button", class: "line call", title: "To this call in the set-up" },
-    element("span", { class: "number" }, number), code(words), " ", drawMark(mark));
-  row.addEventListener("click", () => go(Number(number)));
-  return row;
+  return button([element("span", { class: "number" }, number), code(words), " ", drawMark(mark)], () => go(Number(number)),
+    { class: "line call", title: "To this call in the set-up" });
 }
 
 /** An order of calls, each with a way to it. */
 function drawOrder(order, go) {
   return order.split(" ").filter(Boolean).map((number) => {
-    const call = element("button", { type: "button", class: "link step", title: `To call ${number} in the set-up` }, number);
-    call.addEventListener("click", () => go(Number(number)));
+    const call = button(number, () => go(Number(number)), { class: "link step", title: `To call ${number} in the set-up` });
     return [" ", call];
   });
 }

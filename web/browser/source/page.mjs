@@ -23,7 +23,7 @@ import { drawTerms } from "./terms.mjs";
 import { drawingOf } from "../../page/source/picture.mjs";
 import { drawMade, isLayout, setupNameOf } from "./layout.mjs";
 import { keepLeft, keepState } from "./kept.mjs";
-import { listenToFiles } from "../../page/source/files.mjs";
+import { listenToFiles, saveFile } from "../../page/source/files.mjs";
 
 const byId = (id) => document.getElementById(id);
 const TITLE = "sel4sim";
@@ -35,12 +35,6 @@ const MILLISECONDS_SHOWN = 8000;
 /** The addresses and the markup that the page makes itself: its policy lets no others pass. */
 const URLS = globalThis.trustedTypes?.createPolicy(TITLE, { createScriptURL: (url) => url, createHTML: (text) => text })
   ?? { createScriptURL: (url) => url, createHTML: (text) => text };
-
-function saveFile(bytes, name) {
-  const address = URL.createObjectURL(new Blob([bytes]));
-  element("a", { href: address, download: name }).click();
-  setTimeout(() => URL.revokeObjectURL(address), 10_000);
-}
 
 class Page {
   constructor(data) {
@@ -200,9 +194,9 @@ class Page {
     this.runs.later();
   }
 
-  /** Whether what is in the editor has been run, or waits for its reader to run it. */
+  /** Whether what is in the editor has been run, or waits for its reader to run it, and nothing else is on its way there. */
   get isAtRest() {
-    return this.runs.isAtRest;
+    return this.runs.isAtRest && !this.addresses.isReading;
   }
 
   run() {
@@ -340,6 +334,13 @@ class Page {
     this.editor.refresh();
     this.say("This is the set-up of the exercise, with its answers. ", link("back to the sheet", () => this.open(text, name)));
     this.run();
+  }
+
+  /** Shows the set-up of an exercise with a goal, with the calls of its reader, with a way back to the sheet. */
+  async leaveGoal() {
+    const { opened, name, goal } = this.exercise;
+    await this.open(goal.text, name, {}, true);
+    this.say("This is the set-up of the exercise, with your calls. ", link("back to the sheet", () => this.open(opened, name)));
   }
 
   /** Opens the next exercise. */

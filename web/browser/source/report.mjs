@@ -1,5 +1,5 @@
 // The report: each call with what it was answered, and then the state that the run ends in.
-import { code, dim, element } from "../../page/source/element.mjs";
+import { button, code, dim, element } from "../../page/source/element.mjs";
 
 const CALL = /^(\d+) (\d+ \w+): (.*?)( \[met\]| \[not met: .*\])?$/u;
 const OF_THREAD = /^((?:thread|slot \d+ tcb) (\d+))(.*)$/u;
@@ -48,11 +48,8 @@ function drawWords(words, names) {
 /** A call as a row that leads to it; `go` is told its number. */
 export function drawCall({ number, words, reply, outcome }, go, names = new Map()) {
   const look = reply.startsWith("refused") ? "line call refused" : "line call";
-  const row = element("button", { type: "button", class: look, title: "To this call in the set-up" },
-    element("span", { class: "number" }, String(number)), drawWords(words, names), " ",
-    element("span", { class: "reply" }, reply), " ", drawOutcome(outcome));
-  row.addEventListener("click", () => go(number));
-  return row;
+  return button([element("span", { class: "number" }, String(number)), drawWords(words, names), " ",
+    element("span", { class: "reply" }, reply), " ", drawOutcome(outcome)], () => go(number), { class: look, title: "To this call in the set-up" });
 }
 
 /** A line as it is, with the name of the thread that it is about, where that has one. */
@@ -85,8 +82,7 @@ export function drawRows(into, rows) {
   const rest = rows.slice(LINES_SHOWN);
   into.replaceChildren(...rows.slice(0, LINES_SHOWN).map((draw) => draw()));
   if (rest.length === 0) return;
-  const more = element("button", { type: "button" }, `show ${rest.length} more lines`);
-  more.addEventListener("click", () => more.replaceWith(...rest.map((draw) => draw())));
+  const more = button(`show ${rest.length} more lines`, () => more.replaceWith(...rest.map((draw) => draw())));
   into.append(element("p", {}, more, " ", dim("or save the output as a file")));
 }
 

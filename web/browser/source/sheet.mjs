@@ -1,6 +1,7 @@
 // The sheet of an exercise: its task, a card for each call, and below them how far one is and what there is to do.
 import { Card } from "./card.mjs";
-import { counted, element } from "../../page/source/element.mjs";
+import { button, counted, element } from "../../page/source/element.mjs";
+import { link } from "./basics.mjs";
 import { withTerms } from "./terms.mjs";
 
 /** What an exercise is at: its answers are asked for, marked, or shown with their reasons. */
@@ -14,11 +15,22 @@ const BUTTONS = [
   ["restart", "begin anew"], ["leave", "the set-up itself"], ["reveal", "show the answers"],
 ];
 
-function drawButton(words, act, look) {
-  const made = element("button", { type: "button", class: look }, words);
-  made.addEventListener("click", act);
-  return made;
+/** The title, with what is asked, and the paragraphs of the task; the first place of each word of the kernel is explained. */
+export function drawTask(title, asked, task) {
+  const seen = new Set();
+  return [element("h1", { tabindex: "-1" }, title, " ", element("small", {}, asked)),
+    ...task.map((it) => element("p", { class: "task" }, withTerms(it, seen)))];
 }
+
+/** The cards of calls that are made already, folded away, or null where there is none. */
+export function drawBefore(cards) {
+  return cards.length === 0 ? null : element("details", { class: "before" },
+    element("summary", {}, `${counted(cards.length, "call")} ${cards.length === 1 ? "is" : "are"} made already`),
+    element("ol", { class: "cards" }, cards.map((card) => card.element)));
+}
+
+/** The way to the state, where it stands below the sheet. */
+export const drawWay = (words, see) => element("p", { class: "way" }, link(words, see));
 
 /** How far one is, in words. */
 function progressOf({ stage, right, given, of, atFirst, missing, wrong, current, checked }) {
@@ -36,7 +48,7 @@ export class Sheet {
     this.course = element("nav", { class: "course", "aria-label": "Exercises" });
     this.status = element("p", { role: "status", class: "progress", tabindex: "-1" });
     this.bar = element("progress", {});
-    this.buttons = Object.fromEntries(BUTTONS.map(([name, words, look]) => [name, drawButton(words, acts[name], look)]));
+    this.buttons = Object.fromEntries(BUTTONS.map(([name, words, look]) => [name, button(words, acts[name], { class: look })]));
     this.turn = element("input", { type: "checkbox" });
     this.turn.addEventListener("change", () => acts.turn(this.turn.checked));
     this.printed = element("section", { class: "printed", hidden: true });
@@ -52,20 +64,12 @@ export class Sheet {
   draw({ title, task, calls }, name, objects) {
     this.cards = new Map(calls.map((call) => [call.number, new Card(call, objects, this.acts)]));
     this.first = calls.find(({ asked }) => asked).number;
-    const seen = new Set();
-    const list = (cards) => element("ol", { class: "cards" }, cards.map((card) => card.element));
     const made = [...this.cards.values()].filter(({ number }) => number < this.first);
-    this.before = made.length === 0 ? null : element("details", { class: "before" },
-      element("summary", {}, `${counted(made.length, "call")} ${made.length === 1 ? "is" : "are"} made already`), list(made));
-    this.parent.replaceChildren(...[this.course,
-      element("h1", { tabindex: "-1" }, title || name, " ", element("small", {}, counted(this.asking.length, "question"))),
-      ...task.map((it) => element("p", { class: "task" }, withTerms(it, seen))), this.printed, this.drawWay(), this.before,
-      list([...this.cards.values()].slice(made.length)), this.marking].filter(Boolean));
-  }
-
-  /** The way to the state, where it stands below the sheet. */
-  drawWay() {
-    return element("p", { class: "way" }, drawButton("the state that the questions begin in", this.acts.see, "link"));
+    const others = [...this.cards.values()].slice(made.length);
+    this.before = drawBefore(made);
+    this.parent.replaceChildren(...[this.course, ...drawTask(title || name, counted(this.asking.length, "question"), task), this.printed,
+      drawWay("the state that the questions begin in", this.acts.see), this.before,
+      element("ol", { class: "cards" }, others.map((card) => card.element)), this.marking].filter(Boolean));
   }
 
   /** Puts the focus on the title, and the sheet at its beginning. */

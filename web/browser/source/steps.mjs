@@ -27,9 +27,9 @@ export class Steps {
     return this.loaded !== null && this.loaded === this.frame.contentWindow;
   }
 
-  /** Shows a trace at a call, or at the call that was shown before where none is given. */
-  show(trace, name, number) {
-    this.told = { trace, name, number, canAsk: this.canAsk };
+  /** Shows a trace at a call, or at the call that was shown before where none is given; `how` says what can be done with it. */
+  show(trace, name, number, how = { canAsk: this.canAsk }) {
+    this.told = { trace, name, number, ...how };
     this.tell(this.told);
   }
 

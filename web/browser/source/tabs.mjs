@@ -1,6 +1,6 @@
 // What the program can do, each in a tab. A new subcommand is one entry of TABS; where its text is to be shown in a way
 // of its own, `show` says how.
-import { dim, element } from "../../page/source/element.mjs";
+import { button, dim, element } from "../../page/source/element.mjs";
 import { drawAudit } from "./audit.mjs";
 import { drawEver, threadsTold } from "./ever.mjs";
 import { drawNever, isNever } from "./never.mjs";
@@ -70,8 +70,7 @@ function showSteps(page, panel, text) {
 
 /** A set-up that the program wrote, which can take the place of the one in the editor. */
 function showSetup(page, panel, text) {
-  const take = element("button", { type: "button" }, "edit this set-up");
-  take.addEventListener("click", () => page.open(text, page.name));
+  const take = button("edit this set-up", () => page.open(text, page.name));
   panel.replaceChildren(element("p", {}, take, " ", dim("it takes the place of the one in the editor")),
     element("pre", { tabindex: "0", "aria-label": "The set-up in format 2" }, text));
 }

@@ -27,6 +27,7 @@ import drawn  # noqa: E402
 import firefox  # noqa: E402
 import first_minute  # noqa: E402
 import gives_nothing_away  # noqa: E402
+import goals_reached  # noqa: E402
 import hearing  # noqa: E402
 import held  # noqa: E402
 import helped  # noqa: E402
@@ -174,7 +175,7 @@ OPEN = """(async () => {
 def longest(program, folder, stored):
     """65,536 calls in time and memory; after a run that is stopped there is another; memory past 1 GiB is refused. In a
     browser of its own, whose memory nothing else has raised."""
-    browser = chromium.Chromium(width=1280, height=800)
+    browser = chromium.Chromium.started(width=1280, height=800)
     test = Tester(browser, program, folder)
     try:
         test.open()
@@ -248,9 +249,7 @@ def typing(test, _):
     test.wanted(browser.value("sel4sim.page.editor.text") == kept, "a shared address does not give the set-up")
     browser.value("sel4sim.page.editor.text = 'format = 2\\n'")
     test.settle()
-    browser.call("Page.reload")
-    browser.value(chromium.LOADED)
-    test.settle()
+    nothing_lost.reload(test)
     test.wanted(browser.value("sel4sim.page.editor.text") == "format = 2\n", "a reload of a shared address drops what was typed")
     test.open("#" + address.split("#")[1])
     test.wanted(browser.value("sel4sim.page.editor.text") == kept, "a shared address that is opened again does not give the set-up")
@@ -523,12 +522,12 @@ def graph(test, _):
 def new_tabs(test, stored):
     """The tabs with options, at two widths."""
     for width in (1280, 390):
-        test.browser.call("Emulation.setDeviceMetricsOverride", width=width, height=844, deviceScaleFactor=1, mobile=width < 400)
+        test.browser.resize(width, 844)
         for check in (reasons, audits, parts, kept_apart, how_it_happens, every_order, graph):
             check(test, stored)
             wide = test.browser.value("document.documentElement.scrollWidth")
             test.wanted(wide <= width, f"{check.__name__}: a window of {width} is overrun: {wide}")
-    test.browser.call("Emulation.clearDeviceMetricsOverride")
+    test.browser.resize_back()
 
 
 def reading(test, _):
@@ -553,10 +552,10 @@ def reading(test, _):
     test.wanted(browser.value("getComputedStyle(document.body).backgroundColor") != light, "the dark theme is not dark")
     browser.call("Emulation.setEmulatedMedia", features=[])
     for width in (390, 800, 1280, 1900):
-        browser.call("Emulation.setDeviceMetricsOverride", width=width, height=844, deviceScaleFactor=1, mobile=width < 400)
+        browser.resize(width, 844)
         wide = browser.value("document.documentElement.scrollWidth")
         test.wanted(wide <= width, f"a window of {width} is overrun: {wide}")
-    browser.call("Emulation.clearDeviceMetricsOverride")
+    browser.resize_back()
 
 
 def trapped(test, _):
@@ -581,7 +580,7 @@ def pictures(test, folder):
     folder.mkdir(parents=True, exist_ok=True)
     for width, height in ((1280, 800), (390, 844)):
         for theme in ("light", "dark"):
-            browser.call("Emulation.setDeviceMetricsOverride", width=width, height=height, deviceScaleFactor=1, mobile=width < 400)
+            browser.resize(width, height)
             browser.call("Emulation.setEmulatedMedia", features=[{"name": "prefers-color-scheme", "value": theme}])
             test.open()
             for name, setup in (("report", "revocation_of_badged_copies"), ("steps", "revocation_of_badged_copies"),
@@ -607,7 +606,7 @@ def pictures(test, folder):
         browser.value(f"document.getElementById('{name}').showModal()")
         picture(browser, folder / f"{name}.png")
         browser.value(f"document.getElementById('{name}').close()")
-    browser.call("Emulation.clearDeviceMetricsOverride")
+    browser.resize_back()
     browser.call("Emulation.setEmulatedMedia", features=[])
     browser.call("Emulation.setEmulatedMedia", media="print")
     picture(browser, folder / "print.png")
@@ -643,7 +642,7 @@ def in_firefox(program, folder, stored):
         pick(test, "examples", "send_then_receive")
         test.click("#tab-steps")
         nothing_lost.refused_then_good(test)
-        for check in (gives_nothing_away.double_click_in_firefox, what_if.each_operation, what_if.branch):
+        for check in (gives_nothing_away.double_click_in_firefox, what_if.each_operation, what_if.branch, goals_reached.by_pointing, goals_reached.other_text):
             check(test, stored)
         print("firefox: " + ("with faults" if test.faults else "all right"), flush=True)
         return test.faults
@@ -678,7 +677,7 @@ def main():
     program, setups = os.path.abspath(sys.argv[1]), pathlib.Path(sys.argv[2])
     stored = (setups / "examples" / "send_then_receive.toml").read_bytes()
     folder = tempfile.mkdtemp(prefix="browser_test_")
-    browser = chromium.Chromium(width=1280, height=800)
+    browser = chromium.Chromium.started(width=1280, height=800)
     test = Tester(browser, program, folder)
     is_short = "--short" in sys.argv
     try:
@@ -689,7 +688,7 @@ def main():
         same_answers(test, setups)
         marks(test, setups)
         for check in (same_with_options, typing, *first_minute.CHECKS, *nothing_lost.CHECKS, *gives_nothing_away.CHECKS, *helped.CHECKS, *sheets.CHECKS, *teacher.CHECKS,
-                      *hearing.CHECKS, *lectures.CHECKS, *drawn.CHECKS, *what_if.CHECKS, *held.CHECKS, files, tabs, new_tabs, reading, trapped, nothing_leaves):
+                      *hearing.CHECKS, *lectures.CHECKS, *drawn.CHECKS, *what_if.CHECKS, *goals_reached.CHECKS, *held.CHECKS, files, tabs, new_tabs, reading, trapped, nothing_leaves):
             check(test, stored)
         if not is_short:
             hostile(test, setups, stored)

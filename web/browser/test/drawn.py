@@ -1,6 +1,4 @@
 """What the drawings of the steps look like: what differs looks different, in both themes and at any size of a window."""
-import time
-
 from nothing_lost import INSIDE, steps_come
 from tester import pick
 
@@ -93,15 +91,14 @@ def projected_sizes(test, _):
     browser.value(f"{INSIDE}.body.dataset.alone = 'forest'")
     found = []
     for width, height in ((960, 540), (1280, 800), (1920, 1080)):
-        browser.call("Emulation.setDeviceMetricsOverride", width=width, height=height, deviceScaleFactor=1, mobile=False)
-        time.sleep(0.2)
+        browser.resize(width, height)
         sizes = browser.value(SIZES)
         found.append(sizes["sentence"])
         test.wanted(sizes["reason"] == sizes["sentence"], f"at {width} a reason has {sizes['reason']} pixels, and a sentence {sizes['sentence']}")
         test.wanted(all((sizes[it] or 0) >= 0.55 * sizes["sentence"] for it in ("tag", "heading", "legend")), f"at {width} the sizes are {sizes}")
     test.wanted(found == sorted(set(found)) and found[-1] >= 2 * found[0] * 0.9, f"the sentences have {found} pixels")
     browser.value(f"delete {INSIDE}.body.dataset.alone")
-    browser.call("Emulation.clearDeviceMetricsOverride")
+    browser.resize_back()
     browser.value("sel4sim.page.lecture.project(false)")
 
 
@@ -113,11 +110,10 @@ def resized(test, _):
     seen = f"""(() => {{ const inside = {INSIDE}; const [window, first] = ["#forest .forest-scroll", "#forest .node:is(.filled, .emptied)"]
       .map((it) => inside.querySelector(it).getBoundingClientRect()); return first.top >= window.top && first.bottom <= window.bottom; }})()"""
     for height in (1000, 480, 700, 420):
-        browser.call("Emulation.setDeviceMetricsOverride", width=1280, height=height, deviceScaleFactor=1, mobile=False)
-        time.sleep(0.3)
+        browser.resize(1280, height)
         test.wanted(browser.value(seen), f"at a height of {height} what changed is not in sight")
     browser.value(f"delete {INSIDE}.body.dataset.alone")
-    browser.call("Emulation.clearDeviceMetricsOverride")
+    browser.resize_back()
     browser.value("sel4sim.page.lecture.project(false)")
 
 

@@ -14,7 +14,7 @@ def welcomed(test, _):
     comes no more."""
     browser = test.browser
     for width, height in ((1280, 800), (390, 844)):
-        browser.call("Emulation.setDeviceMetricsOverride", width=width, height=height, deviceScaleFactor=1, mobile=width < 400)
+        browser.resize(width, height)
         test.forget()
         test.wanted(browser.value("document.getElementById('welcome').offsetParent !== null"), "nobody is welcomed")
         test.until(f"{INSIDE}?.getElementById('position')?.textContent === 'call 1 of 2'", "the first visit does not see the first call")
@@ -25,7 +25,7 @@ def welcomed(test, _):
         test.settle()
         test.wanted(browser.value("document.body.dataset.tab") == "report", "the first line does not lead to the report")
         test.wanted(browser.value("document.getElementById('editor').offsetParent !== null"), f"at {width} the set-up stays hidden")
-    browser.call("Emulation.clearDeviceMetricsOverride")
+    browser.resize_back()
     test.forget()
     test.click("#welcome-exercise")
     test.until(f"{sheets.SHEET}?.offsetParent !== null", "the welcome leads to no exercise")
@@ -44,17 +44,17 @@ def one_row(test, _):
     shown = "[...document.querySelectorAll('header :is(button, select, input:not(.unseen), label.button)')].filter((it) => it.offsetParent !== null).map((it) => it.id)"
     height = "document.querySelector('header').offsetHeight"
     pick(test, "examples", "revocation_of_badged_copies")
-    browser.call("Emulation.setDeviceMetricsOverride", width=390, height=844, deviceScaleFactor=1, mobile=True)
+    browser.resize(390, 844)
     test.wanted(browser.value(shown) == ["examples", "run", "menu"], f"on a phone the head has {browser.value(shown)}")
     test.wanted(browser.value(height) < 60, f"on a phone the head is {browser.value(height)} pixels high")
     test.click("#menu")
     test.wanted({"name", "save", "share", "show-about"} <= set(browser.value(shown)), f"behind the menu there are {browser.value(shown)}")
     test.click("#menu")
-    browser.call("Emulation.setDeviceMetricsOverride", width=1280, height=800, deviceScaleFactor=1, mobile=False)
+    browser.resize(1280, 800)
     test.wanted(browser.value(height) < 60 and "menu" not in browser.value(shown), f"the head is {browser.value(height)} pixels high")
     field = browser.value("[document.getElementById('name').scrollWidth, document.getElementById('name').clientWidth]")
     test.wanted(field[0] <= field[1], "the name of a set-up is cut")
-    browser.call("Emulation.clearDeviceMetricsOverride")
+    browser.resize_back()
 
 
 def told_words(test, _):
@@ -74,17 +74,18 @@ def ordered(test, _):
     test.settle()
     groups = test.browser.value(GROUPS)
     wanted = ["exercises: capability spaces", "exercises: untyped memory", "exercises: derivation", "exercises: endpoints",
-              "exercises: confinement", "examples: begin here"]
+              "exercises: confinement", "exercises: goals", "examples: begin here"]
     shown = [it for it in groups if it != "what you changed"]
     test.wanted(shown == wanted, f"the list has {shown}")
     test.select("examples", "all")
     shown = test.browser.value(FOUND)
-    test.wanted(shown[:6] == wanted and shown[6] == "examples: more examples", f"all begins with {shown[:7]}")
+    test.wanted(shown[:7] == wanted and shown[7] == "examples: more examples", f"all begins with {shown[:8]}")
     test.wanted(all(it.startswith("why ") for it in shown[-9:-2]), f"all ends with {shown[-9:]}")
     test.browser.press("Escape")
     texts = test.browser.value("sel4sim.page.data.topics.flatMap(({ setups }) => setups.map(({ text }) => text))")
-    for name in sheets.names():
-        test.wanted(sheets.text_of("exercise_answers", name) not in texts, f"the key of {name} is in the page")
+    keys = [*(sheets.SETUPS / "exercise_answers").glob("*.toml"), *(sheets.TOP / "tests" / "answers" / "goals" / "keys").glob("*.toml")]
+    for key in keys:
+        test.wanted(key.read_text() not in texts, f"the key of {key.stem} is in the page")
 
 
 def searched(test, _):

@@ -48,9 +48,9 @@ def double_click(test, _):
     """Who presses "mark my answers" twice by the mouse, quickly or slowly, at any size of the window, gets the marks alone."""
     browser = test.browser
     for width, height, pause in PRESSES:
-        browser.call("Emulation.setDeviceMetricsOverride", width=width, height=height, deviceScaleFactor=1, mobile=width < 400)
+        browser.resize(width, height)
         marks_alone(test, pause, f"after two presses {pause} s apart at {width}")
-    browser.call("Emulation.clearDeviceMetricsOverride")
+    browser.resize_back()
 
 
 def marks_alone(test, pause, when):

@@ -50,6 +50,7 @@ def one_name(test, _):
     words = told["6/4"].removeprefix("6/4 · ")
     test.wanted(any(words in it for it in shown), f"why has no {words!r}")
     test.click("#tab-steps")
+    test.settle()
     test.until("document.querySelector('#panel-steps iframe')?.contentDocument?.getElementById('range')?.max === '10'", "no steps")
     browser.value("sel4sim.page.steps.go(6)")
     inside = "document.querySelector('#panel-steps iframe').contentDocument.getElementById('said').textContent"
@@ -95,7 +96,7 @@ def three_steps(test, _):
     test.wanted(browser.value(MARKING).endswith(f"1 shown. Change what is marked ✗: {other}."), f"it is told {browser.value(MARKING)!r}")
     story = browser.value("sel4sim.page.exercise.story")
     test.wanted(f"hints 3, shown one by one {number}" in story, f"what is handed in tells {story!r}")
-    browser.call("Page.reload")
+    browser.reload()
     test.until(f"{SHEET}?.inert === false && document.querySelector('.answered')", "a reload loses help")
     at_rest(test)
     test.wanted(browser.value("sel4sim.page.exercise.story") == story, "a reload loses what was counted")

@@ -147,7 +147,7 @@ def embedded_steps(test, _):
     steps_come(test, "revocation_of_badged_copies")
     browser.value(f"{INSIDE}.getElementById('on').click()")
     address = address_of(test)
-    browser.call("Emulation.setDeviceMetricsOverride", width=900, height=560, deviceScaleFactor=1, mobile=False)
+    browser.resize(900, 560)
     browser.open(f"{test.site.as_uri()}?embed=steps{address}")
     test.settle()
     test.until(f"{FRAME}?.contentDocument?.getElementById('position')?.textContent === 'call 1 of 13'", "the frame of a lecture's page shows no steps")
@@ -162,7 +162,7 @@ def embedded_steps(test, _):
     browser.press("ArrowRight")
     test.until(f"{INSIDE}.getElementById('position').textContent === 'call 2 of 13'", "in the frame the arrows do not step")
     test.wanted(not browser.value(shown), "a key leads out of the drawings")
-    browser.call("Emulation.clearDeviceMetricsOverride")
+    browser.resize_back()
     test.open()
 
 

@@ -38,8 +38,7 @@ def type_anew(test, text):
 
 
 def reload(test):
-    test.browser.call("Page.reload")
-    test.browser.value(chromium.LOADED)
+    test.browser.reload()
     test.settle()
 
 
@@ -88,9 +87,9 @@ def steps_after_a_refusal(test, _):
     browser = test.browser
     at_step(test, 2)
     for width, is_whole in ((1280, False), (390, False), (1280, True)):
-        browser.call("Emulation.setDeviceMetricsOverride", width=width, height=800, deviceScaleFactor=1, mobile=width < 400)
+        browser.resize(width, 800)
         refused_then_good(test, is_whole)
-    browser.call("Emulation.clearDeviceMetricsOverride")
+    browser.resize_back()
     test.wanted(not browser.complaints, f"behind a refusal the page complains: {browser.complaints[:2]}")
     browser.value("(() => { sel4sim.page.tab.draws = sel4sim.page.tab.show; sel4sim.page.tab.show = () => { throw new Error('of a test'); }; })()")
     pick(test, "examples", "three_clients")
@@ -110,11 +109,11 @@ ROOM = f"""(() => {{
 
 def with_scroll_bars(test, _):
     """Where a browser shows scroll bars, none leads out of the steps, and none stands at the page or below the tabs."""
-    other = test.alike(chromium.Chromium(width=1280, height=800, has_bars=True))
+    other = test.alike(chromium.Chromium.started(width=1280, height=800, has_bars=True))
     try:
         other.open()
         for width, is_wide in ((1280, False), (1024, True), (1600, False)):
-            other.browser.call("Emulation.setDeviceMetricsOverride", width=width, height=700, deviceScaleFactor=1, mobile=False)
+            other.browser.resize(width, 700)
             other.browser.value(f"sel4sim.page.setWide({json.dumps(is_wide)})")
             for name in ("revocation_of_badged_copies", "layout_of_three_components"):
                 pick(other, "examples", name)
@@ -143,7 +142,7 @@ def steps_stand_still(test, _):
     forest alone in the whole window."""
     browser = test.browser
     for height, is_alone in ((800, False), (720, True)):
-        browser.call("Emulation.setDeviceMetricsOverride", width=1280, height=height, deviceScaleFactor=1, mobile=False)
+        browser.resize(1280, height)
         browser.value(f"sel4sim.page.setWide({json.dumps(is_alone)})")
         for name in ("guarded_address_space", "revocation_of_badged_copies"):
             pick(test, "examples", name)
@@ -161,7 +160,7 @@ def steps_stand_still(test, _):
                 test.wanted(not it["isCut"] and not it["isHidden"], f"{name}, call {number} at {height}: {it}")
     browser.value(f"{INSIDE}.body.toggleAttribute('data-alone', false)")
     browser.value("sel4sim.page.setWide(false)")
-    browser.call("Emulation.clearDeviceMetricsOverride")
+    browser.resize_back()
 
 
 def cursor_leads_steps(test, _):

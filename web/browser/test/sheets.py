@@ -3,7 +3,6 @@ marked again. Before all is right no reply of the report is in the page; then ea
 import json
 import pathlib
 import re
-import time
 import tomllib
 
 from nothing_lost import EDITOR, reload
@@ -167,16 +166,16 @@ def each_exercise(test, _):
     """All of them at two widths, the one light and the other one dark."""
     browser = test.browser
     for width, theme in ((1280, "light"), (390, "dark")):
-        browser.call("Emulation.setDeviceMetricsOverride", width=width, height=844, deviceScaleFactor=1, mobile=width < 400)
+        browser.resize(width, 844)
         browser.call("Emulation.setEmulatedMedia", features=[{"name": "prefers-color-scheme", "value": theme}])
         test.forget()
         for name in names():
             do_exercise(test, name)
             wide = browser.value("document.documentElement.scrollWidth")
             test.wanted(wide <= width, f"{name}: a window of {width} is overrun: {wide}")
-        row = browser.value("[...document.querySelectorAll('.course button')].map((it) => it.textContent.split(' ')[1]).join('')")
-        test.wanted(row == "✓" * len(names()), f"the row of exercises is {row}")
-    browser.call("Emulation.clearDeviceMetricsOverride")
+        row = browser.value("[...document.querySelectorAll('.course button')].map((it) => it.textContent.split(' ')[1] ?? '').join('')")
+        test.wanted(row == "✓" * len(names()), f"the row of exercises is {row}, behind which those with a goal are")
+    browser.resize_back()
     browser.call("Emulation.setEmulatedMedia", features=[])
 
 
@@ -337,15 +336,14 @@ def low_window(test, _):
     test.forget()
     open_exercise(test, "09_badges")
     for width, height in ((320, 256), (320, 200), (640, 256), (1280, 300)):
-        browser.call("Emulation.setDeviceMetricsOverride", width=width, height=height, deviceScaleFactor=1, mobile=width < 400)
-        time.sleep(0.2)
+        browser.resize(width, height)
         covered = browser.value(COVERED)
         test.wanted(covered == 0, f"at {width} x {height} {covered} fields are covered")
         still = browser.value(f"['fixed', 'sticky'].includes(getComputedStyle({FRAME}.querySelector('header')).position)")
         test.wanted(not still, f"at {width} x {height} the head of the steps stands still")
         wide = browser.value("document.documentElement.scrollWidth")
         test.wanted(wide <= width, f"a window of {width} is overrun: {wide}")
-    browser.call("Emulation.clearDeviceMetricsOverride")
+    browser.resize_back()
 
 
 def printed_state(test, _):

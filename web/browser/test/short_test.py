@@ -21,6 +21,7 @@ import chromium  # noqa: E402
 import drawn  # noqa: E402
 import first_minute  # noqa: E402
 import gives_nothing_away  # noqa: E402
+import goals_reached  # noqa: E402
 import helped  # noqa: E402
 import lectures  # noqa: E402
 import nothing_lost  # noqa: E402
@@ -31,7 +32,7 @@ from tester import Tester, option  # noqa: E402
 # Those that take a browser of their own, or most of a minute, are left to browser_test.py.
 CHECKS = (*first_minute.CHECKS, *(it for it in nothing_lost.CHECKS if it is not nothing_lost.with_scroll_bars), *gives_nothing_away.CHECKS,
           *helped.CHECKS, sheets.in_turn, sheets.low_window, sheets.printed_state, lectures.embedded_steps, *drawn.CHECKS,
-          *what_if.CHECKS, browser_test.nothing_leaves)
+          *what_if.CHECKS, *goals_reached.CHECKS, browser_test.nothing_leaves)
 
 
 def needs():
@@ -49,7 +50,10 @@ def tried(browser, site, folder):
     test.open()
     for check in CHECKS:
         begun = time.time()
-        check(test, stored)
+        try:
+            check(test, stored)
+        except RuntimeError as fault:
+            test.say(f"{check.__name__}: {fault}")
         if "--times" in sys.argv:
             print(f"{check.__module__}.{check.__name__}: {time.time() - begun:.1f} s", flush=True)
     return test.faults
@@ -65,7 +69,7 @@ def main():
         if not option("--page"):
             site.write_text(build.draft())
         try:
-            browser = chromium.Chromium(width=1280, height=800)
+            browser = chromium.Chromium.started(width=1280, height=800)
         except (OSError, RuntimeError) as fault:
             print(f"the page is not tried: chromium does not start on this machine ({fault})")
             return 0

@@ -81,7 +81,7 @@ def handed_in(test, address, answers, name):
     folder = pathlib.Path(test.folder, name)
     folder.mkdir()
     page = shutil.copy(test.site, folder / "copy of the page.html")
-    browser = chromium.Chromium(width=1280, height=800)
+    browser = chromium.Chromium.started(width=1280, height=800)
     student = test.alike(browser)
     try:
         browser.open(pathlib.Path(page).as_uri() + address)

@@ -1,6 +1,5 @@
 """What if: each of the fifteen operations, asked for in the steps by keys, by the mouse and by touch, while the set-up stays as it is."""
 import json
-import time
 import tomllib
 
 from drawn import at_call
@@ -14,8 +13,8 @@ ASKED = f"{FORM}.querySelector('.asked').textContent"
 LISTS = ("thread", "operation", "slot", "slot to fill")
 
 
-def button(words):
-    return f"[...{FORM}.querySelectorAll('button')].find((it) => it.textContent === {json.dumps(words)})"
+def button(words, form=FORM):
+    return f"[...{form}.querySelectorAll('button')].find((it) => it.textContent === {json.dumps(words)})"
 
 
 def open_form(test):
@@ -23,9 +22,9 @@ def open_form(test):
     test.until(f"!{FORM}.hidden", "what if does not open")
 
 
-def choose(test, label, value):
+def choose(test, label, value, form=FORM):
     """Chooses in a list of the form, or types into a field of it, as the keys do."""
-    test.browser.value(f"(() => {{ const field = [...{FORM}.querySelectorAll('select, input')].find((it) => (it.getAttribute('aria-label') ?? it.value) === {json.dumps(label)});"
+    test.browser.value(f"(() => {{ const field = [...{form}.querySelectorAll('select, input')].find((it) => (it.getAttribute('aria-label') ?? it.value) === {json.dumps(label)});"
                        f" if (field.type === 'checkbox') field.checked = {json.dumps(value)}; else field.value = {json.dumps(value)};"
                        " field.dispatchEvent(new Event('input', { bubbles: true })); })()")
 
@@ -90,6 +89,7 @@ def each_operation(test, _):
         test.wanted(got and got[0] == reply and told in got[1], f"{operation}: {got}, and not {reply}, {told}")
         test.wanted(got and got[1].startswith("what if 1"), f"{operation} is not told as what is asked for: {got}")
         test.wanted(browser.value(f"{EDITOR}.text") == text, f"{operation} changes the set-up")
+        test.wanted(browser.value(f"!{button('take back')}.hidden && !{button('keep')}.hidden"), f"{operation} asked for behind boot can be neither kept nor taken back")
         browser.value(f"{INSIDE}.getElementById('back').click()")
         test.until(f"{POSITION} === 'boot, 2 calls'", f"{operation}: a step back does not leave it")
 
@@ -108,6 +108,21 @@ def named_by_the_thread(test, _):
     test.wanted(got and "cap = 1," in browser.value(ASKED) and "waiting" == got[0], f"the driver sends as {browser.value(ASKED)}: {got}")
     test.wanted(ask(test, 4096, "send", root(6)) is None and "cannot name that slot" in browser.value(ASKED),
                 f"a slot that no word leads to is named as {browser.value(ASKED)}")
+
+
+def by_which_thread(test, _):
+    """A call is made, until a thread is chosen, by the one that makes the next call, where it is ready; of one that is not, the list says so."""
+    browser = test.browser
+    at_call(test, "examples", "revocation_of_badged_copies", 7)
+    browser.value(f"{FORM}.hidden || {button('close')}.click()")
+    open_form(test)
+    threads = f"{FORM}.querySelector('select[aria-label=thread]')"
+    shown = browser.value(f"[{threads}.value, [...{threads}.options].map((it) => it.textContent)]")
+    test.wanted(shown == ["2048", ["2048 server", "4096 first (sending)", "6144 second (sending)"]], f"behind call 7 the threads are {shown}")
+    choose(test, "thread", "4096")
+    browser.value(f"{INSIDE}.getElementById('back').click()")
+    test.until(f"{POSITION}.startsWith('call 6 ')", "there is no step back")
+    test.wanted(browser.value(f"{threads}.value") == "4096", f"a step takes the thread that was chosen: {browser.value(f'{threads}.value')}")
 
 
 def branch(test, _):
@@ -144,9 +159,9 @@ def branch(test, _):
         test.until(f"{POSITION} === 'call {number} of {len(calls)}'", f"{name}: what is taken back does not lead to where it was asked for")
 
 
-def centre(test, expression):
+def centre(test, expression, frame=FRAME):
     """Where an element of the steps stands in the window, brought into sight."""
-    return test.browser.value(f"(() => {{ const it = {expression}; it.scrollIntoView({{ block: 'center' }}); const [one, frame] = [it, {FRAME}].map((each) =>"
+    return test.browser.value(f"(() => {{ const it = {expression}; it.scrollIntoView({{ block: 'center' }}); const [one, frame] = [it, {frame}].map((each) =>"
                               " each.getBoundingClientRect()); return [frame.left + one.left + one.width / 2, frame.top + one.top + one.height / 2]; })()")
 
 
@@ -155,11 +170,11 @@ def pointed(test, _):
     browser = test.browser
     for width, height, press in ((1280, 800, browser.click_at), (390, 844, browser.tap_at)):
         is_phone = width < 400
-        browser.call("Emulation.setDeviceMetricsOverride", width=width, height=height, deviceScaleFactor=1, mobile=is_phone)
+        browser.resize(width, height)
         browser.call("Emulation.setTouchEmulationEnabled", enabled=is_phone)
         at_call(test, "examples", "two_clients_by_badge", 2)
         browser.value(f"sel4sim.page.lecture.project(true), {FORM}.hidden || {button('close')}.click()")
-        time.sleep(0.3)
+        browser.laid_out()
         if is_phone:
             press(*centre(test, f"{INSIDE}.getElementById('more')"))
         press(*centre(test, f"{INSIDE}.getElementById('ask')"))
@@ -176,7 +191,7 @@ def pointed(test, _):
         test.wanted(wide[0] <= wide[1], f"at {width} what if overruns its window: {wide}")
         browser.value("sel4sim.page.lecture.project(false)")
     browser.call("Emulation.setTouchEmulationEnabled", enabled=False)
-    browser.call("Emulation.clearDeviceMetricsOverride")
+    browser.resize_back()
 
 
 def by_keys(test, _):
@@ -207,4 +222,4 @@ def by_keys(test, _):
     pick(test, "examples", "send_then_receive")
 
 
-CHECKS = (each_operation, named_by_the_thread, branch, pointed, by_keys)
+CHECKS = (each_operation, named_by_the_thread, by_which_thread, branch, pointed, by_keys)

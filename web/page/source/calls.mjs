@@ -1,5 +1,6 @@
 // The list of calls. Only the rows in sight are in the page, since a run may have 65,536 calls.
 import { dim, element } from "./element.mjs";
+import { wasAskedFor } from "./calls_to_ask.mjs";
 
 const ROW_HEIGHT = 44;
 const ROWS_AROUND = 10;
@@ -45,7 +46,7 @@ function drawCall(trace, step, isTold, current) {
   const { number, changes } = step;
   const count = trace.steps.length;
   const reply = isTold ? step.reply : "";
-  const isBranch = trace.branch !== undefined && number > trace.branch;
+  const isBranch = wasAskedFor(trace, number);
   const look = `call${current ? " current" : ""}${reply.startsWith("refused") ? " refused" : ""}${isBranch ? " branch" : ""}`;
   const attributes = { class: look, role: "option", id: `call-${number}`, "aria-selected": String(current),
     "aria-setsize": count, "aria-posinset": number + 1, "data-number": number };

@@ -1,6 +1,9 @@
 // The calls that a reader can ask for by pointing at a slot: what each of the fifteen operations takes, and how it is written.
 import { nodeFor, placeFor, wordFor } from "./naming.mjs";
 
+/** Whether a call of a trace was asked for: it stands behind those of the set-up, and is not the goal of an exercise. */
+export const wasAskedFor = ({ branch, yours }, number) => branch !== undefined && number > branch && number !== yours?.goal;
+
 const ENDPOINT = { slot: "by the slot" };
 const SOURCE = { slot: "the slot", to: "into the slot" };
 /** For each operation what the slots are for, and which fields it has besides. */

@@ -12,6 +12,16 @@ export function element(kind, attributes, ...children) {
   return made;
 }
 
+/** A button with what it does when it is pressed. */
+export function button(words, act, attributes = {}) {
+  const made = element("button", { type: "button", ...attributes }, words);
+  made.addEventListener("click", act);
+  return made;
+}
+
+/** A button in the corner of a drawing that saves it. */
+export const drawSaver = (words, save) => button("⤓", save, { class: "saver", title: words, "aria-label": words });
+
 /** A text in dim letters. */
 export const dim = (...children) => element("span", { class: "dim" }, ...children);
 

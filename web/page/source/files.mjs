@@ -35,9 +35,9 @@ export function askParent(asked, told = {}) {
   window.parent.postMessage({ asked, ...told }, "*");
 }
 
-/** Saves a text as a file. */
-export function saveFile(text, name) {
-  const address = URL.createObjectURL(new Blob([text], { type: "image/svg+xml" }));
+/** Saves a text, or bytes, as a file. */
+export function saveFile(content, name) {
+  const address = URL.createObjectURL(new Blob([content], { type: name.endsWith(".svg") ? "image/svg+xml" : "" }));
   const link = document.createElement("a");
   Object.assign(link, { href: address, download: name });
   link.click();

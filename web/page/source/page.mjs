@@ -12,7 +12,7 @@ import { drawThreadsAndEndpoints } from "./threads.mjs";
 import { askParent, listenToFiles, listenToParent, saveFile, tellParent } from "./files.mjs";
 import { listenToKeys } from "./keys.mjs";
 import { readAudits } from "./audits.mjs";
-import { element } from "./element.mjs";
+import { drawSaver } from "./element.mjs";
 import { pictureOf } from "./picture.mjs";
 import { readTrace } from "./trace.mjs";
 import { redraw } from "./redraw.mjs";
@@ -50,7 +50,7 @@ class Page {
     this.trace = { steps: [] };
     this.player = new Player(byId("play"), this);
     this.whatIf = new WhatIf(byId("what-if"), { ask: (pairs) => askParent("call", { pairs, number: this.number }), keep: () => askParent("keep"),
-      takeBack: () => askParent("take back") });
+      takeBack: () => askParent("take back", { number: this.number }) });
   }
 
   /** Whether the page around this one runs calls that are asked for. */
@@ -68,7 +68,7 @@ class Page {
     try {
       const [trace, notice] = fitting(readTrace(text));
       if (trace.steps.length === 0) throw new Error(notice);
-      this.trace = { ...trace, told: wordsOfSteps(trace), audits: readAudits(audits), branch: this.branchFrom };
+      this.trace = { ...trace, told: wordsOfSteps(trace), audits: readAudits(audits), branch: this.branchFrom, yours: this.yours };
       this.views = new Views(this.trace);
       this.say(notice);
     } catch (error) {
@@ -83,10 +83,13 @@ class Page {
     this.show(number);
   }
 
-  /** Opens what the page around this one tells; calls may be asked for, and those behind `branch` were. */
-  openTold({ trace, number, name, branch, canAsk }) {
+  /** Opens what the page around this one tells; calls may be asked for, and those behind `branch` were. In an exercise with a goal they are
+      those of its reader, `yours`. */
+  openTold({ trace, number, name, branch, canAsk, yours }) {
     byId("ask").hidden = !canAsk;
-    this.branchFrom = branch;
+    byId("ask").textContent = yours ? "your call" : "what if";
+    Object.assign(this, { branchFrom: branch, yours });
+    this.whatIf.take(yours, canAsk);
     this.open(trace, number ?? this.number, name);
   }
 
@@ -191,13 +194,10 @@ class Page {
 
   /** A button that saves a part of the page as a picture. */
   drawSaver(id) {
-    const words = `Save this picture: ${id}, as SVG`;
-    const saver = element("button", { type: "button", class: "saver", title: words, "aria-label": words }, "⤓");
-    saver.addEventListener("click", () => {
+    return drawSaver(`Save this picture: ${id}, as SVG`, () => {
       const name = byId("name").textContent;
       saveFile(pictureOf(byId(id), `${byId(id).getAttribute("aria-label")} ${this.behindWhat} of ${name}`), `${name}.call_${this.number}.${id}.svg`);
     });
-    return saver;
   }
 
   /** Draws a part of the page anew, where it differs. */

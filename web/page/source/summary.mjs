@@ -6,6 +6,7 @@ import { meaningOf } from "./refusals.mjs";
 import { sentenceOf } from "./sentence.mjs";
 import { sumsOf } from "./sums.mjs";
 import { drawWaysOfWords } from "./ways.mjs";
+import { wasAskedFor } from "./calls_to_ask.mjs";
 
 // Of more changes of one kind than this, the first few are told and the others counted.
 const MOST_CHANGES = 24;
@@ -154,8 +155,9 @@ function expectationMark(expectation) {
 /** The sentence, the reply, and why the call is refused: what a screen reader says at each step. */
 export function drawSentence(view) {
   const { step, changes } = view;
-  const isBranch = view.trace.branch !== undefined && step.number > view.trace.branch;
-  const sentence = element("p", { id: "sentence" }, isBranch ? [element("span", { class: "tag branch" }, "what if"), " "] : null, sentenceOf(view));
+  const { trace } = view;
+  const told = wasAskedFor(trace, step.number) ? [element("span", { class: "tag branch" }, trace.yours ? "your call" : "what if"), " "] : null;
+  const sentence = element("p", { id: "sentence" }, told, sentenceOf(view));
   if (step.number === 0) return [sentence];
   if (view.isAsked) return [sentence, element("p", {}, dim("What does it change? The same key, or button, shows it."))];
   const look = step.reply.startsWith("refused") ? "reply refused" : "reply";
@@ -164,10 +166,10 @@ export function drawSentence(view) {
     : step.changes.every(isOrder) ? "The order of siblings changed." : countedChanges(changes);
   const reply = element("p", {}, element("span", { class: look }, step.reply), " ", meaningOf(step.reply), " ",
     expectationMark(step.expectation), " ", dim(changed));
-  const told = [sentence, reply, ...drawWaysOfWords(view)];
-  if (step.reasons.length === 0) return told;
+  const shown = [sentence, reply, ...drawWaysOfWords(view)];
+  if (step.reasons.length === 0) return shown;
   const reasons = step.reasons.map((reason) => element("li", { class: "code" }, reason));
-  return [...told, element("ul", { class: "reasons", "aria-label": "Why it is refused" }, reasons)];
+  return [...shown, element("ul", { class: "reasons", "aria-label": "Why it is refused" }, reasons)];
 }
 
 /** What changed, one line for each thing. */

@@ -1,7 +1,7 @@
 // "What if": a call that the set-up does not have, asked for by pointing at slots in the drawings or by choosing them in lists. The page
 // around this one has it run behind the calls so far.
-import { OPERATIONS, callOf } from "./calls_to_ask.mjs";
-import { dim, element } from "./element.mjs";
+import { OPERATIONS, callOf, wasAskedFor } from "./calls_to_ask.mjs";
+import { button, dim, element } from "./element.mjs";
 
 /** CNodes of more slots than this have their full slots alone in the lists. */
 const MOST_EMPTY = 64;
@@ -33,6 +33,14 @@ function slotsOf(view) {
     ...empty.map((address) => [address, wordsOfSlot(view, address)])];
 }
 
+/** By which of some threads a call would be made here: the one that makes the next call, or made the last one, where it is ready; else the
+    first that is. */
+function threadFor({ step, trace: { steps } }, threads) {
+  const ready = threads.filter(({ state }) => state === "ready").map(({ address }) => address);
+  const wanted = [steps[step.number + 1]?.thread, step.thread].map(Number);
+  return wanted.find((address) => ready.includes(address)) ?? ready[0] ?? threads[0]?.address;
+}
+
 /** Gives a list other options; what was chosen stays, where it is still there. */
 function fill(list, options) {
   const { value } = list;
@@ -43,17 +51,18 @@ function fill(list, options) {
 export class WhatIf {
   /** `acts` has what is done with a call that is asked for, `ask`; and `keep` and `takeBack` with those that were. */
   constructor(section, acts) {
-    Object.assign(this, { section, acts, view: null, pressed: "slot", fields: {} });
+    Object.assign(this, { section, acts, view: null, pressed: "slot", fields: {}, yours: undefined, isThreadChosen: false });
     const list = (label) => element("select", { "aria-label": label });
     Object.assign(this, { thread: list("thread"), operation: list("operation"), slot: list("slot"), to: list("slot to fill") });
     this.rights = RIGHTS.map((right) => element("input", { type: "checkbox", value: right, checked: true }));
     this.more = element("span", { class: "asked-fields" });
     this.said = element("p", { class: "asked", role: "status" });
     [this.asker, this.keeper, this.taker, this.closer] = [["try it", () => this.ask()], ["keep", acts.keep], ["take back", acts.takeBack],
-      ["close", () => this.toggle(false)]].map(([words, act]) => this.button(words, act));
+      ["close", () => this.toggle(false)]].map(([words, act]) => button(words, act));
+    this.title = element("b", {}, "what if");
     this.slotLabel = element("span", {});
     this.toLabel = element("span", {});
-    section.append(element("form", { class: "asking" }, element("b", {}, "what if"), this.thread, this.operation,
+    section.append(element("form", { class: "asking" }, this.title, this.thread, this.operation,
       element("label", {}, this.slotLabel, this.slot), element("label", {}, this.toLabel, this.to), this.more, this.asker, this.keeper, this.taker,
       this.closer), this.said);
     fill(this.operation, Object.keys(OPERATIONS).map((it) => [it, it]));
@@ -66,25 +75,39 @@ export class WhatIf {
     this.drawFields();
   }
 
-  button(words, act) {
-    const made = element("button", { type: "button" }, words);
-    made.addEventListener("click", act);
-    return made;
-  }
-
   get isOpen() {
     return !this.section.hidden;
   }
 
   /** Opens the form, or closes it. */
   toggle(isOpen = !this.isOpen) {
-    this.section.hidden = !isOpen;
-    document.body.toggleAttribute("data-asking", isOpen);
+    this.setOpen(isOpen);
+    this.isThreadChosen = false;
     if (isOpen) {
       this.show(this.view);
       this.startAt(this.view.named);
       this.operation.focus();
     }
+  }
+
+  setOpen(isOpen) {
+    this.section.hidden = !isOpen;
+    document.body.toggleAttribute("data-asking", isOpen);
+  }
+
+  /** Takes what the form is for: what if, or the calls of an exercise with a goal, `yours`, of some threads or of all; for these it is
+      open at first. */
+  take(yours, canAsk) {
+    const isNew = this.yours === undefined && yours !== undefined;
+    if (isNew || !canAsk) this.setOpen(isNew && canAsk);
+    this.yours = yours;
+    this.title.textContent = yours ? "your call" : "what if";
+    this.section.setAttribute("aria-label", yours ? "Your call" : "What if");
+  }
+
+  /** Whether a thread makes calls that are asked for. */
+  canCall(thread) {
+    return this.yours?.threads?.includes(String(thread)) ?? true;
   }
 
   /** Begins with the slot that the call before was about, where it named one. */
@@ -94,26 +117,27 @@ export class WhatIf {
     this.tell();
   }
 
-  /** Has the lists show the state of a view, and by which thread the call is made: at first the one that made the last call. */
+  /** Has the lists show the state of a view, and by which thread the call is made, until one is chosen. */
   show(view) {
     this.view = view;
     if (!this.isOpen || view === null) return;
     const { names } = view.trace;
-    const threads = view.state.sorted("thread").map(({ address }) => [address, [address, ...(names.get(String(address)) ?? [])].join(" ")]);
-    const isFirst = this.thread.options.length === 0;
-    fill(this.thread, threads);
-    if (isFirst && threads.some(([address]) => String(address) === view.step.thread)) this.thread.value = view.step.thread;
+    const threads = view.state.sorted("thread").filter(({ address }) => this.canCall(address));
+    fill(this.thread, threads.map(({ address, state }) =>
+      [address, [address, ...(names.get(String(address)) ?? []), ...(state === "ready" ? [] : [`(${state})`])].join(" ")]));
+    if (!this.isThreadChosen) this.thread.value = String(threadFor(view, threads));
     const slots = slotsOf(view);
     fill(this.slot, slots);
     fill(this.to, slots);
-    const number = view.trace.branch && view.step.number > view.trace.branch;
-    this.keeper.hidden = !number;
-    this.taker.hidden = !number;
+    const isAsked = wasAskedFor(view.trace, view.step.number);
+    this.keeper.hidden = !isAsked || this.yours !== undefined;
+    this.taker.hidden = !isAsked;
     this.tell();
   }
 
   changed(target) {
     if (target === this.operation) this.drawFields();
+    if (target === this.thread) this.isThreadChosen = true;
     this.tell();
   }
 
@@ -150,7 +174,10 @@ export class WhatIf {
 
   /** A thread that was pressed makes the call. */
   pressThread(thread) {
-    this.thread.value = String(thread);
+    if (this.canCall(thread)) {
+      this.isThreadChosen = true;
+      this.thread.value = String(thread);
+    }
     this.tell();
   }
 
@@ -169,7 +196,7 @@ export class WhatIf {
     this.asker.disabled = told.fault !== undefined && fault === undefined;
     const { to } = OPERATIONS[this.operation.value];
     const named = (list) => list.selectedOptions[0]?.textContent.split(" · ")[0] ?? "";
-    const said = `${this.thread.selectedOptions[0]?.textContent} asks to ${this.operation.value} ${this.slotLabel.textContent} ${named(this.slot)}`
+    const said = `${this.thread.selectedOptions[0]?.textContent.replace(/ \(\w+\)$/u, "")} asks to ${this.operation.value} ${this.slotLabel.textContent} ${named(this.slot)}`
       + `${to ? `, ${to} ${named(this.to)}` : ""}.`;
     this.said.replaceChildren(said, " ", told.fault ?? dim((told.pairs ?? []).map(([key, value]) => `${key} = ${value}`).join(", ")));
     this.said.classList.toggle("fault", told.fault !== undefined);

@@ -4,6 +4,7 @@ Every name is made unknown to it. What the browser asks for itself (the time, up
 does not exist. Its page stands in a context of its own, whose proxy is a recorder on this machine: it keeps the first
 line of whatever asks for a connection, and gives no answer.
 """
+import contextlib
 import fcntl
 import itertools
 import json
@@ -15,13 +16,34 @@ import subprocess
 import sys
 import tempfile
 import threading
+import time
 
 PROGRAMS = ("chromium", "chromium-browser", "google-chrome")
 SECONDS = 600
+# A browser that says nothing for so long after it was started is ended, and another one is started, so often.
+SECONDS_TO_START = 120
+STARTS = 3
+# A window that is narrower is that of a phone.
+PHONE = 400
 NOBODY = "127.0.0.1:1"
 BECOME = "import os, sys; _, read, write, *words = sys.argv; os.dup2(int(read), 3); os.dup2(int(write), 4); " \
     "os.execv(words[0], words)"
 LOADED = "new Promise((done) => document.readyState === 'complete' ? done() : addEventListener('load', done))"
+# Waits until a window has a size, for a while, and then until it and its frames were laid out and told.
+LAID_OUT = """new Promise((done) => {
+  const end = performance.now() + 10_000;
+  const drawn = () => requestAnimationFrame(() => requestAnimationFrame(done));
+  const look = () => (HOLDS || performance.now() > end ? drawn() : setTimeout(look, 10));
+  setTimeout(done, 20_000);
+  look();
+})"""
+# Notes in the page, and in its frames, that a click came.
+CLICKED = """(() => {
+  window.wasClicked = false;
+  for (const it of [window, ...Array.from({ length: frames.length }, (_, at) => frames[at])]) {
+    it.addEventListener("click", () => { window.wasClicked = true; }, { capture: true, once: true });
+  }
+})()"""
 QUIET = [
     "--headless=new", "--no-first-run", "--no-default-browser-check", "--disable-background-networking",
     "--disable-component-update", "--disable-default-apps", "--disable-sync", "--disable-extensions", "--disable-gpu",
@@ -66,7 +88,7 @@ class Chromium:
     """A browser with one page. `asked` has the addresses that its page asked for, `denied` what its policy denied."""
 
     def __init__(self, *, width=1200, height=800, has_bars=False):
-        self.has_bars = has_bars
+        self.has_bars, self.seconds = has_bars, SECONDS_TO_START
         self.recorder = Recorder()
         self.folder = tempfile.mkdtemp(prefix="page_test_")
         self.numbers = itertools.count(1)
@@ -83,7 +105,20 @@ class Chromium:
         self.out, self.into = os.fdopen(our_write_end, "wb"), os.fdopen(our_read_end, "rb")
         self.waiting = b""
         self.session = self.context = None
-        self.attach()
+        try:
+            self.attach()
+        except (OSError, RuntimeError):
+            self.end(0)
+            raise
+        self.seconds = SECONDS
+
+    @classmethod
+    def started(cls, **how):
+        """A browser; where one does not come, as it happens on a machine that is busy, another one is started."""
+        for _ in range(STARTS - 1):
+            with contextlib.suppress(OSError, RuntimeError):
+                return cls(**how)
+        return cls(**how)
 
     def command(self, width, height):
         root = ["--no-sandbox"] if os.getuid() == 0 else []
@@ -118,10 +153,10 @@ class Chromium:
     def message(self):
         """The next message of the browser."""
         while b"\0" not in self.waiting:
-            ready, _, _ = select.select([self.into], [], [], SECONDS)
+            ready, _, _ = select.select([self.into], [], [], self.seconds)
             read = os.read(self.into.fileno(), 1 << 20) if ready else b""
             if not ready:
-                raise RuntimeError(f"the browser gave no answer for {SECONDS} seconds")
+                raise RuntimeError(f"the browser gave no answer for {self.seconds} seconds")
             if not read:
                 raise RuntimeError("the browser ended")
             self.waiting += read
@@ -174,6 +209,41 @@ class Chromium:
         self.call("Page.navigate", url=url)
         self.value(LOADED)
 
+    def reload(self):
+        """Loads the page anew, and waits until it is loaded."""
+        self.value("void (window.isBefore = true)")
+        self.call("Page.reload")
+        until = time.time() + self.seconds
+        while self.is_before():
+            if time.time() > until:
+                raise RuntimeError("the page is not loaded anew")
+            time.sleep(0.02)
+        self.value(LOADED)
+
+    def is_before(self):
+        """Whether the page is still the one that is to be loaded anew, or neither."""
+        try:
+            return self.value("window.isBefore === true")
+        except RuntimeError:
+            if self.process.poll() is not None:
+                raise
+            return True
+
+    def laid_out(self, holds="true"):
+        """Waits until what was changed is drawn, and something holds of it."""
+        self.value(LAID_OUT.replace("HOLDS", holds))
+
+    def resize(self, width, height, *, is_phone=None):
+        """Gives the window a size, and waits until the page has it."""
+        is_phone = width < PHONE if is_phone is None else is_phone
+        self.call("Emulation.setDeviceMetricsOverride", width=width, height=height, deviceScaleFactor=1, mobile=is_phone)
+        self.laid_out(f"matchMedia('(width: {width}px){'' if is_phone else f' and (height: {height}px)'}').matches")
+
+    def resize_back(self):
+        """Gives the window the size again that it has by itself."""
+        self.call("Emulation.clearDeviceMetricsOverride")
+        self.laid_out()
+
     def press(self, key, *, shift=False):
         """Presses a key, as a reader would."""
         code = {"Enter": 13, "Home": 36, "End": 35, "PageUp": 33, "PageDown": 34, "ArrowLeft": 37, "ArrowUp": 38,
@@ -197,15 +267,27 @@ class Chromium:
 
     def tap_at(self, left, top):
         """Taps with a finger at a place of the window."""
+        self.value(CLICKED)
         self.call("Input.dispatchTouchEvent", type="touchStart", touchPoints=[{"x": left, "y": top}])
         self.call("Input.dispatchTouchEvent", type="touchEnd", touchPoints=[])
+        # The browser makes a click of a tap behind its last event.
+        self.laid_out("window.wasClicked")
 
     def close(self):
         self.session = None
-        try:
+        with contextlib.suppress(RuntimeError, OSError):
             self.call("Browser.close")
-        except (RuntimeError, OSError):
-            pass
-        self.process.wait(SECONDS)
+        self.end(SECONDS)
+
+    def end(self, seconds):
+        """Ends the browser, where it does not end by itself within some seconds, and forgets what it kept."""
+        try:
+            self.process.wait(seconds)
+        except subprocess.TimeoutExpired:
+            self.process.kill()
+            self.process.wait()
+        with contextlib.suppress(OSError):
+            self.out.close()
+        self.into.close()
         self.recorder.close()
         shutil.rmtree(self.folder, ignore_errors=True)

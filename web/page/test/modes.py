@@ -26,7 +26,7 @@ def phone(browser, _, folder):
     """At a phone's width the bar with the buttons stays at the top, these are large enough, the call's sentence is in
     sight, and the list of calls is shown when it is asked for."""
     for width, height in PHONES:
-        browser.call("Emulation.setDeviceMetricsOverride", width=width, height=height, deviceScaleFactor=1, mobile=True)
+        browser.resize(width, height, is_phone=True)
         open_run(browser, folder)
         browser.press("End")
         box = "document.getElementById('sentence').getBoundingClientRect().bottom"
@@ -47,7 +47,7 @@ def phone(browser, _, folder):
             yield f"at {width} the list is {folded} high, and {shown} when it is asked for"
         if browser.value("document.documentElement.scrollWidth > innerWidth"):
             yield f"at {width} the page is wider than its window"
-    browser.call("Emulation.clearDeviceMetricsOverride")
+    browser.resize_back()
 
 
 SHOWN_PARTS = """[...document.querySelectorAll('#run section, header, nav, #said, #changed')]

@@ -194,7 +194,7 @@ def main():
     traces = sys.argv[1] == "--traces"
     program = stand_in(folder) if traces else pathlib.Path(sys.argv[1]).resolve()
     setups = sorted(pathlib.Path(sys.argv[2]).resolve().glob("*.trace" if traces else "*.toml"))
-    browser = chromium.Chromium()
+    browser = chromium.Chromium.started()
     try:
         right = step_through(browser, program, setups, folder)
         if not traces:

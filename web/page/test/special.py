@@ -355,10 +355,10 @@ def themes_and_print(browser, _, folder):
         yield "the dark theme is not dark"
     browser.call("Emulation.setEmulatedMedia", features=[])
     for width in (360, 800, 1600):
-        browser.call("Emulation.setDeviceMetricsOverride", width=width, height=800, deviceScaleFactor=1, mobile=False)
+        browser.resize(width, 800, is_phone=False)
         if browser.value("document.documentElement.scrollWidth > innerWidth"):
             yield f"a window of {width} is overrun"
-    browser.call("Emulation.clearDeviceMetricsOverride")
+    browser.resize_back()
     if len(browser.call("Page.printToPDF")["data"]) < 10_000:
         yield "the print is empty"
 
@@ -374,13 +374,6 @@ def without_scripts(browser, _, folder):
         yield f"without scripts a page shows {shown[:200]!r}"
 
 
-def made_by_join(_, page, __):
-    """The pages that stand in the repository are those that join.py makes."""
-    checked = subprocess.run([page / "join.py", "--check"], capture_output=True, text=True, timeout=600)
-    if checked.returncode != 0:
-        yield checked.stdout + checked.stderr
-
-
 def modules(_, page, __):
     """The tests of the modules, without a browser."""
     words = ["node", "--test", page / "test" / "modules.test.mjs"]
@@ -389,7 +382,7 @@ def modules(_, page, __):
         yield tested.stdout + tested.stderr
 
 
-CHECKS = (made_by_join, modules, page_sh, harmless, nothing_leaves, viewer, keys, playing, screen_reader, colours,
+CHECKS = (modules, page_sh, harmless, nothing_leaves, viewer, keys, playing, screen_reader, colours,
           themes_and_print, without_scripts)
 
 
