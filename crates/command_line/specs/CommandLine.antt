@@ -1,7 +1,8 @@
 -- The program's command as clap's definition, and what clap's matches for the words say.
-use Rattle.std.specs.Prelude.{◌≡◌, ◌≢◌, ◌⊎◌, ◌<◌, ◌^◌, ◌&&◌, ◌||◌, ⊤, Bool, nat_le, count_by, unwrap_or, true, false, not, codes, ℕ, List, [], ◌∷◌, Option, Some, None, is_some, option_map, if◌then◌else◌, IfOk, Result}
+use Rattle.std.specs.Prelude.{◌≡◌, ◌≢◌, ◌⊎◌, ◌<◌, ◌^◌, ◌&&◌, ◌||◌, ⊤, Bool, nat_le, count_by, unwrap_or, true, false, not, codes, ℕ, List, [], ◌∷◌, Option, Some, None, is_some, option_map, if◌then◌else◌}
 use Rattle.std.specs.Str.Parse.{IsNumeral, digits_value, without_leading_plus}
 use Rattle.std.specs.Borrow.{Bor}
+use Rattle.std.specs.List.{fold}
 use Rattle.std.specs.Option.{option_or}
 use Rattle.std.specs.Str.{bytes_eq}
 use Rattle.clap.specs.Words.{App, Kinds, Row, Rule, Text, all_of, app_of, rule_of, first_of, matches_of, new_app, new_rule, with_rule, with_subcommand, subcommand_of, takes, fault_of, IsAmong}
@@ -19,6 +20,12 @@ use Rattle.command_line.specs.declared.arguments.Job.TheVariants.{Check, Trace, 
 use Rattle.command_line.specs.declared.arguments.LineFault.{LineFault}
 use Rattle.command_line.specs.declared.arguments.LineFault.TheVariants.{Help, Refused, Conflict, Memory}
 use Rattle.command_line.specs.declared.arguments.Options.{Options}
+use Rattle.command_line.specs.declared.table.CommandRow.{CommandRow}
+use Rattle.command_line.specs.declared.table.OptionRow.{OptionRow}
+use Rattle.command_line.specs.declared.table.Files.{Files}
+use Rattle.command_line.specs.declared.table.Files.TheVariants.{One, Several, Zero}
+use Rattle.command_line.specs.declared.table.Takes.{Takes}
+use Rattle.command_line.specs.declared.table.Takes.TheVariants.{Nothing, Number, Text as TakesText}
 
 -- an argument that has that rule, and which subcommands do not take over
 abbrev pub IsArgument : Rule → Arg → Type 0
@@ -27,10 +34,6 @@ IsArgument rule argument = (rule_of argument ≡ rule) × (argument.global ≡ f
 -- a command that has that definition, and no arguments that subcommands take over
 abbrev pub IsCommand : App → Command → Type 0
 IsCommand app c = (app_of c ≡ app) × ((out-Command c).has_globals ≡ false)
-
--- a command is built from another by what is added to its definition; where memory ran out there is none
-abbrev pub Extends : {E : Type 0} → (App → App) → Result Command E → Result Command E → Type 0
-Extends more before after = (app : App) → IfOk before (IsCommand app) → IfOk after (IsCommand (more app))
 
 -- the argument FILE
 abbrev pub file_rule : Rule
@@ -44,13 +47,15 @@ with_version = on_top (λ s. record s { has_version = true })
 abbrev pub more_files_rule : Rule
 more_files_rule = record (new_rule (codes "FILES")) { action = Some action.Append }
 
--- a subcommand of that name, which has the argument FILE
-abbrev pub with_file : Text → App
-with_file name = with_rule (new_app name) file_rule
+-- a command with the arguments for its files
+abbrev pub with_file_rules : Files → App → App
+with_file_rules Zero app = app
+with_file_rules One app = with_rule app file_rule
+with_file_rules Several app = with_rule (with_rule app file_rule) more_files_rule
 
 -- `sel4sim` with FILE, FILES and a version; clap adds its own subcommand `help`, which no line that is taken has
 abbrev pub bare_command : App
-bare_command = with_rule (with_rule (with_version (new_app (codes "sel4sim"))) file_rule) more_files_rule
+bare_command = with_file_rules Several (with_version (new_app (codes "sel4sim")))
 
 -- a command with one more subcommand
 abbrev pub and_subcommand : App → App → App
@@ -78,65 +83,75 @@ text_rule name = record (new_rule name) {
   value_names = 1;
 }
 
--- the subcommands that take several files
-abbrev pub check_command : App
-check_command = with_rule (with_rule (with_rule (with_file (codes "check")) more_files_rule) (flag_rule (codes "strict"))) (flag_rule (codes "names"))
+-- the subcommand of that name, with these files and these options
+abbrev pub subcommand_with : Text → Files → List Rule → App
+subcommand_with name files options = fold with_rule (with_file_rules files (new_app name)) options
 
--- the subcommand `marks`, whose files can be marked by the questions of another
-abbrev pub marks_command : App
-marks_command = with_rule (with_rule (with_file (codes "marks")) more_files_rule) (text_rule (codes "of"))
+-- the options that several subcommands have
+abbrev pub names_rule : Rule
+names_rule = flag_rule (codes "names")
 
--- the other subcommands that have options
-abbrev pub trace_command : App
-trace_command = with_rule (with_file (codes "trace")) (flag_rule (codes "names"))
+abbrev pub first_rule : Rule
+first_rule = number_rule (codes "first")
 
-abbrev pub threads_command : App
-threads_command = with_rule (with_rule (with_file (codes "threads")) (number_rule (codes "first"))) (flag_rule (codes "names"))
+abbrev pub after_rule : Rule
+after_rule = number_rule (codes "after")
 
-abbrev pub why_command : App
-why_command = with_rule (with_rule (with_file (codes "why")) (number_rule (codes "call"))) (flag_rule (codes "names"))
+abbrev pub states_rule : Rule
+states_rule = number_rule (codes "states")
 
-abbrev pub audit_command : App
-audit_command =
-    with_rule (with_rule (with_rule (with_rule (with_rule (with_rule (with_rule (with_rule (with_rule (with_rule (with_rule (with_rule (with_rule (with_rule (with_rule (with_rule (with_file (codes "audit"))
-    (number_rule (codes "after"))) (text_rule (codes "slot"))) (flag_rule (codes "ever"))) (text_rule (codes "without")))
-    (flag_rule (codes "names"))) (text_rule (codes "messages"))) (text_rule (codes "never"))) (text_rule (codes "by")))
-    (text_rule (codes "policy"))) (flag_rule (codes "draft"))) (text_rule (codes "how"))) (flag_rule (codes "message"))) (flag_rule (codes "hold")))
-    (flag_rule (codes "loss"))) (number_rule (codes "badge"))) (number_rule (codes "states"))
+-- the options of `audit`
+abbrev pub audit_rules : List Rule
+audit_rules =
+    after_rule ∷ text_rule (codes "slot") ∷ flag_rule (codes "ever") ∷ text_rule (codes "without") ∷ names_rule
+    ∷ text_rule (codes "messages") ∷ text_rule (codes "never") ∷ text_rule (codes "by")
+    ∷ text_rule (codes "policy") ∷ flag_rule (codes "draft")
+    ∷ text_rule (codes "how") ∷ flag_rule (codes "message") ∷ flag_rule (codes "hold") ∷ flag_rule (codes "loss") ∷ number_rule (codes "badge") ∷ states_rule
+    ∷ []
 
-abbrev pub explore_command : App
-explore_command =
-    with_rule (with_rule (with_rule (with_rule (with_rule (with_file (codes "explore"))
-    (number_rule (codes "first"))) (number_rule (codes "states"))) (text_rule (codes "witness"))) (flag_rule (codes "ends"))) (flag_rule (codes "names"))
-
-abbrev pub tree_command : App
-tree_command = with_rule (with_rule (with_rule (with_file (codes "tree")) (number_rule (codes "after"))) (flag_rule (codes "dot"))) (flag_rule (codes "names"))
-
--- the subcommand `new`, which reads no file
-abbrev pub new_command : App
-new_command =
-    with_rule (with_rule (with_rule (with_rule (new_app (codes "new"))
-    (text_rule (codes "profile"))) (number_rule (codes "threads"))) (number_rule (codes "endpoints"))) (text_rule (codes "untyped"))
-
-abbrev pub import_command : App
-import_command =
-    with_rule (with_rule (with_rule (with_rule (with_file (codes "import")) (number_rule (codes "shrink"))) (flag_rule (codes "listing")))
-    (flag_rule (codes "flows"))) (text_rule (codes "rights"))
-
--- `sel4sim`, with its first subcommands: those that take several files, `trace` and `migrate`
-abbrev pub plain_command : App
-plain_command =
-    and_subcommand (with_file (codes "migrate"))
-    (and_subcommand trace_command (and_subcommand marks_command (and_subcommand check_command bare_command)))
+-- the subcommands, in the order of the help
+abbrev pub subcommands : List App
+subcommands =
+    subcommand_with (codes "check") Several (flag_rule (codes "strict") ∷ names_rule ∷ [])
+    ∷ subcommand_with (codes "marks") Several (text_rule (codes "of") ∷ [])
+    ∷ subcommand_with (codes "trace") One (names_rule ∷ [])
+    ∷ subcommand_with (codes "migrate") One []
+    ∷ subcommand_with (codes "threads") One (first_rule ∷ names_rule ∷ [])
+    ∷ subcommand_with (codes "why") One (number_rule (codes "call") ∷ names_rule ∷ [])
+    ∷ subcommand_with (codes "audit") One audit_rules
+    ∷ subcommand_with (codes "explore") One (first_rule ∷ states_rule ∷ text_rule (codes "witness") ∷ flag_rule (codes "ends") ∷ names_rule ∷ [])
+    ∷ subcommand_with (codes "tree") One (after_rule ∷ flag_rule (codes "dot") ∷ names_rule ∷ [])
+    ∷ subcommand_with (codes "new") Zero (text_rule (codes "profile") ∷ number_rule (codes "threads") ∷ number_rule (codes "endpoints") ∷ text_rule (codes "untyped") ∷ [])
+    ∷ subcommand_with (codes "import") One (number_rule (codes "shrink") ∷ flag_rule (codes "listing") ∷ flag_rule (codes "flows") ∷ text_rule (codes "rights") ∷ [])
+    ∷ []
 
 -- `sel4sim`, with all its subcommands
 unfoldable pub command : App
-command =
-    and_subcommand import_command
-    (and_subcommand new_command
-    (and_subcommand tree_command
-    (and_subcommand explore_command
-    (and_subcommand audit_command (and_subcommand why_command (and_subcommand threads_command plain_command))))))
+command = fold (λ (app made : App). and_subcommand made app) bare_command subcommands
+
+-- ---- the same of the rows of a table
+
+-- the rule of an option of that name, by what stands behind the name
+abbrev pub rule_taking : Text → Takes → Rule
+rule_taking name Nothing = flag_rule name
+rule_taking name Number = number_rule name
+rule_taking name (TakesText value) = text_rule name
+
+-- the rule of a row
+abbrev pub option_rule : OptionRow → Rule
+option_rule row = rule_taking row.0.now row.1
+
+-- a command with the options of these rows too
+abbrev pub with_option_rules : App → List OptionRow → App
+with_option_rules app rows = fold (λ (wider : App) (row : OptionRow). with_rule wider (option_rule row)) app rows
+
+-- the subcommand of a row
+abbrev pub row_command : CommandRow → App
+row_command row = with_option_rules (with_file_rules row.files (new_app row.name.now)) row.options.now
+
+-- a command with the subcommands of these rows too
+abbrev pub with_row_commands : App → List CommandRow → App
+with_row_commands app rows = fold (λ (wider : App) (row : CommandRow). and_subcommand (row_command row) wider) app rows
 
 -- the job of a subcommand's name
 abbrev pub job_named : Text → Option Job

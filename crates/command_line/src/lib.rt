@@ -6,6 +6,7 @@ mod built;
 mod conflicts;
 mod how;
 mod reading;
+mod table;
 
 pub use arguments::{Job, Line, LineFault, Options};
 pub use reading::{line, refused_line_words};

@@ -4,12 +4,12 @@ ghost use Rattle.std.specs.Str.{bytes_eq};
 ghost use Rattle.clap.specs.Words.{App, Rule, app_of, fault_of, first_of, found_of, rows_of, subcommand_of, subcommand_rows_of, with_rule};
 ghost use Rattle.clap.specs.Values.{kind_of};
 ghost use Rattle.clap.specs.Walk.{texts};
-ghost use Rattle.command_line.specs.CommandLine.{Explains, ExplainsMatches, Extends, HasOptions, IsArgument, IsCommand, Says, StandsFor, agrees, and_subcommand as and_command, audit_command, bare_command, check_command, command as definition, explore_command, file_asked, file_of, file_rule, files_of, flag_rule, import_command, is_set, job_asked, job_named, job_of, lists_one as lists_one_definition, marks_command, more_behind as more_behind_definition, more_files_in, more_files_rule, more_given, names_command, new_command, number_rule, own_rows, plain_command, reads_once, several_asked, several_of, text_rule, threads_command, trace_command, tree_command, why_command, with_file as with_file_definition};
+ghost use Rattle.command_line.specs.CommandLine.{Explains, ExplainsMatches, HasOptions, IsArgument, IsCommand, Says, StandsFor, agrees, and_subcommand as and_command, bare_command, command as definition, file_asked, file_of, file_rule, files_of, is_set, job_asked, job_named, job_of, lists_one as lists_one_definition, more_behind as more_behind_definition, more_files_in, more_files_rule, more_given, names_command, option_rule, own_rows, reads_once, row_command, several_asked, several_of, with_file_rules, with_option_rules, with_row_commands};
 
 use crate::arguments::{Job, Line, LineFault, Options};
 use crate::built::{ABOUT, VERSION};
 use crate::conflicts::conflict_of;
-use crate::how::and_how;
+use crate::table::{COMMANDS, CommandRow, Files, OptionRow, Takes};
 use clap::builder::ValueParser;
 use clap::error::ErrorKind;
 use clap::{Arg, ArgAction, ArgMatches, Command, Error};
@@ -78,32 +78,88 @@ fn more_files<'a>(alloc: Global) -> Arg<'a>
     )
 }
 
-/// A command with one more argument, where there is memory for both.
-pub fn and_argument<'a>(
-    command: Result<Command<'a>, AllocError>,
-    argument: Arg<'a>,
-) -> Result<Command<'a>, AllocError>
-    ensures { (rule : Rule) → IsArgument rule argument.entry → Extends (λ app. with_rule app rule) command.entry result }
+/// A command with one more argument.
+fn and_argument<'a>(command: Command<'a>, argument: Arg<'a>) -> Result<Command<'a>, AllocError>
+    ensures { (app : App) (rule : Rule) → IsCommand app command.entry → IsArgument rule argument.entry → IfOk result (IsCommand (with_rule app rule)) }
 {
-    command?.arg(argument)
+    command.arg(argument)
 }
 
-/// A command with one more subcommand, where there is memory for both.
-fn and_subcommand<'a>(
-    command: Result<Command<'a>, AllocError>,
-    subcommand: Result<Command<'a>, AllocError>,
+/// A command with the arguments for its files.
+fn with_files<'a>(
+    alloc: Global,
+    command: Command<'a>,
+    files: Files,
 ) -> Result<Command<'a>, AllocError>
-    ensures { (made : App) → IfOk subcommand.entry (IsCommand made) → Extends (and_command made) command.entry result }
+    ensures { (app : App) → IsCommand app command.entry → IfOk result (IsCommand (with_file_rules files app)) }
 {
-    let made = subcommand?;
-    command?.subcommand(made)
+    match files {
+        Files::Zero => Ok(command),
+        Files::One => and_argument(command, file(alloc)),
+        Files::Several => and_argument(and_argument(command, file(alloc))?, more_files(alloc)),
+    }
 }
 
-/// A subcommand, which has the argument FILE.
-fn with_file<'a>(alloc: Global, name: &'a str, about: &'a str) -> Result<Command<'a>, AllocError>
-    ensures { IfOk result (IsCommand (with_file_definition name.now)) }
+/// The option of a row.
+fn option<'a>(alloc: Global, row: &OptionRow) -> Arg<'a>
+    ensures { IsArgument (option_rule row.now) result }
 {
-    and_argument(Ok(Command::new(alloc, name).about(about)), file(alloc))
+    let OptionRow(name, takes, help) = *row;
+    let option = Arg::new(alloc, name).long(name).help(help);
+    match takes {
+        Takes::Nothing => option.action(ArgAction::SetTrue),
+        Takes::Number => {
+            let number = ValueParser::Unsigned(0, u64::MAX);
+            option.value_name("N").value_parser(number)
+        }
+        Takes::Text(what) => option.value_name(what),
+    }
+}
+
+/// A command with the options of these rows too, in their order.
+fn with_options<'a>(
+    alloc: Global,
+    command: Command<'a>,
+    rows: &[OptionRow],
+) -> Result<Command<'a>, AllocError>
+    ensures { (app : App) → IsCommand app command.entry → IfOk result (IsCommand (with_option_rules app rows.now)) }
+{
+    let mut wider = command;
+    for row in rows {
+        wider = and_argument(wider, option(alloc, row))?;
+    }
+    Ok(wider)
+}
+
+/// The subcommand of a row.
+fn subcommand<'a>(alloc: Global, row: &CommandRow) -> Result<Command<'a>, AllocError>
+    ensures { IfOk result (IsCommand (row_command row.now)) }
+{
+    let command = Command::new(alloc, row.name).about(row.about);
+    let wider = with_files(alloc, command, row.files)?;
+    with_options(alloc, wider, row.options)
+}
+
+/// A command with one more subcommand.
+fn and_subcommand<'a>(command: Command<'a>, made: Command<'a>) -> Result<Command<'a>, AllocError>
+    ensures { (app sub : App) → IsCommand app command.entry → IsCommand sub made.entry → IfOk result (IsCommand (and_command sub app)) }
+{
+    command.subcommand(made)
+}
+
+/// A command with the subcommands of these rows too, in their order.
+fn with_subcommands<'a>(
+    alloc: Global,
+    command: Command<'a>,
+    rows: &[CommandRow],
+) -> Result<Command<'a>, AllocError>
+    ensures { (app : App) → IsCommand app command.entry → IfOk result (IsCommand (with_row_commands app rows.now)) }
+{
+    let mut wider = command;
+    for row in rows {
+        wider = and_subcommand(wider, subcommand(alloc, row)?)?;
+    }
+    Ok(wider)
 }
 
 /// The command without the subcommands. Clap adds its own, `help`, and the option `--version`.
@@ -114,319 +170,14 @@ fn bare<'a>(alloc: Global) -> Result<Command<'a>, AllocError>
         .version(VERSION)
         .about(ABOUT)
         .after_help(AFTER_HELP);
-    let with_file = and_argument(Ok(command), file(alloc));
-    and_argument(with_file, more_files(alloc))
-}
-
-/// An option that takes a number, by its long name.
-pub fn number<'a>(alloc: Global, name: &'a str, about: &'a str) -> Arg<'a>
-    ensures { IsArgument (number_rule name.now) result }
-{
-    Arg::new(alloc, name)
-        .long(name)
-        .value_name("N")
-        .value_parser(ValueParser::Unsigned(0, u64::MAX))
-        .help(about)
-}
-
-/// An option that takes no value, by its long name.
-pub fn flag<'a>(alloc: Global, name: &'a str, about: &'a str) -> Arg<'a>
-    ensures { IsArgument (flag_rule name.now) result }
-{
-    Arg::new(alloc, name)
-        .long(name)
-        .action(ArgAction::SetTrue)
-        .help(about)
-}
-
-/// An option that takes a text, by its long name.
-pub fn text<'a>(alloc: Global, name: &'a str, value: &'a str, about: &'a str) -> Arg<'a>
-    ensures { IsArgument (text_rule name.now) result }
-{
-    Arg::new(alloc, name)
-        .long(name)
-        .value_name(value)
-        .help(about)
-}
-
-/// The subcommand `why`.
-fn why<'a>(alloc: Global) -> Result<Command<'a>, AllocError>
-    ensures { IfOk result (IsCommand why_command) }
-{
-    let about = "Runs a set-up and prints why its calls are refused";
-    let call = number(alloc, "call", "Tell of call N alone");
-    let with_call = and_argument(with_file(alloc, "why", about), call);
-    and_argument(with_call, by_names(alloc))
-}
-
-/// The options of `audit` by which threads are trusted to pass messages, and one thread's part is asked to be kept from another's,
-/// and those of a policy.
-fn and_never<'a>(
-    alloc: Global,
-    command: Result<Command<'a>, AllocError>,
-) -> Result<Command<'a>, AllocError>
-    ensures { Extends (λ app. with_rule (with_rule (with_rule (with_rule (with_rule app (text_rule (codes "messages"))) (text_rule (codes "never"))) (text_rule (codes "by"))) (text_rule (codes "policy"))) (flag_rule (codes "draft"))) command.entry result }
-{
-    let messages = text(
-        alloc,
-        "messages",
-        "WHO",
-        "With --ever or --never: these threads go on to send and receive, and do nothing else",
-    );
-    let with_messages = and_argument(command, messages);
-    let never = text(
-        alloc,
-        "never",
-        "FROM,TO",
-        "Tell whether FROM's part can never get what TO's part has, nor send to it",
-    );
-    let by = text(
-        alloc,
-        "by",
-        "E",
-        "With --never or --how: but by these endpoints, with commas between them",
-    );
-    let policy = text(
-        alloc,
-        "policy",
-        "POLICY",
-        "Hold the layout to the policy in this file, for all calls to come",
-    );
-    let with_policy = and_argument(and_argument(and_argument(with_messages, never), by), policy);
-    let draft = flag(
-        alloc,
-        "draft",
-        "With --ever: write a policy that the layout keeps now",
-    );
-    and_argument(with_policy, draft)
-}
-
-/// The subcommand `audit`.
-fn audit<'a>(alloc: Global) -> Result<Command<'a>, AllocError>
-    ensures { IfOk result (IsCommand audit_command) }
-{
-    let about =
-        "Runs a set-up and prints who reaches what, who can send to whom, and what a revoke would destroy";
-    let after = number(alloc, "after", "Make the first N calls alone");
-    let with_after = and_argument(with_file(alloc, "audit", about), after);
-    let slot = text(
-        alloc,
-        "slot",
-        "S",
-        "Tell what a revoke of slot S, an address or a name, would change",
-    );
-    let with_slot = and_argument(with_after, slot);
-    let ever = flag(
-        alloc,
-        "ever",
-        "Tell what the threads can never get, whatever they call",
-    );
-    let with_ever = and_argument(with_slot, ever);
-    let without = text(
-        alloc,
-        "without",
-        "WHO",
-        "Trust these threads, with commas between them, to make no more calls",
-    );
-    let with_without = and_argument(with_ever, without);
-    and_how(
-        alloc,
-        and_never(alloc, and_argument(with_without, by_names(alloc))),
-    )
-}
-
-/// The option `--names`.
-fn by_names<'a>(alloc: Global) -> Arg<'a>
-    ensures { IsArgument (flag_rule (codes "names")) result }
-{
-    let about = "Tell objects by their names, in place of their addresses";
-    flag(alloc, "names", about)
-}
-
-/// The option `--first`.
-fn first_calls<'a>(alloc: Global) -> Arg<'a>
-    ensures { IsArgument (number_rule (codes "first")) result }
-{
-    let about = "Make the first N calls before the clients begin [default: 0]";
-    number(alloc, "first", about)
-}
-
-/// The subcommand `threads`.
-fn threads<'a>(alloc: Global) -> Result<Command<'a>, AllocError>
-    ensures { IfOk result (IsCommand threads_command) }
-{
-    let about =
-        "Runs each client of a set-up in a thread of its own and prints what was done, in order";
-    let with_first = and_argument(with_file(alloc, "threads", about), first_calls(alloc));
-    and_argument(with_first, by_names(alloc))
-}
-
-/// The subcommand `explore`.
-fn explore<'a>(alloc: Global) -> Result<Command<'a>, AllocError>
-    ensures { IfOk result (IsCommand explore_command) }
-{
-    let about =
-        "Runs the clients of a set-up in every order of their calls and prints what can happen";
-    let with_first = and_argument(with_file(alloc, "explore", about), first_calls(alloc));
-    let states = number(alloc, "states", "Keep at most N states [default: 100000]");
-    let with_states = and_argument(with_first, states);
-    let witness = text(
-        alloc,
-        "witness",
-        "WHICH",
-        "Write the set-up of one order: I.J of answer J of call I, or stuck.J",
-    );
-    let with_witness = and_argument(with_states, witness);
-    let ends = flag(
-        alloc,
-        "ends",
-        "Explore clients separately where they share no thread and no endpoint",
-    );
-    let with_ends = and_argument(with_witness, ends);
-    and_argument(with_ends, by_names(alloc))
-}
-
-/// The subcommand `tree`.
-fn tree<'a>(alloc: Global) -> Result<Command<'a>, AllocError>
-    ensures { IfOk result (IsCommand tree_command) }
-{
-    let about = "Runs a set-up and prints each slot below the one that it is derived from";
-    let after = number(alloc, "after", "Make the first N calls alone");
-    let with_after = and_argument(with_file(alloc, "tree", about), after);
-    let dot = flag(alloc, "dot", "Print a graph in Graphviz' language DOT");
-    let with_dot = and_argument(with_after, dot);
-    and_argument(with_dot, by_names(alloc))
-}
-
-/// The options of `new` by which its sizes are given.
-fn and_sizes<'a>(
-    alloc: Global,
-    command: Result<Command<'a>, AllocError>,
-) -> Result<Command<'a>, AllocError>
-    ensures { Extends (λ app. with_rule (with_rule (with_rule app
-        (number_rule (codes "threads"))) (number_rule (codes "endpoints"))) (text_rule (codes "untyped"))) command.entry result }
-{
-    let threads = number(alloc, "threads", "It has N threads [default: 2]");
-    let with_threads = and_argument(command, threads);
-    let endpoints = number(alloc, "endpoints", "It has N endpoints [default: 1]");
-    let with_endpoints = and_argument(with_threads, endpoints);
-    let untyped = text(
-        alloc,
-        "untyped",
-        "BASE:BITS",
-        "It has these untyped regions, with commas between them",
-    );
-    and_argument(with_endpoints, untyped)
-}
-
-/// The subcommand `new`.
-fn new<'a>(alloc: Global) -> Result<Command<'a>, AllocError>
-    ensures { IfOk result (IsCommand new_command) }
-{
-    let about = "Prints a set-up to start from, with names for all that it has";
-    let command = Command::new(alloc, "new").about(about);
-    let profile = text(
-        alloc,
-        "profile",
-        "PROFILE",
-        "It is for this machine, wide or narrow [default: wide]",
-    );
-    and_sizes(alloc, and_argument(Ok(command), profile))
-}
-
-/// The subcommand `import`.
-fn import<'a>(alloc: Global) -> Result<Command<'a>, AllocError>
-    ensures { IfOk result (IsCommand import_command) }
-{
-    let about =
-        "Reads a layout as capDL text or a .system file and prints a set-up whose calls make it";
-    let shrink = number(
-        alloc,
-        "shrink",
-        "Cut untyped regions that cover nothing to N bits",
-    );
-    let with_shrink = and_argument(with_file(alloc, "import", about), shrink);
-    let listing = flag(alloc, "listing", "Print what was read of the layout");
-    let with_listing = and_argument(with_shrink, listing);
-    let flows = flag(
-        alloc,
-        "flows",
-        "Count each object that a set-up lacks, each answer and each Grant",
-    );
-    let with_flows = and_argument(with_listing, flows);
-    let rights = text(
-        alloc,
-        "rights",
-        "RIGHTS",
-        "Take these where a .system file says no rights: all, or least [default: all]",
-    );
-    and_argument(with_flows, rights)
-}
-
-/// The subcommand `check`, which takes several files.
-fn check<'a>(alloc: Global) -> Result<Command<'a>, AllocError>
-    ensures { IfOk result (IsCommand check_command) }
-{
-    let command = with_file(alloc, "check", "Runs a set-up and prints its report");
-    let with_more = and_argument(command, more_files(alloc));
-    let strict = flag(
-        alloc,
-        "strict",
-        "End with status 1 also where a call is refused and has no expectation",
-    );
-    let with_strict = and_argument(with_more, strict);
-    and_argument(with_strict, by_names(alloc))
-}
-
-/// The subcommand `marks`, which takes several files too.
-fn marks<'a>(alloc: Global) -> Result<Command<'a>, AllocError>
-    ensures { IfOk result (IsCommand marks_command) }
-{
-    let about = "Runs a set-up and prints which of its expectations are met, and no reply";
-    let with_more = and_argument(with_file(alloc, "marks", about), more_files(alloc));
-    let of = text(
-        alloc,
-        "of",
-        "EXERCISE",
-        "Mark the files by the questions of this one, and print a table",
-    );
-    and_argument(with_more, of)
-}
-
-/// The subcommand `trace`.
-fn trace<'a>(alloc: Global) -> Result<Command<'a>, AllocError>
-    ensures { IfOk result (IsCommand trace_command) }
-{
-    let about = "Runs a set-up and prints what each of its calls changed";
-    and_argument(with_file(alloc, "trace", about), by_names(alloc))
-}
-
-/// The command with its first subcommands: those that take several files, `trace` and `migrate`.
-fn plain<'a>(alloc: Global) -> Result<Command<'a>, AllocError>
-    ensures { IfOk result (IsCommand plain_command) }
-{
-    let with_check = and_subcommand(bare(alloc), check(alloc));
-    let with_marks = and_subcommand(with_check, marks(alloc));
-    let with_trace = and_subcommand(with_marks, trace(alloc));
-    let migrate = with_file(
-        alloc,
-        "migrate",
-        "Prints a set-up of format 1 as one of format 2",
-    );
-    and_subcommand(with_trace, migrate)
+    with_files(alloc, command, Files::Several)
 }
 
 /// The command as clap reads it.
 fn command<'a>(alloc: Global) -> Result<Command<'a>, AllocError>
     ensures { IfOk result (λ c. app_of c ≡ definition) }
 {
-    let with_threads = and_subcommand(plain(alloc), threads(alloc));
-    let with_why = and_subcommand(with_threads, why(alloc));
-    let with_audit = and_subcommand(with_why, audit(alloc));
-    let with_explore = and_subcommand(with_audit, explore(alloc));
-    let with_tree = and_subcommand(with_explore, tree(alloc));
-    let with_new = and_subcommand(with_tree, new(alloc));
-    and_subcommand(with_new, import(alloc))
+    with_subcommands(alloc, bare(alloc)?, &COMMANDS)
 }
 
 /// The number that an option gives.

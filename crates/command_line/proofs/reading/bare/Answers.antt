@@ -6,8 +6,7 @@ use Rattle.command_line.proofs.reading.bare.Goals as goal
 
 pub returns : goal.returns
 returns c =
-    c.and_argument.ensures _ c.more_files.ensures _
-    (c.and_argument-with_file.ensures _ c.file.ensures _ (
+    c.with_files.ensures _ (
       ap app_of_fields c.after_help-command.ensures ∙ (ap app_of_fields c.about.ensures ∙ (ap app_of_fields c.version.ensures ∙ ap with_version c.new.ensures.app)),
       ap (λ f. f.has_globals) c.after_help-command.ensures ∙ (ap (λ f. f.has_globals) c.about.ensures ∙ (ap (λ f. f.has_globals) c.version.ensures ∙ c.new.ensures.local)),
-    ))
+    )
