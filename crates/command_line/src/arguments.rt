@@ -31,7 +31,7 @@ pub enum Job {
 }
 
 /// What the options of a command line give; `None` where an option is not there.
-#[derive(Clone, Copy, Drop)]
+#[derive(Clone, Copy, Default, Drop)]
 pub struct Options<'a> {
     /// Whether `--strict` of `check` is there: a call that is refused and of which nothing is expected counts as not met.
     pub strict: bool,

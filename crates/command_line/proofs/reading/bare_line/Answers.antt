@@ -1,13 +1,9 @@
 -- The file is clap's value of FILE, and those behind it are its values of FILES; no option is there.
-use Rattle.std.proofs.Common.{◌∙◌, ap₂, codes, false, refl, sym}
+use Rattle.std.proofs.Common.{◌∙◌, ap₂, codes, false, sym}
 use Rattle.clap.proofs.WalkLemmas.{first_value-rows}
 use Rattle.clap.specs.Words.{found_of}
 use Rattle.command_line.specs.CommandLine.{several_of}
 use Rattle.command_line.proofs.reading.bare_line.Goals as goal
-
-pub returns-clause-options : goal.returns-clause-options
-returns-clause-options c =
-    record { strict = refl; call = refl; after = refl; slot = refl; ever = refl; draft = refl; never = refl; how = refl; breach = refl; message = refl; hold = refl; loss = refl; badge = refl; by = refl; without = refl; messages = refl; policy = refl; names = refl; first = refl; states = refl; witness = refl; ends = refl; dot = refl; profile = refl; threads = refl; endpoints = refl; untyped = refl; shrink = refl; listing = refl; of = refl; flows = refl; rights = refl }
 
 pub returns-clause-file : goal.returns-clause-file
 returns-clause-file c = sym (c.get_str-file.ensures ∙ first_value-rows (found_of c.args.matches.now) (codes "FILE"))
