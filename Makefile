@@ -75,6 +75,7 @@ rows-python:
 	python3 tests/command_lines.py $(program)
 	python3 tests/several_files.py $(program) $(setups)
 	python3 tests/marks.py $(program) $(setups)
+	python3 tests/record.py $(program) $(setups)
 	python3 tests/beside_check.py $(program) $(setups)
 	python3 tests/names.py audits $(program) $(answers)/audits $(answers)/parts $(answers)/trees
 	python3 tests/names.py reports $(program) $(setups)/examples $(setups)/capabilities $(setups)/why_lookups $(answers)/explorations $(answers)/trees

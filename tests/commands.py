@@ -66,7 +66,7 @@ FILES = {"set_up.toml": SET_UP, "first.toml": FIRST, "apart.toml": APART, "layou
 # The words of a line but its last, which is the file that it reads, or "" where it reads none.
 LINES = [
     ("check", "set_up.toml"), ("check --strict --names", "set_up.toml"), ("check first.toml", "apart.toml"),
-    ("marks", "set_up.toml"), ("marks --of set_up.toml", "set_up.toml"),
+    ("marks", "set_up.toml"), ("marks --of set_up.toml", "set_up.toml"), ("record", "set_up.toml"),
     ("trace", "set_up.toml"), ("trace --names", "set_up.toml"),
     ("migrate", "first.toml"),
     ("threads", "set_up.toml"), ("threads --first 1 --names", "set_up.toml"),

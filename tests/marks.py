@@ -114,15 +114,15 @@ def faults_of_names(program, key):
 
 
 def faults_of_formulas(program, key, exercise):
-    """Files whose names a spreadsheet would compute, given as `./NAME`: each name in the table begins so."""
+    """Files whose names a spreadsheet would compute, and the same as paths: each name in the table begins with `./`."""
     with tempfile.TemporaryDirectory() as folder:
         for name in FORMULAS:
             pathlib.Path(folder, name).write_text(key.read_text())
-        names = [f"./{name}" for name in FORMULAS]
+        paths = [f"./{name}" for name in FORMULAS]
         for words in (["marks"], ["marks", "--of", str(exercise.resolve())]):
-            text = answer(program, *words, *names, cwd=folder)[1]
+            text = answer(program, *words, "--", *FORMULAS, *paths, cwd=folder)[1]
             rows = list(csv.reader(io.StringIO(text, newline="")))[1:]
-            if [row[0] for row in rows] != names:
+            if [row[0] for row in rows] != paths + paths:
                 yield f"{' '.join(words[:2])}: files whose names are formulas are told as {[row[0] for row in rows]}"
 
 

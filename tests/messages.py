@@ -252,7 +252,7 @@ SETUPS = [
      [toml("invalid UTF-8", "this looks like UTF-16; save the text as UTF-8")]),
 ]
 
-COMMANDS = ["check", "marks", "trace", "threads", "migrate", "why", "audit", "explore", "tree", "new", "import"]
+COMMANDS = ["check", "marks", "trace", "threads", "migrate", "why", "audit", "explore", "tree", "new", "import", "record"]
 
 # the words of a command line, the first line of standard error, and a part of what follows it
 LINES = [

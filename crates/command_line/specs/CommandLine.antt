@@ -16,7 +16,7 @@ use Rattle.clap.specs.declared.builder.value_parser.ValueParser.TheVariants.{Uns
 use Rattle.clap.specs.declared.error.kind.ErrorKind.{ErrorKind}
 use Rattle.clap.specs.declared.error.kind.ErrorKind.TheVariants.{DisplayHelp, DisplayVersion, OutOfMemory}
 use Rattle.command_line.specs.declared.arguments.Job.{Job}
-use Rattle.command_line.specs.declared.arguments.Job.TheVariants.{Check, Trace, Threads, Migrate, Why, Audit, Explore, Tree, New, Marks, Import}
+use Rattle.command_line.specs.declared.arguments.Job.TheVariants.{Check, Trace, Threads, Migrate, Why, Audit, Explore, Tree, New, Marks, Record, Import}
 use Rattle.command_line.specs.declared.arguments.LineFault.{LineFault}
 use Rattle.command_line.specs.declared.arguments.LineFault.TheVariants.{Help, Refused, Conflict, Memory}
 use Rattle.command_line.specs.declared.arguments.Options.{Options}
@@ -114,6 +114,7 @@ abbrev pub subcommands : List App
 subcommands =
     subcommand_with (codes "check") Several (flag_rule (codes "strict") ∷ names_rule ∷ [])
     ∷ subcommand_with (codes "marks") Several (text_rule (codes "of") ∷ [])
+    ∷ subcommand_with (codes "record") One []
     ∷ subcommand_with (codes "trace") One (names_rule ∷ [])
     ∷ subcommand_with (codes "migrate") One []
     ∷ subcommand_with (codes "threads") One (first_rule ∷ names_rule ∷ [])
@@ -166,6 +167,7 @@ job_named name =
     else if bytes_eq name (codes "tree") then Some Tree
     else if bytes_eq name (codes "new") then Some New
     else if bytes_eq name (codes "marks") then Some Marks
+    else if bytes_eq name (codes "record") then Some Record
     else if bytes_eq name (codes "import") then Some Import
     else None
 

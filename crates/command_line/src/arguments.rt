@@ -26,6 +26,8 @@ pub enum Job {
     New,
     /// Run a set-up and tell which of its expectations are met, and no reply.
     Marks,
+    /// Run a set-up and write it again with the reply to each call as what the call expects.
+    Record,
     /// Write a set-up of a layout.
     Import,
 }
@@ -191,6 +193,8 @@ impl Job {
             Some(Job::New)
         } else if name == "marks" {
             Some(Job::Marks)
+        } else if name == "record" {
+            Some(Job::Record)
         } else if name == "import" {
             Some(Job::Import)
         } else {

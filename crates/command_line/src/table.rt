@@ -66,7 +66,7 @@ const AUDIT: [OptionRow; 16] = [
 
 /// The commands, in the order of the help.
 #[rattlefmt::skip]
-pub const COMMANDS: [CommandRow; 11] = [
+pub const COMMANDS: [CommandRow; 12] = [
     CommandRow { name: "check", files: Several, about: "Runs a set-up and prints its report", options: &[
         OptionRow("strict", Nothing, "End with status 1 also where a call is refused and has no expectation"),
         NAMES,
@@ -74,6 +74,7 @@ pub const COMMANDS: [CommandRow; 11] = [
     CommandRow { name: "marks", files: Several, about: "Runs a set-up and prints which of its expectations are met, and no reply", options: &[
         OptionRow("of", Text("EXERCISE"), "Mark the files by the questions of this one, and print a table"),
     ] },
+    CommandRow { name: "record", files: One, about: "Runs a set-up and prints it with the reply to each call as what the call expects", options: &[] },
     CommandRow { name: "trace", files: One, about: "Runs a set-up and prints what each of its calls changed", options: &[NAMES] },
     CommandRow { name: "migrate", files: One, about: "Prints a set-up of format 1 as one of format 2", options: &[] },
     CommandRow { name: "threads", files: One, about: "Runs each client of a set-up in a thread of its own and prints what was done, in order", options: &[FIRST, NAMES] },

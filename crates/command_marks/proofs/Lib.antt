@@ -7,3 +7,4 @@ pub mod Counted
 pub mod Fronts
 pub mod Places
 mod Statuses
+mod Recordings

@@ -1,5 +1,6 @@
 -- The marks of a set-up's calls: Marks has what they are, Text what is written of them, Table what is written of several files,
--- Against those by the questions of an exercise, Differences where a set-up is another one, Answers what is written of these, and Laws what marks tell of the report.
+-- Against those by the questions of an exercise, Differences where a set-up is another one, Answers what is written of these, and Laws what marks tell of the report,
+-- and Recorded a set-up of which each call expects its reply.
 pub mod Marks
 pub mod Text
 pub mod Table
@@ -7,3 +8,4 @@ pub mod Against
 pub mod Differences
 pub mod Answers
 pub mod Laws
+pub mod Recorded

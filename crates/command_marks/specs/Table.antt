@@ -35,9 +35,20 @@ letter c = if c == 34 then c ∷ c ∷ [] else c ∷ []
 abbrev pub doubled : List ℕ → List ℕ
 doubled text = flat_map letter text
 
--- a text as it is, or in quotation marks where it has such a letter
+-- of two letters or more, of which the first is =, +, - or @: a spreadsheet computes it
+abbrev pub is_formula : List ℕ → Bool
+is_formula [] = false
+is_formula (first ∷ []) = false
+is_formula (first ∷ (second ∷ letters)) = first == 61 || (first == 43 || (first == 45 || first == 64))
+
+-- what makes a path of a name that a spreadsheet would compute
+abbrev pub folder_of : List ℕ → List ℕ
+folder_of name = if is_formula name then codes "./" else []
+
+-- a file's name as a path, in quotation marks if it has such a letter
 abbrev pub field : List ℕ → List ℕ
-field text = if has_needs text then codes "\"" ++ (doubled text ++ codes "\"") else text
+field name =
+    if has_needs name then codes "\"" ++ (folder_of name ++ (doubled name ++ codes "\"")) else folder_of name ++ name
 
 -- numbers with a space between them
 abbrev pub list_text : List ℕ → List ℕ

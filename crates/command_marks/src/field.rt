@@ -39,15 +39,25 @@ fn add_doubled(out: &mut Vec<u8>, bytes: &[u8]) -> Result<(), AllocError>
     Ok(())
 }
 
-/// Adds a field, in quotation marks where it needs them.
-pub(crate) fn add_field(out: &mut Vec<u8>, text: &str) -> Result<(), AllocError>
-    ensures { OnOk result (out.new.items ≡ out.old.items ++ spec.field text.now) }
+/// Whether a spreadsheet computes a cell with this text.
+fn is_formula(bytes: &[u8]) -> bool
+    ensures { result ≡ spec.is_formula bytes.now }
 {
-    let bytes = text.as_bytes();
+    matches!(bytes, [b'=' | b'+' | b'-' | b'@', _, ..])
+}
+
+/// Adds a file's name, in quotation marks if it needs them. If a spreadsheet would compute it, it is written as a path.
+pub(crate) fn add_field(out: &mut Vec<u8>, name: &str) -> Result<(), AllocError>
+    ensures { OnOk result (out.new.items ≡ out.old.items ++ spec.field name.now) }
+{
+    let bytes = name.as_bytes();
+    let folder = if is_formula(bytes) { "./" } else { "" };
     if !has_needs(bytes) {
+        out.extend_from_slice(folder.as_bytes())?;
         return out.extend_from_slice(bytes);
     }
     out.extend_from_slice(b"\"")?;
+    out.extend_from_slice(folder.as_bytes())?;
     add_doubled(out, bytes)?;
     out.extend_from_slice(b"\"")
 }

@@ -1,5 +1,5 @@
 //! The marks of a set-up's answers, as text: of each call that expects something whether its reply is as expected. No reply
-//! is shown.
+//! is shown. And the set-up of which each call expects the reply that it gets.
 #![tactic(auto)]
 
 mod against;
@@ -10,6 +10,7 @@ mod field;
 mod laws;
 mod mark;
 mod marking;
+mod recording;
 mod table;
 mod text;
 
@@ -20,4 +21,5 @@ pub use laws::{
     marks_are_those_of_the_report, status_0_says_that_all_is_right,
 };
 pub use mark::Mark;
+pub use recording::Record;
 pub use table::mark_files;

@@ -1,7 +1,7 @@
 -- Which text and which verdict each job has, by its options, for the bytes of an input.
 use Rattle.std.specs.Prelude.{◌≡◌, ℕ, Bool, not, List, Option, Some, None, option_map, is_some, unwrap_or, cond, MatchBool}
 use Rattle.command_line.specs.declared.arguments.Job.{Job}
-use Rattle.command_line.specs.declared.arguments.Job.TheVariants.{Check, Trace, Threads, Migrate, Why, Audit, Explore, Tree, New, Marks, Import}
+use Rattle.command_line.specs.declared.arguments.Job.TheVariants.{Check, Trace, Threads, Migrate, Why, Audit, Explore, Tree, New, Marks, Record, Import}
 use Rattle.command_line.specs.declared.arguments.Options.{Options}
 use Rattle.command_core.specs.declared.fault.Verdict.{Verdict}
 use Rattle.command_files.specs.Strict.{IsNamedCheck, checked}
@@ -25,6 +25,7 @@ use Rattle.command_trace.specs.Traces.{IsTrace}
 use Rattle.command_tree.specs.Trees.{IsTree}
 use Rattle.command_why.specs.Explained.{IsWhy}
 use Rattle.command_marks.specs.Text.{IsMarks}
+use Rattle.command_marks.specs.Recorded.{IsRecord}
 use Rattle.command_tree.specs.declared.form.Form.{Form}
 use Rattle.command_tree.specs.declared.form.Form.TheVariants.{Lines, Dot}
 use Rattle.program.specs.Commas.{words_in}
@@ -164,4 +165,5 @@ meaning Explore options policy = IsExplorationBy options
 meaning Tree options policy = IsAnswerTo (IsStateAnswer (IsTree (form_of options) options.names) options.after)
 meaning New options policy = λ input text verdict. IsNewOf options text verdict
 meaning Marks options policy = IsAnswerTo IsMarks
+meaning Record options policy = IsAnswerTo IsRecord
 meaning Import options policy = λ input text verdict. IsImported (record { shrink = options.shrink; flows = options.flows; all_rights = not (takes_least options) }) options.listing text verdict

@@ -20,7 +20,7 @@ use command_files::{FileCheck, NamedCheck};
 use command_how::{Happening, How};
 use command_import::{Importer, Reading};
 use command_line::{Job, Options};
-use command_marks::Marks;
+use command_marks::{Marks, Record};
 use command_never::Question;
 use command_new::Maker;
 use command_parts::{Ever, Trust};
@@ -422,6 +422,7 @@ impl Engine for Work<'_> {
             }
             Job::New => make_new(alloc, options, input),
             Job::Marks => on_setup(alloc, Marks, input),
+            Job::Record => on_setup(alloc, Record, input),
             Job::Import => {
                 let Options {
                     shrink,

@@ -18,6 +18,7 @@ fn name_of(job: Job) -> &'static str {
         Job::Tree => "tree",
         Job::New => "new",
         Job::Marks => "marks",
+        Job::Record => "record",
         Job::Import => "import",
     }
 }
