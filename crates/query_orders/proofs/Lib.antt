@@ -11,3 +11,4 @@ pub mod KernelWords
 pub mod Exploration
 pub mod Apart
 pub mod Grouped
+pub mod AllOrders

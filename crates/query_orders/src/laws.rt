@@ -8,7 +8,7 @@ ghost use Rattle.query_orders.specs.declared.answer.Answer.{Answer as AnswerOf};
 ghost use Rattle.query_orders.specs.declared.left.LeftCall.{LeftCall as LeftCallOf};
 ghost use Rattle.query_orders.specs.World.{World, start};
 ghost use Rattle.query_orders.specs.Orders.{orders};
-ghost use Rattle.query_orders.specs.Apart.{BeginsAlike, HasPart, GoesOn};
+ghost use Rattle.query_orders.specs.Apart.{BeginsAlike, HasPart, GoesOn, FirstTellTheSame, TellTheSame, LeaveTheSame};
 ghost use Rattle.query_orders.specs.Laws.{EachCanBeMade, IsShuffle, AnswersEachOnce, AreShortest, AreShortestStuck, IsBehind};
 
 use crate::answer::Answer;
@@ -64,4 +64,12 @@ pub fn groups_do_not_see_each_other()
     ensures begins { (p : ProfileName) (own : List (List Call)) (A : State) (first : List ℕ) (has : ℕ → Bool) → BeginsAlike p own A first has }
     ensures part { (p : ProfileName) (own : List (List Call)) (A : State) (first groups : List ℕ) (group : ℕ) (order : List ℕ) → HasPart p own A first groups group order }
     ensures goes_on { (p : ProfileName) (own : List (List Call)) (A : State) (first groups : List ℕ) (group : ℕ) (order more : List ℕ) → GoesOn p own A first groups group order more }
+{}
+
+/// All orders of one group's clients by themselves tell of these clients' calls just what all orders of all clients tell of them, and
+/// leave just the same of them at their ends. The calls that each order begins with tell the same.
+pub fn groups_tell_what_all_orders_tell()
+    ensures first { (p : ProfileName) (own : List (List Call)) (A : State) (first : List ℕ) (has : ℕ → Bool) → FirstTellTheSame p own A first has }
+    ensures told { (p : ProfileName) (own : List (List Call)) (A : State) (first groups : List ℕ) (group : ℕ) → TellTheSame p own A first groups group }
+    ensures left { (p : ProfileName) (own : List (List Call)) (A : State) (first groups : List ℕ) (group : ℕ) → LeaveTheSame p own A first groups group }
 {}
