@@ -4,6 +4,7 @@ pub mod Told
 pub mod Tables
 pub mod Loops
 pub mod Explorations
+pub mod OneOrder
 pub mod Places
 pub mod Kept
 pub mod Replays

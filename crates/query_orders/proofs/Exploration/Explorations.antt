@@ -1,5 +1,5 @@
 -- One round more of an exploration.
-use Rattle.std.proofs.Common.{◌≡◌, ℕ, zero, suc, ◌+◌, ◌-◌, ◌*◌, ◌^◌, ◌<◌, ◌≤◌, ◌&&◌, min, not, Bool, true, false, cond, List, [], ◌∷◌, ◌++◌, map, filter, length, take, get_or, replicate, Option, None, refl, ap, sym, subst, ◌∙◌, append_assoc, add-one, arith}
+use Rattle.std.proofs.Common.{◌≡◌, ℕ, zero, suc, ◌+◌, ◌-◌, ◌*◌, ◌^◌, ◌<◌, ◌≤◌, ◌&&◌, min, not, Bool, true, false, cond, List, [], ◌∷◌, ◌++◌, map, filter, length, take, get_or, replicate, Option, None, refl, ap, sym, ◌∙◌, append_assoc, add-one, arith}
 use Rattle.std.specs.Prelude.{nat_lt}
 use Rattle.std.specs.Cmp.Lexicographic.{pointwise}
 use Rattle.std.proofs.lemmas.Bool.Decides.{nat_tests}
@@ -28,12 +28,11 @@ use Rattle.query_orders.specs.Ends.{StuckEnd, same_stuck, stuck_behind, stuck_be
 use Rattle.query_orders.specs.declared.exploring.node.Node.{Node}
 use Rattle.query_orders.specs.declared.exploring.found.FoundAnswer.{FoundAnswer}
 use Rattle.query_orders.specs.declared.exploring.exploration.Explored.{Explored}
-use Rattle.query_orders.specs.Nodes.{lead_alike, layer, IsWay, IsNode, AreNodes, node_orders}
+use Rattle.query_orders.specs.Nodes.{lead_alike, layer, IsWay, node_orders}
 use Rattle.query_orders.specs.Counts.{saturated, saturated_sum, counted, states_before, ends_before}
 use Rattle.query_orders.specs.Found.{answers_of, stuck_of, same_left, counts_of, IsMade, IsExpanded}
 use Rattle.query_orders.specs.Explorations.{ends_exploration, is_last_layer, layers_from, depth, IsBegun, IsExploredTo, IsExplored}
 use Rattle.query_orders.specs.Private.Kernels.{IsKernelOf}
-use Rattle.query_orders.specs.Private.Tables.{with_node}
 use Rattle.query_orders.specs.Private.Progress.{IsProgress}
 use Rattle.query_orders.proofs.Exploration.Steps.{world_after-append, alike_from, alike_to, may_alike, longer_alike, end_alike, stuck_alike, layer_next}
 use Rattle.query_orders.proofs.Exploration.Told.{layer_answers, layer_stuck}
@@ -192,28 +191,6 @@ most = 2 ^ 64 - 1
 module _ (p : ProfileName) (own : List (List Call)) (A : State) (first : List ℕ) where
   abbrev w : World
   w = start own A
-
-  pub progress_none : (e : Explored) (way n : Node) (none : List FoundAnswer) → IsBegun p own A first way answer_eq.ghosts.eq none e.found.answers → IsNode p own w n → n.order ≡ way.order → n.weight ≡ way.weight → none ≡ [] → e.layer ≡ with_node [] n →
-      e.found.stuck.items ≡ [] → e.found.ends ≡ 0 → e.found.orders ≡ 0 → e.found.stuck_orders ≡ 0 → e.states ≡ saturated (length first) → e.calls ≡ 0 →
-      IsProgress p own A first answer_eq.ghosts.eq e
-  progress_none e way n none b is order weighs empty nodes stuck ends orders_none stuck_none states calls =
-      record {
-        are = subst (AreNodes p own w) (sym nodes) (is, tt);
-        entries_are =
-            ap node_orders nodes ∙ ap (λ (o : List ℕ). (o, n.weight) ∷ []) (order ∙ b.order_is) ∙ ap (λ k. (first, k) ∷ []) (weighs ∙ b.weight_is)
-            ∙ ap (λ k. map (up_to most) (counted p own w first k)) (sym calls);
-        to = record {
-          layer_is = ap (map (λ (m : Node). m.order)) nodes ∙ ap (λ (o : List ℕ). o ∷ []) (order ∙ b.order_is) ∙ ap (layer p own w first) (sym calls);
-          answers_are =
-              b.told_are ∙ ap (λ (l : List FoundAnswer). with_firsts (same_answer answer_eq.ghosts.eq) (answers_of l) (first_answers p own w [] first)) empty
-              ∙ ap (answers_before answer_eq.ghosts.eq (firsts (same_answer answer_eq.ghosts.eq) (first_answers p own w [] first)) p own w first) (sym calls);
-          stuck_are = ap stuck_of stuck ∙ ap (stuck_before same_left p own w first) (sym calls);
-          states_are = states ∙ ap (λ k. saturated (states_before p own w first k)) (sym calls);
-          ends_are = ends ∙ ap (λ k. saturated (ends_before p own w first k)) (sym calls);
-          orders_are = orders_none ∙ ap (λ k. saturated (orders_before (is_end own) p own w first k)) (sym calls);
-          stuck_orders_are = stuck_none ∙ ap (λ k. saturated (orders_before (is_stuck own) p own w first k)) (sym calls);
-        };
-      }
 
   module _ (reached : IsReached p A) where
     sum_twice : (a b : ℕ) → min (min a most + b) most ≡ min (a + b) most

@@ -1,5 +1,5 @@
 //! The exploration of all orders of the clients' calls, as far as a limit on states lets it go.
-ghost use Rattle.std.specs.Prelude.{◌≡◌, ◌+◌, ◌<◌, ◌&&◌, [], ◌∷◌, ◌++◌, ℕ, IfOk, OnOk, List, length, nat_lt, not};
+ghost use Rattle.std.specs.Prelude.{◌≡◌, ◌+◌, ◌-◌, ◌<◌, ◌&&◌, [], ◌∷◌, ◌++◌, ℕ, IfOk, IfSome, OnOk, List, length, nat_lt, not, true};
 ghost use Rattle.cap_core.specs.declared.profile.ProfileName.{ProfileName};
 ghost use Rattle.kernel_abstract.specs.declared.call.Call.{Call as CallOf};
 ghost use Rattle.kernel_abstract.specs.State.{State, shown};
@@ -10,16 +10,16 @@ ghost use Rattle.query_orders.specs.Nodes.{own_calls, layer, IsWay};
 ghost use Rattle.query_orders.specs.States.{AreTakenTogether};
 ghost use Rattle.query_orders.specs.Found.{IsMade};
 ghost use Rattle.query_orders.specs.Counts.{saturated};
-ghost use Rattle.query_orders.specs.Explorations.{IsExplored, IsBegun, ends_exploration};
+ghost use Rattle.query_orders.specs.Explorations.{IsExplored, IsBegun, depth, ends_exploration, layers_from};
 ghost use Rattle.query_orders.specs.Private.Kernels.{IsKernelOf, AreKernels};
-ghost use Rattle.query_orders.specs.Private.Progress.{IsProgress};
+ghost use Rattle.query_orders.specs.Private.Progress.{AreCallers, IsOneOrder, IsProgress, callers_with, only_callers};
 
 use crate::Answer;
 use crate::exploring::found::FoundAnswers;
 use crate::exploring::kernels::KeptLayer;
 use crate::exploring::layer::Layer;
 use crate::exploring::layers::{next_layer, note_call, with_words};
-use crate::exploring::node::{Node, next_call};
+use crate::exploring::node::{Node, callable, next_call};
 use crate::exploring::order::Order;
 use crate::exploring::stuck::Findings;
 use cap_core::Profile;
@@ -118,33 +118,165 @@ fn states_through(first: &[usize]) -> u64
     0u64.saturating_add(first.len() as u64)
 }
 
-/// What is known before any call behind the first ones. The kernel after these is kept.
+/// Which of the clients that were looked at can make a call.
+#[derive(Clone, Copy)]
+enum Callers {
+    Nobody,
+    One(usize),
+    Several,
+}
+
+/// The same with one client more, which may make a call or not.
+fn with_caller(callers: Callers, client: usize, may: bool) -> Callers
+    ensures { result ≡ callers_with callers client may }
+{
+    match (callers, may) {
+        (_, false) => callers,
+        (Callers::Nobody, true) => Callers::One(client),
+        (Callers::One(_), true) => Callers::Several,
+        (Callers::Several, true) => Callers::Several,
+    }
+}
+
+/// Which clients can make a call at a node. `at` is the kernel of the node.
+fn callers_at<P: Profile, S: SaveStore<P>, W: SaveWaiters<P>>(
+    calls: &[Vec<Call>],
+    at: &Kernel<P, S, W>,
+    node: &Node,
+) -> Callers
+    ensures { AreCallers result (only_callers (own_calls calls.now) node.now at.now (length calls.now)) }
+{
+    let mut callers = Callers::Nobody;
+    for client in 0..calls.len() {
+        let may = callable(calls, at, node, client).is_some();
+        callers = with_caller(callers, client, may);
+    }
+    callers
+}
+
+/// The only client that can make a call at a node; `None` if none can, or several. `at` is the kernel of the node.
+fn only_caller<P: Profile, S: SaveStore<P>, W: SaveWaiters<P>>(
+    calls: &[Vec<Call>],
+    at: &Kernel<P, S, W>,
+    node: &Node,
+) -> Option<usize>
+    ensures { IfSome result (λ client. only_callers (own_calls calls.now) node.now at.now (length calls.now) ≡ client ∷ []) }
+{
+    match callers_at(calls, at, node) {
+        Callers::One(client) => Some(client),
+        Callers::Nobody => None,
+        Callers::Several => None,
+    }
+}
+
+/// The one order that there is of so many calls more, by its node, which has no words yet, and how many states it leads through.
+#[derive(Drop)]
+struct OneOrder {
+    node: Node,
+    calls: usize,
+    states: u64,
+}
+
+/// The client that makes the next call of the one order that there is, if that goes on in one way alone, and the limits let it.
+fn next_caller<P: Profile, S: SaveStore<P>, W: SaveWaiters<P>>(
+    calls: &[Vec<Call>],
+    at: &Kernel<P, S, W>,
+    one: &OneOrder,
+    limit: u64,
+    count: usize,
+) -> Option<usize>
+    ensures only { IfSome result (λ client. only_callers (own_calls calls.now) one.now.node at.now (length calls.now) ≡ client ∷ []) }
+    ensures goes_on { IfSome result (λ _. (nat_lt one.now.calls count && not (ends_exploration limit one.now.states 1)) ≡ true) }
+{
+    let is_last = limit < one.states.saturating_add(1);
+    if one.calls < count && !is_last {
+        only_caller(calls, at, &one.node)
+    } else {
+        None
+    }
+}
+
+/// Makes calls while one client alone can make one. Then there is one order of them, so no kernel is copied, and no states are
+/// compared. `at` is the kernel of the node, and then that of the new one.
+fn follow<P: Profile, S: SaveStore<P> + DerivationStore<P>, W: SaveWaiters<P>>(
+    alloc: Global,
+    calls: &[Vec<Call>],
+    at: &mut Kernel<P, S, W>,
+    begun: OneOrder,
+    limit: u64,
+    count: usize,
+    found: &mut FoundAnswers,
+) -> Result<OneOrder, AllocError>
+    ensures { IfOk result (λ one. (A : State) (first : List ℕ) → IsReached P.profile A
+        → IsOneOrder P.profile (own_calls calls.now) A first ⟦<Answer as PartialEq>⟧.eq limit count begun.node found.old begun.states begun.calls
+        → IsKernelOf P.profile (own_calls calls.now) (start (own_calls calls.now) A) begun.node at.old
+        → IsOneOrder P.profile (own_calls calls.now) A first ⟦<Answer as PartialEq>⟧.eq limit count one.node found.new one.states one.calls
+        × IsKernelOf P.profile (own_calls calls.now) (start (own_calls calls.now) A) one.node at.new) }
+{
+    let mut one = begun;
+    while let Some(client) = next_caller(calls, &*at, &one, limit, count) {
+        let OneOrder {
+            node,
+            calls: made,
+            states,
+        } = one;
+        one = OneOrder {
+            node: first_call(alloc, calls, at, node, client, found)?,
+            calls: made + 1,
+            states: states.saturating_add(1),
+        };
+    }
+    Ok(one)
+}
+
+/// What is known before several clients can go on behind the first calls, or the order ends. The kernel after these calls is kept.
 fn begun<P: Profile, S: SaveStore<P> + DerivationStore<P>, W: SaveWaiters<P>>(
     alloc: Global,
     calls: &[Vec<Call>],
     kernel: &Kernel<P, S, W>,
     first: &[usize],
+    limit: u64,
+    count: usize,
     kept: &mut VecDeque<SavedKernel<P, S, W>>,
 ) -> Result<Explored, AllocError>
     requires { kept.old.items ≡ [] }
     ensures { IfOk result (λ e. (A : State) → IsReached P.profile A → kernel.now ≡ shown A
-        → IsProgress P.profile (own_calls calls.now) A first.now ⟦<Answer as PartialEq>⟧.eq e × ((e.calls ≡ 0)
-        × AreKernels P.profile (own_calls calls.now) (start (own_calls calls.now) A) kept.new.items e.layer)) }
+        → IsProgress P.profile (own_calls calls.now) A first.now ⟦<Answer as PartialEq>⟧.eq e
+        × (AreKernels P.profile (own_calls calls.now) (start (own_calls calls.now) A) kept.new.items e.layer
+        × (layers_from P.profile (own_calls calls.now) (start (own_calls calls.now) A) first.now limit (count - e.calls) e.calls
+        ≡ depth P.profile (own_calls calls.now) (start (own_calls calls.now) A) first.now limit count))) }
 {
     let mut found = Findings::new(alloc);
     let mut at = kernel.copy(alloc)?;
-    let way = begin(alloc, calls, &mut at, first, &mut found.answers)?;
-    let node = with_words(alloc, way, &at)?;
+    let begun = OneOrder {
+        node: begin(alloc, calls, &mut at, first, &mut found.answers)?,
+        calls: 0,
+        states: states_through(first),
+    };
+    let one = follow(
+        alloc,
+        calls,
+        &mut at,
+        begun,
+        limit,
+        count,
+        &mut found.answers,
+    )?;
+    let OneOrder {
+        node,
+        calls: made,
+        states,
+    } = one;
+    let node = with_words(alloc, node, &at)?;
     let mut layer = Layer::new(alloc);
     layer.note(node)?;
     let saved = at.save(alloc)?;
     kept.push_back(saved)?;
-    let states = states_through(first);
     Ok(Explored {
         layer,
         found,
         states,
-        calls: 0,
+        calls: made,
     })
 }
 
@@ -210,8 +342,9 @@ fn advance<P: Profile, S: SaveStore<P> + DerivationStore<P>, W: SaveWaiters<P>>(
 
 /// Explores all orders of the clients' calls, from a kernel on. Each client's own calls are a list, in order. An order begins
 /// with the next calls of the clients of `first`; behind them, each call is made while its thread is ready. Orders that lead
-/// to the same state are taken together there, and nothing is lost by it. Where no order goes on, or the states of the next
-/// layer are more than the limit leaves, or `count` calls are behind the first ones, the exploration ends.
+/// to the same state are taken together there, and nothing is lost by it. While one client alone can make a call, no state is kept
+/// or compared. If no order goes on, or the states of the next layer are more than the limit leaves, or `count` calls are behind
+/// the first ones, the exploration ends.
 pub fn explore<P: Profile, S: SaveStore<P> + DerivationStore<P>, W: SaveWaiters<P>>(
     alloc: Global,
     calls: &[Vec<Call>],
@@ -225,7 +358,7 @@ pub fn explore<P: Profile, S: SaveStore<P> + DerivationStore<P>, W: SaveWaiters<
 {
     let mut kept = VecDeque::new(alloc);
     let mut spares = Vec::new(alloc);
-    let mut explored = begun(alloc, calls, kernel, first, &mut kept)?;
+    let mut explored = begun(alloc, calls, kernel, first, limit, count, &mut kept)?;
     while goes_on(&explored, limit, count) {
         advance(alloc, calls, kernel, &mut explored, &mut kept, &mut spares)?;
     }

@@ -1,4 +1,4 @@
-use Rattle.std.proofs.Common.{◌≡◌, ◌-◌, ℕ, ap, sym, ◌∙◌, arith}
+use Rattle.std.proofs.Common.{◌-◌, ℕ, ap, sym, ◌∙◌}
 use Rattle.query_orders.specs.World.{start}
 use Rattle.query_orders.specs.Nodes.{own_calls}
 use Rattle.query_orders.specs.Explorations.{layers_from}
@@ -6,19 +6,7 @@ use Rattle.query_orders.proofs.Exploration.Explorations.{depth_goes_on, depth_en
 use Rattle.query_orders.proofs.exploring.exploration.explore.Goals as goal
 
 pub loop-alloc-init : goal.loop-alloc-init
-loop-alloc-init g c A r k =
-    let p = g.P.Profile.profile in
-    let own = own_calls c.args.calls.now in
-    let b = c.in_ok-explored.ensures A r k in
-    let none = (b.1).0 in
-    let whole : c.args.count - 0 ≡ c.args.count = omega arith in (
-      b.0,
-      (
-        (b.1).1,
-        ap (λ (n : ℕ). layers_from p own (start own A) c.args.first.now c.args.limit (c.args.count - n) n) none
-            ∙ ap (λ (n : ℕ). layers_from p own (start own A) c.args.first.now c.args.limit n 0) whole,
-      ),
-    )
+loop-alloc-init g c A r k = c.in_ok-explored.ensures A r k
 
 pub loop-alloc-preserved : goal.loop-alloc-preserved
 loop-alloc-preserved g c A r k =
