@@ -406,28 +406,24 @@ pub fn notes_on(
     Ok(notes)
 }
 
-/// What standard error tells of a policy that is refused.
+/// What standard error tells of a policy that is refused: its faults, and how many more there are.
 ///
 /// # Errors
 ///
 /// Memory was refused, now or before.
 pub fn note_on_refusal(alloc: Global, refusal: &Refusal) -> Result<Vec<PolicyNote>, AllocError> {
-    let mut notes = Vec::new(alloc);
-    match refusal {
-        Refusal::Memory => return Err(AllocError),
-        Refusal::At {
-            line,
-            column,
-            words,
-            ..
-        } => {
-            let text = format!(in alloc; "error: {words}")?;
-            notes.push(PolicyNote::Place {
-                line: *line,
-                column: *column,
-                text,
-            })?;
-        }
+    let Refusal::At { notes, more, .. } = refusal else {
+        return Err(AllocError);
+    };
+    let mut lines = Lines::new(alloc);
+    lines.more = *more;
+    for note in notes.as_slice() {
+        let text = format!(in alloc; "error: {}", note.words)?;
+        lines.first.push(PolicyNote::Place {
+            line: note.line,
+            column: note.column,
+            text,
+        })?;
     }
-    Ok(notes)
+    lines.notes()
 }

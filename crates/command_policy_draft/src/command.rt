@@ -60,7 +60,13 @@ fn answer_by<P: Profile, S: MakeStore<P> + DerivationStore<P>, W: MakeWaiters<P>
         Ok(Some(text)) => Ok(Answer::new(alloc, text.into_bytes(), Verdict::AllMet)),
         Ok(None) => Ok(Answer::absent(alloc, String::from_str(alloc, NOT_KEPT)?)),
         Err(Refusal::Memory) => Err(AllocError),
-        Err(Refusal::At { words, .. }) => Ok(Answer::absent(alloc, words)),
+        Err(Refusal::At { mut notes, .. }) => {
+            let words = match notes.pop() {
+                Some(note) => note.words,
+                None => String::from_str(alloc, NOT_KEPT)?,
+            };
+            Ok(Answer::absent(alloc, words))
+        }
     }
 }
 

@@ -1,3 +1,4 @@
--- Loops that read each element of a list, and the keys of a table.
+-- Loops that read each element of a list, what is read in turn, and the keys of a table.
+pub mod InTurn
 pub mod Known
 pub mod Loops

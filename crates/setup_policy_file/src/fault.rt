@@ -1,8 +1,8 @@
-//! Why a policy is refused, and where.
+//! What is wrong with a policy, and where.
 ghost use Rattle.std.specs.Prelude.{◌≤◌};
 
 use setup_positions::{Part, span_in};
-use std::alloc::{AllocError, AllocFailed, Global};
+use std::alloc::{AllocError, Global};
 use std::fmt;
 
 /// Why a policy is refused.
@@ -54,6 +54,18 @@ pub enum Place {
     Use(usize),
 }
 
+impl fmt::Display for Place {
+    fn fmt<W: fmt::Write>(&self, f: &mut fmt::Formatter<W>) -> fmt::Result {
+        match self {
+            Place::Top => write!(f, "top"),
+            Place::Alone(n) => write!(f, "alone {n}"),
+            Place::Group(n) => write!(f, "group {n}"),
+            Place::Way(n) => write!(f, "way {n}"),
+            Place::Use(n) => write!(f, "use {n}"),
+        }
+    }
+}
+
 /// Where in a policy something is at fault.
 #[derive(Clone, Copy)]
 pub enum Spot<'a> {
@@ -61,6 +73,8 @@ pub enum Spot<'a> {
     Text(usize),
     /// At a key of a table.
     Key(Place, &'a str),
+    /// At an element of the list at a key of a table, 1 the first.
+    Element(Place, &'a str, usize),
     /// Among the threads of the state.
     Threads,
 }
@@ -70,11 +84,8 @@ impl fmt::Display for Spot<'_> {
         match self {
             Spot::Text(_) => write!(f, "text"),
             Spot::Threads => write!(f, "threads"),
-            Spot::Key(Place::Top, key) => write!(f, "top key {key}"),
-            Spot::Key(Place::Alone(n), key) => write!(f, "alone {n} key {key}"),
-            Spot::Key(Place::Group(n), key) => write!(f, "group {n} key {key}"),
-            Spot::Key(Place::Way(n), key) => write!(f, "way {n} key {key}"),
-            Spot::Key(Place::Use(n), key) => write!(f, "use {n} key {key}"),
+            Spot::Key(place, key) => write!(f, "{place} key {key}"),
+            Spot::Element(place, key, _) => write!(f, "{place} key {key}"),
         }
     }
 }
@@ -89,7 +100,8 @@ fn place_of(text: &str, at: usize) -> (usize, usize) {
     )
 }
 
-/// The line and the column of a spot of a policy, both from 1: those of the key, or of the table where the key is missing.
+/// The line and the column of a spot of a policy, both from 1: those of the key or the element, or of the table where the key is
+/// missing.
 ///
 /// # Errors
 /// Where memory was refused.
@@ -98,73 +110,19 @@ pub fn line_and_column(
     text: &str,
     spot: Spot<'_>,
 ) -> Result<(usize, usize), AllocError> {
-    let (array, key) = match spot {
+    let (place, key, part) = match spot {
         Spot::Text(at) => return Ok(place_of(text, at)),
         Spot::Threads => return Ok((1, 1)),
-        Spot::Key(Place::Top, key) => (None, key),
-        Spot::Key(Place::Alone(_), _) => (None, "alone"),
-        Spot::Key(Place::Group(n), key) => (Some(("group", n)), key),
-        Spot::Key(Place::Way(n), key) => (Some(("way", n)), key),
-        Spot::Key(Place::Use(n), key) => (Some(("use", n)), key),
+        Spot::Key(place, key) => (place, key, Part::Key),
+        Spot::Element(place, key, n) => (place, key, Part::Element(n)),
     };
-    let span = span_in(alloc, text, array, key, Part::Key)?;
+    let (array, key) = match place {
+        Place::Top => (None, key),
+        Place::Alone(_) => (None, "alone"),
+        Place::Group(n) => (Some(("group", n)), key),
+        Place::Way(n) => (Some(("way", n)), key),
+        Place::Use(n) => (Some(("use", n)), key),
+    };
+    let span = span_in(alloc, text, array, key, part)?;
     Ok(span.map_or((1, 1), |span| place_of(text, span.start)))
-}
-
-/// Why a policy is refused: the line on standard output, and what standard error tells with the line and the column.
-#[derive(Drop)]
-pub enum Refusal {
-    /// Memory was refused.
-    Memory,
-    /// The policy is at fault.
-    At {
-        fault: Fault,
-        place: String,
-        line: usize,
-        column: usize,
-        words: String,
-    },
-}
-
-impl<T: Drop> From<AllocFailed<T>> for Refusal {
-    fn from(_refused: AllocFailed<T>) -> Refusal {
-        Refusal::Memory
-    }
-}
-
-impl From<AllocError> for Refusal {
-    fn from(_refused: AllocError) -> Refusal {
-        Refusal::Memory
-    }
-}
-
-impl Refusal {
-    /// A fault at a spot of a text, with these words.
-    pub fn new(alloc: Global, text: &str, fault: Fault, spot: Spot<'_>, words: String) -> Refusal {
-        Refusal::at(alloc, text, fault, spot, spot, words)
-    }
-
-    /// A fault at a spot of a text, with these words, and another spot at which it is shown.
-    pub fn at(
-        alloc: Global,
-        text: &str,
-        fault: Fault,
-        spot: Spot<'_>,
-        shown: Spot<'_>,
-        words: String,
-    ) -> Refusal {
-        let Ok(place) = format!(in alloc; "{spot}") else {
-            return Refusal::Memory;
-        };
-        match line_and_column(alloc, text, shown) {
-            Ok((line, column)) => Refusal::At {
-                fault,
-                place,
-                line,
-                column,
-                words,
-            },
-            Err(_) => Refusal::Memory,
-        }
-    }
 }

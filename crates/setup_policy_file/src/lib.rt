@@ -3,12 +3,16 @@
 #![tactic(auto)]
 
 mod fault;
+mod faults;
 mod file;
+mod lists;
 mod near;
+mod reader;
 mod reading;
 mod values;
 
-pub use fault::{Fault, Place, Refusal, Spot, line_and_column};
+pub use fault::{Fault, Place, Spot, line_and_column};
+pub use faults::{Note, Refusal};
 pub use file::{GroupEntry, PolicyFile, UseEntry, WayEntry, Word};
 pub use near::{did_you_mean, nearest};
 pub use reading::read_policy;

@@ -1,582 +1,361 @@
 //! A policy file is read.
-ghost use Rattle.std.specs.Prelude.{◌≡◌, [], ◌∷◌, true, IfOk, IfNone, IsErr, Ok, Some, None, not, map, find, option_map, option_copied, option_and_then, string_bytes, codes};
-ghost use Rattle.std.specs.BTreeMap as tree;
+ghost use Rattle.std.specs.Prelude.{◌≡◌, [], ◌∷◌, true, IfOk, IfSome, IsErr, Some, map, option_and_then, option_map};
 ghost use Rattle.toml.specs.View.{view, table_view};
-ghost use Rattle.toml.specs.Data.{get_member, as_table};
-ghost use Rattle.setup_format.specs.Tables.{is_one_of};
+ghost use Rattle.toml.specs.Data.{as_table};
 ghost use Rattle.setup_policy_file.specs.Values as values;
 ghost use Rattle.setup_policy_file.specs.Files as spec;
+ghost use Rattle.setup_policy_file.specs.Private.{alone_group_of};
 
-use crate::fault::{Fault, Place, Refusal, Spot, line_and_column};
+use crate::fault::{Fault, Place, Spot, line_and_column};
+use crate::faults::{Faults, Refusal};
 use crate::file::{GroupEntry, PolicyFile, UseEntry, WayEntry, Word};
-use crate::near::did_you_mean;
-use crate::values::{
-    Bad, badge, group_name, group_names, is_group_name, number, rights, switch, version, word,
-    word_in, words,
-};
-use cap_core::Rights;
+use crate::lists::{Listing, each};
+use crate::reader::{Form, Reader, named};
+use crate::values::{Bad, group_name, word_in};
 use std::alloc::Global;
 use toml::{Table, Value};
 
-/// The keys of the top table.
-const TOP_KEYS: [&str; 10] = [
-    "policy",
-    "after",
-    "silent",
-    "messages",
-    "alone",
-    "seL4_grant",
-    "calls_succeed",
-    "group",
-    "way",
-    "use",
-];
-
-const GROUP_KEYS: [&str; 3] = ["name", "threads", "regions"];
-
-const WAY_KEYS: [&str; 5] = ["from", "to", "by", "badge", "rights"];
-
-const USE_KEYS: [&str; 4] = ["group", "of", "badge", "rights"];
-
-/// What an entry of each array has.
-const GROUP_HAS: &str = "name, threads and regions: { name = \"a\", threads = [\"a\"] }";
-
-const WAY_HAS: &str =
-    "from, to, by, badge and rights: { from = \"a\", to = \"b\", by = \"ep\", badge = 10 }";
-
-const USE_HAS: &str =
-    "group, of, badge and rights: { group = \"a\", of = \"ep\", badge = \"any\", rights = \"wr\" }";
-
-/// How an array's entries are called, which keys they have, and how one looks.
-#[derive(Clone, Copy)]
-struct Form {
-    name: &'static str,
-    keys: &'static [&'static str],
-    has: &'static str,
-}
+/// What the top table has.
+const TOP: Form = Form {
+    name: "policy",
+    keys: &[
+        "policy",
+        "after",
+        "silent",
+        "messages",
+        "alone",
+        "seL4_grant",
+        "calls_succeed",
+        "group",
+        "way",
+        "use",
+    ],
+    has: "policy, after, silent, messages, alone, seL4_grant, calls_succeed, group, way, use",
+};
 
 const GROUP: Form = Form {
     name: "group",
-    keys: &GROUP_KEYS,
-    has: GROUP_HAS,
+    keys: &["name", "threads", "regions"],
+    has: "name, threads and regions: { name = \"a\", threads = [\"a\"] }",
 };
 
 const WAY: Form = Form {
     name: "way",
-    keys: &WAY_KEYS,
-    has: WAY_HAS,
+    keys: &["from", "to", "by", "badge", "rights"],
+    has: "from, to, by, badge and rights: { from = \"a\", to = \"b\", by = \"ep\", badge = 10 }",
 };
 
 const USE: Form = Form {
     name: "use",
-    keys: &USE_KEYS,
-    has: USE_HAS,
+    keys: &["group", "of", "badge", "rights"],
+    has: "group, of, badge and rights: { group = \"a\", of = \"ep\", badge = \"any\", rights = \"wr\" }",
 };
 
-fn is_known(known: &[&str], key: &str) -> bool
-    ensures { result ≡ is_one_of (map (λ k. k.now) known.now) key.now }
-{
-    match known {
-        [] => false,
-        [first, rest @ ..] => *first == key || is_known(rest, key),
-    }
-}
-
-/// The first key of a table that is none of these.
-#[tactic(auto, using(crate::proofs::Known::only_known))]
-fn unknown_key<'t>(table: &'t Table, known: &[&str]) -> Option<&'t String>
-    ensures { IfNone result (spec.has_only (map (λ k. k.now) known.now) (table_view table.now) ≡ true) }
-{
-    first_unknown(table, known)
-}
-
-fn first_unknown<'t>(table: &'t Table, known: &[&str]) -> Option<&'t String>
-    ensures { option_copied result ≡ find (λ k. not (is_one_of (map (λ k. k.now) known.now) (string_bytes k))) (tree.keys table.now) }
-{
-    table.keys().find(|key| !is_known(known, key.as_str()))
-}
-
-/// A table of a policy's text.
-#[derive(Clone, Copy)]
-struct Reader<'a> {
-    alloc: Global,
-    text: &'a str,
-    table: &'a Table,
-    place: Place,
-    /// What is said of a key that is missing.
-    hint: &'a str,
-}
-
-impl<'a> Reader<'a> {
-    fn fault<T>(self, fault: Fault, key: &str, words: String) -> Result<T, Refusal>
-        ensures { IsErr result }
-    {
-        let spot = Spot::Key(self.place, key);
-        Err(Refusal::new(self.alloc, self.text, fault, spot, words))
-    }
-
-    /// The value of a key, where it is there.
-    fn find(self, key: &str) -> Option<&'a Value>
-        ensures { option_map (λ v. view v.now) result ≡ get_member key.now (table_view self.entry.table.now) }
-    {
-        self.table.get(key)
-    }
-
-    /// The value of a key; a fault where it is missing.
-    fn value(self, key: &str) -> Result<&'a Value, Refusal>
-        ensures { IfOk result (λ v. get_member key.now (table_view self.entry.table.now) ≡ Some (view v.now)) }
-    {
-        match self.find(key) {
-            Some(value) => Ok(value),
-            None => {
-                let words = format!(in self.alloc; "the key {key} is missing{}", self.hint)?;
-                self.fault(Fault::Missing, key, words)
-            }
-        }
-    }
-
-    /// What was read at a key, or the fault of its value.
-    fn taken<T>(self, key: &str, read: Result<T, Bad>) -> Result<T, Refusal>
-        ensures { IfOk result (λ x. read ≡ Ok x) }
-    {
-        match read {
-            Ok(value) => Ok(value),
-            Err(Bad::Memory) => Err(Refusal::Memory),
-            Err(Bad::Wrong(fault, words)) => {
-                let words = format!(in self.alloc; "{key}: {words}")?;
-                self.fault(fault, key, words)
-            }
-        }
-    }
-
-    /// Words, none where the key is missing.
-    fn words(self, key: &str) -> Result<Vec<Word>, Refusal>
-        ensures { IfOk result (λ v. spec.words_at key.now (table_view self.entry.table.now) ≡ Some (map values.word_view v.items)) }
-    {
-        match self.find(key) {
-            None => Ok(Vec::new(self.alloc)),
-            Some(value) => self.taken(key, words(self.alloc, value)),
-        }
-    }
-
-    /// Words; a fault where the key is missing.
-    fn needed_words(self, key: &str) -> Result<Vec<Word>, Refusal>
-        ensures { IfOk result (λ x. option_and_then values.words_of (get_member key.now (table_view self.entry.table.now)) ≡ Some (map values.word_view x.items)) }
-    {
-        let value = self.value(key)?;
-        self.taken(key, words(self.alloc, value))
-    }
-
-    /// A switch, on where the key is missing.
-    fn switch(self, key: &str) -> Result<bool, Refusal>
-        ensures { IfOk result (λ b. spec.switch_at key.now (table_view self.entry.table.now) ≡ Some b) }
-    {
-        match self.find(key) {
-            None => Ok(true),
-            Some(value) => self.taken(key, switch(self.alloc, value)),
-        }
-    }
-
-    /// The name of a group.
-    fn group_name(self, key: &str) -> Result<String, Refusal>
-        ensures { IfOk result (λ x. option_and_then values.group_name_of (get_member key.now (table_view self.entry.table.now)) ≡ Some (string_bytes x)) }
-    {
-        let value = self.value(key)?;
-        self.taken(key, group_name(self.alloc, value))
-    }
-
-    /// A word.
-    fn word(self, key: &str) -> Result<Word, Refusal>
-        ensures { IfOk result (λ x. option_and_then values.word_of (get_member key.now (table_view self.entry.table.now)) ≡ Some (values.word_view x)) }
-    {
-        let value = self.value(key)?;
-        self.taken(key, word(self.alloc, value))
-    }
-
-    /// A badge, 0 for any.
-    fn badge(self, key: &str) -> Result<u64, Refusal>
-        ensures { IfOk result (λ x. option_and_then values.badge_of (get_member key.now (table_view self.entry.table.now)) ≡ Some x) }
-    {
-        let value = self.value(key)?;
-        self.taken(key, badge(self.alloc, value))
-    }
-
-    /// The rights of a use.
-    fn needed_rights(self, key: &str) -> Result<Rights, Refusal>
-        ensures { IfOk result (λ x. option_and_then values.rights_of (get_member key.now (table_view self.entry.table.now)) ≡ Some x) }
-    {
-        let value = self.value(key)?;
-        self.taken(key, rights(self.alloc, value))
-    }
-
-    /// The rights of a way, Write where the key is missing; a fault where Write is not among them.
-    fn way_rights(self) -> Result<Rights, Refusal>
-        ensures { IfOk result (λ r. spec.way_rights_at (table_view self.entry.table.now) ≡ Some r) }
-    {
-        let Some(value) = self.find("rights") else {
-            return Ok(Rights::WRITE);
-        };
-        let rights = self.taken("rights", rights(self.alloc, value))?;
-        if rights.0 & Rights::WRITE.0 == 0 {
-            let words = String::from_str(
-                self.alloc,
-                "rights: a way carries Write; add w, or say by a use what else may be held",
-            )?;
-            return self.fault(Fault::Value, "rights", words);
-        }
-        Ok(rights)
-    }
-
-    /// The fault of a key that is none of these.
-    fn unknown(self, key: &str, keys: &[&str], has: &str) -> Result<(), Refusal>
-        ensures { IsErr result }
-    {
-        let others = format!(in self.alloc; "; the keys are {has}")?;
-        let question = did_you_mean(self.alloc, key, keys, others.as_str())?;
-        let words = format!(in self.alloc; "there is no key {key}{question}")?;
-        self.fault(
-            Fault::Unknown,
-            if is_group_name(key) { key } else { "?" },
-            words,
-        )
-    }
-
-    /// A fault where the table has a key that is none of these.
-    fn refuse_unknown(self, keys: &[&str], has: &str) -> Result<(), Refusal>
-        ensures { IfOk result (λ _. spec.has_only (map (λ k. k.now) keys.now) (table_view self.entry.table.now) ≡ true) }
-    {
-        match unknown_key(self.table, keys) {
-            None => Ok(()),
-            Some(key) => self.unknown(key.as_str(), keys, has),
-        }
-    }
-}
-
 /// That the value at an array's key is no list of tables.
-fn no_tables<T>(top: Reader<'_>, form: Form) -> Result<T, Refusal>
+fn no_tables<T>(alloc: Global, form: Form) -> Result<T, Bad>
     ensures { IsErr result }
 {
     let Form { name, has, .. } = form;
-    let words = format!(in top.alloc; "{name} has to be a list of tables, of {has}")?;
-    top.fault(Fault::Type, name, words)
+    let words = format!(in alloc; "{name} has to be a list of tables, of {has}")?;
+    Err(Bad::Wrong(Fault::Type, words))
 }
 
 /// The elements of an array, which are tables; none where the key is not there.
 #[tactic(auto, using(setup_values::proofs::Loops::item_list_view))]
-fn entries<'a>(top: Reader<'a>, form: Form) -> Result<&'a [Value], Refusal>
+fn entries<'a>(top: Reader<'a>, form: Form) -> Result<&'a [Value], Bad>
     ensures { IfOk result (λ es. spec.elements_at form.name.now (table_view top.entry.table.now) ≡ Some (map view es.now)) }
 {
     let Some(value) = top.find(form.name) else {
         return Ok(&[]);
     };
     let Some(array) = value.as_array() else {
-        return no_tables(top, form);
+        return no_tables(top.alloc, form);
     };
     let elements = array.as_slice();
     if elements.iter().all(Value::is_table) {
         Ok(elements)
     } else {
-        no_tables(top, form)
+        no_tables(top.alloc, form)
     }
 }
 
-/// One table of an array.
+/// What the tables of an array are read as.
+fn tables<L: Listing>(
+    list: L,
+    faults: &mut Faults<'_>,
+    top: Reader<'_>,
+    form: Form,
+) -> Option<Vec<L::Out>>
+    ensures { IfSome result (λ v. option_and_then (values.all_of L.reads) (spec.elements_at form.name.now (table_view top.entry.table.now)) ≡ Some (map L.shown v.items)) }
+{
+    let spot = Spot::Key(Place::Top, form.name);
+    let entries = faults.taken(spot, entries(top, form))?;
+    each(list, top.alloc, faults, entries)
+}
+
+/// One table of an array, which has no other keys than it may.
 fn entry<'a>(
+    faults: &mut Faults<'_>,
     top: Reader<'a>,
     form: Form,
     value: &'a Value,
     place: Place,
-    hint: &'a str,
-) -> Result<Reader<'a>, Refusal>
-    ensures is { IfOk result (λ r. as_table (view value.now) ≡ Some (table_view r.table.now)) }
-    ensures only { IfOk result (λ r. spec.has_only (map (λ k. k.now) form.keys.now) (table_view r.table.now) ≡ true) }
+) -> Option<Reader<'a>>
+    ensures is { IfSome result (λ r. as_table (view value.now) ≡ Some (table_view r.table.now)) }
+    ensures only { IfSome result (λ r. spec.has_only (map (λ k. k.now) form.keys.now) (table_view r.table.now) ≡ true) }
 {
-    let Some(table) = value.as_table() else {
-        return Err(Refusal::Memory);
-    };
+    let table = value.as_table()?;
     let reader = Reader {
         table,
         place,
-        hint,
+        form,
         ..top
     };
-    reader.refuse_unknown(form.keys, form.has)?;
-    Ok(reader)
-}
-
-fn hint(alloc: Global, form: Form) -> Result<String, Refusal> {
-    let Form { name, has, .. } = form;
-    Ok(format!(in alloc; "; a {name} has {has}")?)
+    reader.only_known(faults)?;
+    Some(reader)
 }
 
 /// The one thread of a group of its own, which has the group's name.
-fn one_thread(top: Reader<'_>, name: &str) -> Result<Vec<Word>, Refusal>
+fn one_thread(alloc: Global, name: &str) -> Result<Vec<Word>, Bad>
     ensures { IfOk result (λ v. option_map (λ w. w ∷ []) (values.word_in name.now) ≡ Some (map values.word_view v.items)) }
 {
-    let thread = top.taken("alone", word_in(top.alloc, name))?;
-    let mut threads = Vec::new(top.alloc);
+    let thread = word_in(alloc, name)?;
+    let mut threads = Vec::new(alloc);
     threads.push(thread)?;
     Ok(threads)
 }
 
 /// The group of a name of `alone`.
-fn alone_group(top: Reader<'_>, name: &str, place: Place) -> Result<GroupEntry, Refusal>
-    ensures { IfOk result (λ g. spec.alone_of name.now ≡ Some (spec.group_view g)) }
+fn alone_group(alloc: Global, value: &Value, place: Place) -> Result<GroupEntry, Bad>
+    ensures { IfOk result (λ g. alone_group_of (view value.now) ≡ Some (spec.group_view g)) }
 {
+    let name = group_name(alloc, value)?;
+    let threads = one_thread(alloc, name.as_str())?;
     Ok(GroupEntry {
-        name: String::from_str(top.alloc, name)?,
-        threads: one_thread(top, name)?,
-        regions: Vec::new(top.alloc),
+        name,
+        threads,
+        regions: Vec::new(alloc),
         place,
     })
 }
 
-/// The names of `alone`.
-fn alone_names(top: Reader<'_>) -> Result<Vec<String>, Refusal>
-    ensures { IfOk result (λ v. spec.alone_at (table_view top.entry.table.now) ≡ Some (map string_bytes v.items)) }
-{
-    match top.find("alone") {
-        None => Ok(Vec::new(top.alloc)),
-        Some(value) => top.taken("alone", group_names(top.alloc, value)),
+/// The groups of `alone`.
+#[derive(Clone, Copy)]
+struct Alone<'a>(Reader<'a>);
+
+impl Listing for Alone<'_> {
+    ghost use Rattle.setup_policy_file.specs.Files.{GroupView, group_view};
+    ghost use Rattle.setup_policy_file.specs.Private.{alone_group_of};
+
+    type Out = GroupEntry;
+
+    ghost View = { GroupView };
+
+    ghost shown = { group_view };
+
+    ghost reads = { alone_group_of };
+
+    fn read(self, faults: &mut Faults<'_>, value: &Value, n: usize) -> Option<GroupEntry> {
+        let alloc = self.0.alloc;
+        let group = alone_group(alloc, value, Place::Alone(n));
+        let spot = Spot::Element(Place::Top, "alone", n);
+        faults.taken(spot, named(alloc, "alone", group))
     }
 }
 
-fn alone_groups_in(top: Reader<'_>, elements: &[String]) -> Result<Vec<GroupEntry>, Refusal>
-    ensures { IfOk result (λ v. values.all_of spec.alone_of (map string_bytes elements.now) ≡ Some (map spec.group_view v.items)) }
+fn alone_groups(faults: &mut Faults<'_>, top: Reader<'_>) -> Option<Vec<GroupEntry>>
+    ensures { IfSome result (λ v. spec.alone_groups_of (table_view top.entry.table.now) ≡ Some (map spec.group_view v.items)) }
 {
-    let mut read = Vec::new(top.alloc);
-    let mut n = 0usize;
-    for element in elements {
-        n = n.saturating_add(1);
-        let one = alone_group(top, element.as_str(), Place::Alone(n))?;
-        read.push(one)?;
+    top.list(Alone(top), faults, "alone")
+}
+
+/// The groups of `group`.
+#[derive(Clone, Copy)]
+struct Groups<'a>(Reader<'a>);
+
+impl Listing for Groups<'_> {
+    ghost use Rattle.setup_policy_file.specs.Files.{GroupView, group_of, group_view};
+
+    type Out = GroupEntry;
+
+    ghost View = { GroupView };
+
+    ghost shown = { group_view };
+
+    ghost reads = { group_of };
+
+    fn read(self, faults: &mut Faults<'_>, value: &Value, n: usize) -> Option<GroupEntry> {
+        let reader = entry(faults, self.0, GROUP, value, Place::Group(n))?;
+        group_in(faults, reader)
     }
-    Ok(read)
 }
 
-/// A group for each name of `alone`.
-fn alone_groups(top: Reader<'_>) -> Result<Vec<GroupEntry>, Refusal>
-    ensures { IfOk result (λ v. spec.alone_groups_of (table_view top.entry.table.now) ≡ Some (map spec.group_view v.items)) }
+fn group_in(faults: &mut Faults<'_>, reader: Reader<'_>) -> Option<GroupEntry>
+    ensures { IfSome result (λ x. spec.group_in (table_view reader.entry.table.now) ≡ Some (spec.group_view x)) }
 {
-    let names = alone_names(top)?;
-    alone_groups_in(top, names.as_slice())
-}
-
-/// The group of a table of `group`.
-fn group_in(reader: Reader<'_>) -> Result<GroupEntry, Refusal>
-    ensures { IfOk result (λ x. spec.group_in (table_view reader.entry.table.now) ≡ Some (spec.group_view x)) }
-{
-    Ok(GroupEntry {
-        name: reader.group_name("name")?,
-        threads: reader.needed_words("threads")?,
-        regions: reader.words("regions")?,
+    let name = reader.group_name(faults, "name");
+    let threads = reader.needed_words(faults, "threads");
+    let regions = reader.words(faults, "regions");
+    Some(GroupEntry {
+        name: name?,
+        threads: threads?,
+        regions: regions?,
         place: reader.place,
     })
 }
 
-/// The group of an element of `group`.
-fn one_group(top: Reader<'_>, value: &Value, n: usize, hint: &str) -> Result<GroupEntry, Refusal>
-    ensures { IfOk result (λ x. spec.group_of (view value.now) ≡ Some (spec.group_view x)) }
-{
-    let reader = entry(top, GROUP, value, Place::Group(n), hint)?;
-    group_in(reader)
-}
-
-fn table_groups_in(top: Reader<'_>, elements: &[Value]) -> Result<Vec<GroupEntry>, Refusal>
-    ensures { IfOk result (λ v. values.all_of spec.group_of (map view elements.now) ≡ Some (map spec.group_view v.items)) }
-{
-    let hint = hint(top.alloc, GROUP)?;
-    let mut read = Vec::new(top.alloc);
-    let mut n = 0usize;
-    for element in elements {
-        n = n.saturating_add(1);
-        let one = one_group(top, element, n, hint.as_str())?;
-        read.push(one)?;
-    }
-    Ok(read)
-}
-
-/// The groups of `group`.
-fn table_groups(top: Reader<'_>) -> Result<Vec<GroupEntry>, Refusal>
-    ensures { IfOk result (λ v. spec.table_groups_of (table_view top.entry.table.now) ≡ Some (map spec.group_view v.items)) }
-{
-    let elements = entries(top, GROUP)?;
-    table_groups_in(top, elements)
-}
-
-/// The way of a table of `way`.
-fn way_in(reader: Reader<'_>) -> Result<WayEntry, Refusal>
-    ensures { IfOk result (λ x. spec.way_in (table_view reader.entry.table.now) ≡ Some (spec.way_view x)) }
-{
-    Ok(WayEntry {
-        from: reader.group_name("from")?,
-        to: reader.group_name("to")?,
-        by: reader.word("by")?,
-        badge: reader.badge("badge")?,
-        rights: reader.way_rights()?,
-    })
-}
-
-/// The way of an element of `way`.
-fn one_way(top: Reader<'_>, value: &Value, n: usize, hint: &str) -> Result<WayEntry, Refusal>
-    ensures { IfOk result (λ x. spec.way_of (view value.now) ≡ Some (spec.way_view x)) }
-{
-    let reader = entry(top, WAY, value, Place::Way(n), hint)?;
-    way_in(reader)
-}
-
-fn ways_in(top: Reader<'_>, elements: &[Value]) -> Result<Vec<WayEntry>, Refusal>
-    ensures { IfOk result (λ v. values.all_of spec.way_of (map view elements.now) ≡ Some (map spec.way_view v.items)) }
-{
-    let hint = hint(top.alloc, WAY)?;
-    let mut read = Vec::new(top.alloc);
-    let mut n = 0usize;
-    for element in elements {
-        n = n.saturating_add(1);
-        let one = one_way(top, element, n, hint.as_str())?;
-        read.push(one)?;
-    }
-    Ok(read)
-}
-
 /// The ways.
-fn ways(top: Reader<'_>) -> Result<Vec<WayEntry>, Refusal>
-    ensures { IfOk result (λ v. spec.ways_of (table_view top.entry.table.now) ≡ Some (map spec.way_view v.items)) }
-{
-    let elements = entries(top, WAY)?;
-    ways_in(top, elements)
-}
+#[derive(Clone, Copy)]
+struct Ways<'a>(Reader<'a>);
 
-/// The use of a table of `use`.
-fn use_in(reader: Reader<'_>) -> Result<UseEntry, Refusal>
-    ensures { IfOk result (λ x. spec.use_in (table_view reader.entry.table.now) ≡ Some (spec.use_view x)) }
-{
-    Ok(UseEntry {
-        group: reader.group_name("group")?,
-        of: reader.word("of")?,
-        badge: reader.badge("badge")?,
-        rights: reader.needed_rights("rights")?,
-    })
-}
+impl Listing for Ways<'_> {
+    ghost use Rattle.setup_policy_file.specs.Files.{WayView, way_of, way_view};
 
-/// The use of an element of `use`.
-fn one_use(top: Reader<'_>, value: &Value, n: usize, hint: &str) -> Result<UseEntry, Refusal>
-    ensures { IfOk result (λ x. spec.use_of (view value.now) ≡ Some (spec.use_view x)) }
-{
-    let reader = entry(top, USE, value, Place::Use(n), hint)?;
-    use_in(reader)
-}
+    type Out = WayEntry;
 
-fn uses_in(top: Reader<'_>, elements: &[Value]) -> Result<Vec<UseEntry>, Refusal>
-    ensures { IfOk result (λ v. values.all_of spec.use_of (map view elements.now) ≡ Some (map spec.use_view v.items)) }
-{
-    let hint = hint(top.alloc, USE)?;
-    let mut read = Vec::new(top.alloc);
-    let mut n = 0usize;
-    for element in elements {
-        n = n.saturating_add(1);
-        let one = one_use(top, element, n, hint.as_str())?;
-        read.push(one)?;
+    ghost View = { WayView };
+
+    ghost shown = { way_view };
+
+    ghost reads = { way_of };
+
+    fn read(self, faults: &mut Faults<'_>, value: &Value, n: usize) -> Option<WayEntry> {
+        let reader = entry(faults, self.0, WAY, value, Place::Way(n))?;
+        way_in(faults, reader)
     }
-    Ok(read)
+}
+
+fn way_in(faults: &mut Faults<'_>, reader: Reader<'_>) -> Option<WayEntry>
+    ensures { IfSome result (λ x. spec.way_in (table_view reader.entry.table.now) ≡ Some (spec.way_view x)) }
+{
+    let from = reader.group_name(faults, "from");
+    let to = reader.group_name(faults, "to");
+    let by = reader.word(faults, "by");
+    let badge = reader.badge(faults, "badge");
+    let rights = reader.way_rights(faults);
+    Some(WayEntry {
+        from: from?,
+        to: to?,
+        by: by?,
+        badge: badge?,
+        rights: rights?,
+    })
 }
 
 /// The uses.
-fn uses(top: Reader<'_>) -> Result<Vec<UseEntry>, Refusal>
-    ensures { IfOk result (λ v. spec.uses_of (table_view top.entry.table.now) ≡ Some (map spec.use_view v.items)) }
+#[derive(Clone, Copy)]
+struct Uses<'a>(Reader<'a>);
+
+impl Listing for Uses<'_> {
+    ghost use Rattle.setup_policy_file.specs.Files.{UseView, use_of, use_view};
+
+    type Out = UseEntry;
+
+    ghost View = { UseView };
+
+    ghost shown = { use_view };
+
+    ghost reads = { use_of };
+
+    fn read(self, faults: &mut Faults<'_>, value: &Value, n: usize) -> Option<UseEntry> {
+        let reader = entry(faults, self.0, USE, value, Place::Use(n))?;
+        use_in(faults, reader)
+    }
+}
+
+fn use_in(faults: &mut Faults<'_>, reader: Reader<'_>) -> Option<UseEntry>
+    ensures { IfSome result (λ x. spec.use_in (table_view reader.entry.table.now) ≡ Some (spec.use_view x)) }
 {
-    let elements = entries(top, USE)?;
-    uses_in(top, elements)
+    let group = reader.group_name(faults, "group");
+    let of = reader.word(faults, "of");
+    let badge = reader.badge(faults, "badge");
+    let rights = reader.rights(faults, "rights");
+    Some(UseEntry {
+        group: group?,
+        of: of?,
+        badge: badge?,
+        rights: rights?,
+    })
 }
 
-/// Where a group stands.
-fn spot_of(group: &GroupEntry) -> Spot<'static> {
-    Spot::Key(group.place, "name")
+/// What is wrong with a group that has the name of an earlier one.
+fn twice(faults: &Faults<'_>, name: &str, first: Place) -> Result<(), Bad> {
+    let (line, _) = line_and_column(faults.alloc, faults.text, Spot::Key(first, ""))?;
+    let words = format!(in faults.alloc;
+        "the group {name} stands in line {line} already; give one of them another name"
+    )?;
+    Err(Bad::Wrong(Fault::Twice, words))
 }
 
-/// A fault where two groups have one name.
-fn refuse_twice(alloc: Global, text: &str, groups: &[GroupEntry]) -> Result<(), Refusal> {
+/// A fault for each group that has the name of an earlier one.
+fn all_apart(faults: &mut Faults<'_>, groups: &[GroupEntry]) -> Option<()> {
+    let mut are_apart = true;
     for (i, group) in groups.iter().enumerate() {
         let name = group.name.as_str();
         let mut earlier = groups.iter().take(i);
         if let Some(first) = earlier.find(|other| other.name.as_str() == name) {
-            let (line, _) = line_and_column(alloc, text, Spot::Key(first.place, ""))?;
-            let words = format!(in alloc;
-                "the group {name} stands in line {line} already; give one of them another name"
-            )?;
-            return Err(Refusal::new(alloc, text, Fault::Twice, spot_of(group), words));
+            are_apart = false;
+            if faults.has_room() {
+                let wrong = twice(faults, name, first.place);
+                let _noted = faults.taken(Spot::Key(group.place, "name"), wrong);
+            }
         }
     }
-    Ok(())
+    if are_apart { Some(()) } else { None }
 }
 
-/// The version and the keys of the top table.
-fn check_top(top: Reader<'_>) -> Result<(), Refusal>
-    ensures version { IfOk result (λ _. spec.version_in (table_view top.entry.table.now) ≡ Some 1) }
-    ensures only { IfOk result (λ _. spec.has_only spec.top_keys (table_view top.entry.table.now) ≡ true) }
+/// What the table of a policy says; none where it is at fault. Behind a fault of the version nothing is read.
+fn read_top(faults: &mut Faults<'_>, table: &Table) -> Option<PolicyFile>
+    ensures { IfSome result (spec.IsPolicyTable (table_view table.now)) }
 {
-    let value = top.value("policy")?;
-    top.taken("policy", version(top.alloc, value))?;
-    let keys = TOP_KEYS.join(top.alloc, ", ")?;
-    top.refuse_unknown(&TOP_KEYS, keys.as_str())
-}
-
-fn after(top: Reader<'_>) -> Result<Option<u64>, Refusal>
-    ensures { IfOk result (λ o. spec.after_in (table_view top.entry.table.now) ≡ Some o) }
-{
-    match top.find("after") {
-        None => Ok(None),
-        Some(value) => {
-            let number = top.taken("after", number(top.alloc, value))?;
-            Ok(Some(number))
-        }
-    }
-}
-
-/// What the table of a policy says.
-fn read_top(top: Reader<'_>) -> Result<PolicyFile, Refusal>
-    ensures { IfOk result (spec.IsPolicyTable (table_view top.entry.table.now)) }
-{
-    check_top(top)?;
-    let after = after(top)?;
-    let silent = top.words("silent")?;
-    let messages = top.words("messages")?;
-    let mut groups = alone_groups(top)?;
-    let grant = top.switch("seL4_grant")?;
-    let calls = top.switch("calls_succeed")?;
-    let mut told = table_groups(top)?;
-    groups.append(&mut told)?;
-    Ok(PolicyFile {
-        after,
-        silent,
-        messages,
-        grant,
-        calls,
+    let top = Reader {
+        alloc: faults.alloc,
+        table,
+        place: Place::Top,
+        form: TOP,
+    };
+    top.version(faults)?;
+    let known = top.only_known(faults);
+    let after = top.after(faults);
+    let silent = top.words(faults, "silent");
+    let messages = top.words(faults, "messages");
+    let alone = alone_groups(faults, top);
+    let grant = top.switch(faults, "seL4_grant");
+    let calls = top.switch(faults, "calls_succeed");
+    let told = tables(Groups(top), faults, top, GROUP);
+    let ways = tables(Ways(top), faults, top, WAY);
+    let uses = tables(Uses(top), faults, top, USE);
+    let (mut groups, mut told) = (alone?, told?);
+    faults.kept(groups.append(&mut told))?;
+    all_apart(faults, groups.as_slice())?;
+    known?;
+    Some(PolicyFile {
+        after: after?,
+        silent: silent?,
+        messages: messages?,
+        grant: grant?,
+        calls: calls?,
         groups,
-        ways: ways(top)?,
-        uses: uses(top)?,
+        ways: ways?,
+        uses: uses?,
     })
 }
 
 fn read_table(alloc: Global, text: &str, table: &Table) -> Result<PolicyFile, Refusal>
     ensures { IfOk result (spec.IsPolicyTable (table_view table.now)) }
 {
-    let top = Reader {
-        alloc,
-        text,
-        table,
-        place: Place::Top,
-        hint: "; write policy = 1 at the top",
-    };
-    let policy = read_top(top)?;
-    refuse_twice(alloc, text, policy.groups.as_slice())?;
-    Ok(policy)
+    let mut faults = Faults::new(alloc, text);
+    match read_top(&mut faults, table) {
+        Some(policy) => Ok(policy),
+        None => Err(faults.refusal()),
+    }
 }
 
 /// Reads a policy file.
 ///
 /// # Errors
-/// `Memory`, or its first fault.
+/// `Memory`, or its faults. Each value at a key, each element of a list and each key that there is not is one of them; of a table
+/// of an array with such a key nothing else is told, and behind a fault of the version nothing is.
 pub fn read_policy(alloc: Global, bytes: &[u8]) -> Result<PolicyFile, Refusal>
     ensures { IfOk result (spec.IsPolicyText bytes.now) }
 {

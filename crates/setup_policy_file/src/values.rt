@@ -1,8 +1,9 @@
 //! The values of a policy's keys.
-ghost use Rattle.std.specs.Prelude.{◌≡◌, IfOk, IsErr, Some, map, string_bytes};
+ghost use Rattle.std.specs.Prelude.{◌≡◌, IfOk, IsErr, Some, map, option_and_then, string_bytes};
 ghost use Rattle.std.specs.List.{list_all};
 ghost use Rattle.toml.specs.View.{view};
 ghost use Rattle.setup_policy_file.specs.Values as spec;
+ghost use Rattle.setup_policy_file.specs.Files.{with_write};
 
 use crate::fault::Fault;
 use crate::file::Word;
@@ -206,7 +207,7 @@ pub fn word(alloc: Global, value: &Value) -> Result<Word, Bad>
 
 /// The elements of a list.
 #[tactic(auto, using(setup_values::proofs::Loops::item_list_view))]
-fn elements(alloc: Global, value: &Value) -> Result<&[Value], Bad>
+pub fn elements(alloc: Global, value: &Value) -> Result<&[Value], Bad>
     ensures { IfOk result (λ es. spec.elements_of (view value.now) ≡ Some (map view es.now)) }
 {
     let Some(array) = value.as_array() else {
@@ -215,44 +216,6 @@ fn elements(alloc: Global, value: &Value) -> Result<&[Value], Bad>
         return Err(Bad::Wrong(Fault::Type, words));
     };
     Ok(array.as_slice())
-}
-
-fn words_in(alloc: Global, elements: &[Value]) -> Result<Vec<Word>, Bad>
-    ensures { IfOk result (λ v. spec.all_of spec.word_of (map view elements.now) ≡ Some (map spec.word_view v.items)) }
-{
-    let mut read = Vec::new(alloc);
-    for element in elements {
-        let one = word(alloc, element)?;
-        read.push(one)?;
-    }
-    Ok(read)
-}
-
-/// A list of words.
-pub fn words(alloc: Global, value: &Value) -> Result<Vec<Word>, Bad>
-    ensures { IfOk result (λ v. spec.words_of (view value.now) ≡ Some (map spec.word_view v.items)) }
-{
-    let elements = elements(alloc, value)?;
-    words_in(alloc, elements)
-}
-
-fn group_names_in(alloc: Global, elements: &[Value]) -> Result<Vec<String>, Bad>
-    ensures { IfOk result (λ v. spec.all_of spec.group_name_of (map view elements.now) ≡ Some (map string_bytes v.items)) }
-{
-    let mut read = Vec::new(alloc);
-    for element in elements {
-        let one = group_name(alloc, element)?;
-        read.push(one)?;
-    }
-    Ok(read)
-}
-
-/// A list of names of groups.
-pub fn group_names(alloc: Global, value: &Value) -> Result<Vec<String>, Bad>
-    ensures { IfOk result (λ v. spec.group_names_of (view value.now) ≡ Some (map string_bytes v.items)) }
-{
-    let elements = elements(alloc, value)?;
-    group_names_in(alloc, elements)
 }
 
 /// What is wrong with a badge.
@@ -325,6 +288,20 @@ pub fn rights(alloc: Global, value: &Value) -> Result<Rights, Bad>
                 )?);
             }
         }
+    }
+    Ok(rights)
+}
+
+/// The rights of a way, which have Write.
+pub fn way_rights(alloc: Global, value: &Value) -> Result<Rights, Bad>
+    ensures { IfOk result (λ r. option_and_then with_write (spec.rights_of (view value.now)) ≡ Some r) }
+{
+    let rights = rights(alloc, value)?;
+    if rights.0 & Rights::WRITE.0 == 0 {
+        return wrong_value(String::from_str(
+            alloc,
+            "a way carries Write; add w, or say by a use what else may be held",
+        )?);
     }
     Ok(rights)
 }

@@ -1,9 +1,0 @@
-use Rattle.std.proofs.Common.{◌≡◌, map, drop}
-use Rattle.toml.specs.View.{view}
-use Rattle.setup_policy_file.specs.Values.{all_of}
-use Rattle.setup_policy_file.specs.Files.{use_of, use_view}
-use Rattle.setup_policy_file.proofs.Loops.{with_front}
-use Rattle.setup_policy_file.proofs.reading.uses_in.Given as goal
-
-abbrev pub invariant-loop-element : goal.invariant-loop-element
-invariant-loop-element l = with_front (map use_view l.read.items) (all_of use_of (map view (drop l.element-index l.elements))) ≡ all_of use_of (map view l.elements)
