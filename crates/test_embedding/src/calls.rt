@@ -1,6 +1,5 @@
 //! Calls, by what they are to do. Capabilities are named by their slots in the root CNode, which stands in slot 1.
-use cap_core::{Message, Rights};
-use kernel_core::{Call, Op};
+use crate::names::{Call, Message, Op, Rights};
 
 /// The slot of the root CNode's own capability.
 const ROOT: u64 = 1;

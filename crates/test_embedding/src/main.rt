@@ -1,4 +1,5 @@
-//! A kernel that Rattle code drives: it is booted from a plan, asked by `run` and by `step`, and read.
+//! A kernel that Rattle code drives: it is booted from a plan, asked by `run` and by `step`, and read. It runs over the
+//! linked store, and over a store of this program's own.
 //!
 //! Two threads, at 2048 and 4096, share the endpoint at 6144, whose capability boot puts into slot 4 of the root CNode.
 #![tactic(auto)]
@@ -11,17 +12,23 @@ ghost use Rattle.kernel_abstract.specs.State.{shown};
 ghost use Rattle.kernel_abstract.specs.Step.{replies_of, state_after};
 
 use calls::{mint_badge, receive, send_now};
-use cap_core::Wide;
-use ipc_core::LinkedWaiters;
-use kernel_core::{BootPlan, Call, Kernel, Reply};
-use slot_core::LinkedStore;
+use names::{
+    BootPlan, Call, Kernel, LinkedStore, LinkedWaiters, MakeStore, MakeWaiters, Profile, Reply,
+    Wide,
+};
+use own_store::OwnStore;
 use std::alloc::{AllocError, Global};
 use std::io;
 
 mod calls;
+mod names;
+mod own_store;
 
 /// A kernel with words of 64 bits, over the linked forms.
 type LinkedKernel = Kernel<Wide, LinkedStore<Wide>, LinkedWaiters<Wide>>;
+
+/// The same over a store of this program's own.
+type OwnKernel = Kernel<Wide, OwnStore, LinkedWaiters<Wide>>;
 
 const FIRST_THREAD: u64 = 2048;
 
@@ -32,20 +39,21 @@ const ENDPOINT: u64 = 6144;
 /// The address of slot 8 of the root CNode.
 const MINTED_SLOT: u64 = 256;
 
-/// The kernel after boot and a list of calls, and the replies: those of the abstract kernel from its boot on.
+/// The kernel after boot and a list of calls, and the replies: those of the abstract kernel from its boot on, whichever
+/// stores the kernel is made over.
 ///
 /// # Errors
 /// `AllocError` where memory was wanted and not there.
-fn run_from_boot(
+fn run_from_boot<P: Profile, S: MakeStore<P>, W: MakeWaiters<P>>(
     alloc: Global,
     plan: &BootPlan,
     calls: &[Call],
-) -> Result<(LinkedKernel, Vec<Reply>), AllocError>
-    requires { IsPlan wide plan.now }
-    ensures kernel { IfOk result (λ made. made.0 ≡ shown (state_after wide (boot wide plan.now) calls.now)) }
-    ensures replies { IfOk result (λ made. made.1.items ≡ replies_of wide (boot wide plan.now) calls.now) }
+) -> Result<(Kernel<P, S, W>, Vec<Reply>), AllocError>
+    requires { IsPlan P.profile plan.now }
+    ensures kernel { IfOk result (λ made. made.0 ≡ shown (state_after P.profile (boot P.profile plan.now) calls.now)) }
+    ensures replies { IfOk result (λ made. made.1.items ≡ replies_of P.profile (boot P.profile plan.now) calls.now) }
 {
-    let mut kernel = LinkedKernel::boot(alloc, plan)?;
+    let mut kernel = Kernel::<P, S, W>::boot(alloc, plan)?;
     let mut replies = Vec::with_capacity(alloc, calls.len())?;
     kernel.run(calls, &mut replies);
     Ok((kernel, replies))
@@ -75,7 +83,49 @@ fn show(rt: &impl Print, kernel: &LinkedKernel) -> io::Result<()> {
     println!(rt; "slot {MINTED_SLOT}: {cap:?}, children {children}")
 }
 
-/// Runs three calls from boot on, then two more, one at a time.
+/// Writes replies, makes two more calls, one at a time, and writes what they come to.
+fn go_on(rt: &impl Print, kernel: &mut LinkedKernel, replies: &[Reply]) -> io::Result<()> {
+    for reply in replies {
+        println!(rt; "{reply:?}")?;
+    }
+    let refused = is_refused(kernel, receive(SECOND_THREAD, 8));
+    println!(rt; "a receive by slot 8, which has the right Write alone, is refused: {refused}")?;
+    let reply = kernel.step(receive(SECOND_THREAD, 4));
+    println!(rt; "{reply:?}")?;
+    show(rt, kernel)
+}
+
+/// Whether a kernel over this program's own store makes these replies.
+///
+/// # Errors
+/// `AllocError` where memory was wanted and not there.
+fn replies_alike(
+    alloc: Global,
+    plan: &BootPlan,
+    calls: &[Call],
+    replies: &[Reply],
+) -> Result<bool, AllocError>
+    requires { IsPlan wide plan.now }
+{
+    let (_, own): (OwnKernel, Vec<Reply>) = run_from_boot(alloc, plan, calls)?;
+    Ok(own.as_slice() == replies)
+}
+
+/// Runs calls from boot on over the linked store, goes on with two more, and answers the replies to the first.
+fn run_linked(
+    rt: &impl Print,
+    alloc: Global,
+    plan: &BootPlan,
+    calls: &[Call],
+) -> anyhow::Result<Vec<Reply>>
+    requires { IsPlan wide plan.now }
+{
+    let (mut kernel, replies): (LinkedKernel, Vec<Reply>) = run_from_boot(alloc, plan, calls)?;
+    go_on(rt, &mut kernel, &replies)?;
+    Ok(replies)
+}
+
+/// Runs three calls from boot on, then two more, and the three again over this program's own store.
 fn run(rt: &(impl Print + AllocGlobal)) -> anyhow::Result<()> {
     let alloc = rt.alloc();
     let Ok(plan) = BootPlan::new::<Wide>(16, 4, 2, 1, Vec::new(alloc)) else {
@@ -87,15 +137,9 @@ fn run(rt: &(impl Print + AllocGlobal)) -> anyhow::Result<()> {
         receive(SECOND_THREAD, 4),
         send_now(FIRST_THREAD, 8, 7),
     ];
-    let (mut kernel, replies) = run_from_boot(alloc, &plan, &calls)?;
-    for reply in &replies {
-        println!(rt; "{reply:?}")?;
-    }
-    let refused = is_refused(&mut kernel, receive(SECOND_THREAD, 8));
-    println!(rt; "a receive by slot 8, which has the right Write alone, is refused: {refused}")?;
-    let reply = kernel.step(receive(SECOND_THREAD, 4));
-    println!(rt; "{reply:?}")?;
-    show(rt, &kernel)?;
+    let replies = run_linked(rt, alloc, &plan, &calls)?;
+    let are_same = replies_alike(alloc, &plan, &calls, &replies)?;
+    println!(rt; "a kernel over a store of the program's own replies the same: {are_same}")?;
     Ok(())
 }
 
