@@ -1,8 +1,9 @@
 //! A set-up that is held to a policy, as the answer of a command.
-ghost use Rattle.std.specs.Prelude.{◌≡◌, IfOk, Some};
+ghost use Rattle.std.specs.Prelude.{◌≡◌, false, IfOk, Some};
 ghost use Rattle.std.specs.Option.{option_or};
 ghost use Rattle.kernel_abstract.specs.Plan.{IsPlan};
 ghost use Rattle.setup_report.specs.Behind.{calls_made as calls_made_of};
+ghost use Rattle.setup_report.specs.State.{is_in};
 ghost use Rattle.setup_policy_file.specs.Files.{IsPolicyText};
 ghost use Rattle.command_policy.specs.Policies.{IsJudging, IsPolicyRefused, refused_line};
 
@@ -30,6 +31,23 @@ fn text_of(bytes: &[u8]) -> &str {
     bytes.utf8_chunks().next().map_or("", |chunk| chunk.valid())
 }
 
+fn has_line_end(text: &[u8]) -> bool
+    ensures { result ≡ is_in 10 text.now }
+{
+    text.contains(&b'\n')
+}
+
+/// A place, which stands in one line.
+fn in_one_line(place: &str) -> &str
+    ensures { is_in 10 result.now ≡ false }
+{
+    if has_line_end(place.as_bytes()) {
+        ""
+    } else {
+        place
+    }
+}
+
 /// The answer by which a policy is refused for a fault at a place.
 fn refused_at(
     alloc: Global,
@@ -51,7 +69,9 @@ fn refused(alloc: Global, refusal: &Refusal) -> Result<Answer, AllocError>
     let notes = note_on_refusal(alloc, refusal)?;
     match refusal {
         Refusal::Memory => Err(AllocError),
-        Refusal::At { fault, place, .. } => refused_at(alloc, fault.code(), place.as_str(), notes),
+        Refusal::At { fault, place, .. } => {
+            refused_at(alloc, fault.code(), in_one_line(place.as_str()), notes)
+        }
     }
 }
 
@@ -91,7 +111,7 @@ impl HeldTo<'_> {
         requires plan { IsPlan P.profile read.now.setup.plan }
         requires says { IsPolicyText self.now.policy.now file }
         requires made { calls_made_of read.now.setup (option_or self.now.after file.after) ≡ Some made }
-        ensures { IfOk result (IsJudging self.now.policy.now self.now.after P.profile read.now.setup) }
+        ensures { IfOk result (IsJudging self.now.policy.now self.now.after P.profile read.now) }
     {
         let text = text_of(self.policy);
         let (names, setup) = (read.names.as_slice(), &read.setup);
@@ -108,7 +128,7 @@ impl HeldTo<'_> {
         read: &ReadSetup,
     ) -> Result<Judging, AllocError>
         requires { IsPlan P.profile read.now.setup.plan }
-        ensures { IfOk result (IsJudging self.now.policy.now self.now.after P.profile read.now.setup) }
+        ensures { IfOk result (IsJudging self.now.policy.now self.now.after P.profile read.now) }
     {
         let file = match read_policy(alloc, self.policy) {
             Ok(file) => file,

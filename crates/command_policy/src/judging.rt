@@ -2,7 +2,10 @@
 ghost use Rattle.std.specs.Prelude.{◌≡◌, ◌≤◌, ℕ, IfErr, IfOk, length, map, string_bytes};
 ghost use Rattle.kernel_abstract.specs.Memory.{IsInMemory};
 ghost use Rattle.kernel_abstract.specs.Plan.{IsPlan};
+ghost use Rattle.setup_values.specs.Names.{names_view};
 ghost use Rattle.setup_report.specs.State as state;
+ghost use Rattle.setup_policy_meaning.specs.Meant.{AreLabels};
+ghost use Rattle.setup_policy_meaning.specs.Policies.{IsPolicyMeant};
 ghost use Rattle.slot_core.specs.Calls.{derivation_view};
 ghost use Rattle.command_policy.specs.Policies as spec;
 
@@ -103,7 +106,10 @@ fn resolved<'a, P: Profile, S: CapStore<P> + Drop, W: Waiters<P> + Drop>(
     kernel: &'a Kernel<P, S, W>,
     slots: &[Derivation],
 ) -> Result<(Policy, Labels), Refusal>
-    requires { IsPlan P.profile setup.now.plan }
+    requires plan { IsPlan P.profile setup.now.plan }
+    requires slots { map (derivation_view P.profile) slots.now ≡ state.slot_rows kernel.now }
+    ensures policy { IfOk result (λ r. IsPolicyMeant P.profile (names_view names.now) setup.now.plan kernel.now file.now r.0) }
+    ensures labels { IfOk result (λ r. AreLabels P.profile (names_view names.now) setup.now.plan kernel.now r.1) }
 {
     let live = live_objects::<P>(alloc, slots)?;
     let root = root_slots::<P>(alloc, setup.plan(), slots)?;
@@ -118,7 +124,7 @@ fn resolved<'a, P: Profile, S: CapStore<P> + Drop, W: Waiters<P> + Drop>(
         text,
         meaning: Meaning::new(objects, setup, kernel),
     };
-    Ok((resolver.policy()?, objects.labels()?))
+    Ok((resolver.policy(slots)?, resolver.meaning.labels()?))
 }
 
 fn judged_by<P: Profile, S: DerivationStore<P> + Drop, W: Waiters<P> + Drop>(
@@ -132,6 +138,8 @@ fn judged_by<P: Profile, S: DerivationStore<P> + Drop, W: Waiters<P> + Drop>(
     requires threads { rows.now.threads.keys ≡ state.threads P.profile kernel.now }
     requires slots { map (derivation_view P.profile) rows.now.slots.items ≡ state.slot_rows kernel.now }
     ensures judged { IfOk result (spec.IsJudgedOf P.profile kernel.now replies.items) }
+    ensures policy { IfOk result (λ j. j.policy ≡ policy) }
+    ensures labels { IfOk result (λ j. j.labels ≡ labels) }
     ensures fault { IfErr result (λ fault. fault ≡ PartsFault.Block → (memory : ℕ) → IsInMemory P.profile memory kernel.now → ⊥) }
 {
     let trusted = trusted_threads(alloc, &policy)?;
@@ -166,7 +174,8 @@ pub fn judge<P: Profile, S: MakeStore<P> + DerivationStore<P>, W: MakeWaiters<P>
 ) -> Result<Judged, Refusal>
     requires plan { IsPlan P.profile setup.now.plan }
     requires made { made ≤ length setup.now.calls }
-    ensures { IfOk result (spec.IsJudged P.profile setup.now made) }
+    ensures judged { IfOk result (spec.IsJudged P.profile setup.now made) }
+    ensures meant { IfOk result (spec.IsPolicyMeantBehind P.profile (names_view names.now) setup.now made file.now) }
 {
     let (kernel, replies) = run_first::<P, S, W>(alloc, setup, made)?;
     let rows = state_rows::<P, S, W>(alloc, &kernel)?;

@@ -13,7 +13,9 @@ use Rattle.command_parts.specs.Threads.{Trusted, objects_named}
 use Rattle.setup_policy.specs.declared.policy.Member.{Member}
 use Rattle.command_policy_text.specs.Kinds.{thread_breaches}
 use Rattle.command_policy.specs.declared.judging.Judged.{Judged}
-use Rattle.command_policy.specs.Policies.{IsJudged, told_of}
+use Rattle.setup_policy_file.specs.declared.file.PolicyFile.{PolicyFile}
+use Rattle.setup_policy_file.specs.Files.{IsPolicyText}
+use Rattle.command_policy.specs.Policies.{IsJudged, IsPolicyMeantBehind, told_of}
 
 -- no line tells of a breach of a policy that is held to a set-up; or a part has the control block of a trusted thread, which no policy
 -- allows
@@ -27,16 +29,23 @@ pub record IsKeptBy (setup : SetupView) (silent messages : List ℕ) (judged : J
   pub messages_are : map (λ (m : Member). m.thread) judged.policy.messages.items ≡ messages
   pub held : IsHeldAsWritten judged setup
 
+-- the policy that a text says and means in the state behind the first calls
+pub record IsReadOf (p : ProfileName) (names : Names) (setup : SetupView) (made : ℕ) (text : List ℕ) (judged : Judged) : Type 0 where
+  pub file : PolicyFile
+  pub says : IsPolicyText text file
+  pub meant : IsPolicyMeantBehind p names setup made file judged
+
 -- it is held to the state behind the first calls, as by `audit --policy`
-pub record IsKept (p : ProfileName) (setup : SetupView) (made : ℕ) (silent messages : List ℕ) : Type 0 where
+pub record IsKept (p : ProfileName) (names : Names) (setup : SetupView) (made : ℕ) (silent messages text : List ℕ) : Type 0 where
   pub judged : Judged
+  pub is_read : IsReadOf p names setup made text judged
   pub is_judged : IsJudged p setup made judged
   pub is_kept : IsKeptBy setup silent messages judged
 
--- such a policy was judged, and some text is written; or nothing, where none was found
-abbrev pub IsDraftText : ProfileName → SetupView → ℕ → List ℕ → List ℕ → List ℕ → Verdict → Type 0
-IsDraftText p setup made silent messages text verdict =
-    ((text ≡ []) × (verdict ≡ Absent)) ⊎ (IsKept p setup made silent messages × (verdict ≡ AllMet))
+-- such a policy is written; or nothing, where none was found
+abbrev pub IsDraftText : ProfileName → Names → SetupView → ℕ → List ℕ → List ℕ → List ℕ → Verdict → Type 0
+IsDraftText p names setup made silent messages text verdict =
+    ((text ≡ []) × (verdict ≡ Absent)) ⊎ (IsKept p names setup made silent messages text × (verdict ≡ AllMet))
 
 -- those of some threads that are live, and none of others
 abbrev pub live_of : List ℕ → List ℕ → List ℕ → List ℕ
@@ -53,7 +62,7 @@ messages_of trust p names setup v =
 -- the policy that a layout keeps, whatever its threads call, but those that are trusted
 abbrev pub IsDraftOf : Trusted → ProfileName → Names → SetupView → ℕ → Shown → List ℕ → Verdict → Type 0
 IsDraftOf trust p names setup made v text verdict =
-    IsDraftText p setup made (silent_of trust p names setup v) (messages_of trust p names setup v) text verdict
+    IsDraftText p names setup made (silent_of trust p names setup v) (messages_of trust p names setup v) text verdict
 
 -- the same of the state after the first calls
 abbrev pub IsDraft : Trusted → ProfileName → Names → SetupView → ℕ → State → List ℕ → Verdict → Type 0

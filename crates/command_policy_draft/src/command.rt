@@ -53,7 +53,7 @@ fn answer_by<P: Profile, S: MakeStore<P> + DerivationStore<P>, W: MakeWaiters<P>
 ) -> Result<Answer, AllocError>
     requires plan { IsPlan P.profile asked.setup.now.plan }
     requires made { asked.made ≤ length asked.setup.now.calls }
-    ensures { IfOk result (λ made. spec.IsDraftText P.profile asked.entry.setup.now asked.entry.made asked.entry.silent.now asked.entry.messages.now made.text.items made.verdict) }
+    ensures { IfOk result (λ made. spec.IsDraftText P.profile (names_view asked.entry.names.now) asked.entry.setup.now asked.entry.made asked.entry.silent.now asked.entry.messages.now made.text.items made.verdict) }
 {
     let alloc = asked.alloc;
     match kept_text::<P, S, W>(asked) {

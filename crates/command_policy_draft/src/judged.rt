@@ -1,6 +1,7 @@
 //! A draft is read back and judged before it is written.
-ghost use Rattle.std.specs.Prelude.{◌≡◌, ◌≢◌, ◌≤◌, ◌↔◌, ◌⊎◌, [], IfOk, IfSome, IsTrue, length, map};
+ghost use Rattle.std.specs.Prelude.{◌≡◌, ◌≢◌, ◌≤◌, ◌↔◌, ◌⊎◌, [], IfOk, IfSome, IsTrue, length, map, string_bytes};
 ghost use Rattle.kernel_abstract.specs.Plan.{IsPlan};
+ghost use Rattle.setup_values.specs.Names.{names_view};
 ghost use Rattle.command_policy.specs.Policies.{IsJudged};
 ghost use Rattle.command_policy_draft.specs.Drafts as spec;
 
@@ -46,6 +47,7 @@ fn read_back<P: Profile, S: MakeStore<P> + DerivationStore<P>, W: MakeWaiters<P>
     requires made { asked.made ≤ length asked.setup.now.calls }
     ensures judged { IfOk result (IsJudged P.profile asked.entry.setup.now asked.entry.made) }
     ensures fit { IfOk result (λ j. length j.replies.items ≤ length asked.entry.setup.now.calls) }
+    ensures read { IfOk result (spec.IsReadOf P.profile (names_view asked.entry.names.now) asked.entry.setup.now asked.entry.made text.now) }
 {
     let file = read_policy(asked.alloc, text.as_bytes())?;
     judge::<P, S, W>(
@@ -134,7 +136,7 @@ pub fn kept_text<P: Profile, S: MakeStore<P> + DerivationStore<P>, W: MakeWaiter
 ) -> Result<Option<String>, Refusal>
     requires plan { IsPlan P.profile asked.setup.now.plan }
     requires made { asked.made ≤ length asked.setup.now.calls }
-    ensures { IfOk result (λ found. IfSome found (λ text. spec.IsKept P.profile asked.entry.setup.now asked.entry.made asked.entry.silent.now asked.entry.messages.now)) }
+    ensures { IfOk result (λ found. IfSome found (λ text. spec.IsKept P.profile (names_view asked.entry.names.now) asked.entry.setup.now asked.entry.made asked.entry.silent.now asked.entry.messages.now (string_bytes text))) }
 {
     let text = draft_text::<P, S, W>(asked)?;
     let judged = read_back::<P, S, W>(asked, text.as_str())?;

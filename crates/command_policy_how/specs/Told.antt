@@ -74,15 +74,14 @@ IsAnswerUnlessFlows n most p names setup made j text verdict =
     MatchBool (is_for_flows names) (IsNothing text verdict) (IsAnswerOf n most p setup made j text verdict)
 
 -- of the state behind the first calls, held to a policy
-pub record IsJudgedTold (n most : ℕ) (policy : List ℕ) (p : ProfileName) (names : Names) (setup : SetupView) (after : Option ℕ) (text : List ℕ) (verdict : Verdict) : Type 0 where
+pub record IsJudgedTold (n most : ℕ) (policy : List ℕ) (p : ProfileName) (read : ReadView) (after : Option ℕ) (text : List ℕ) (verdict : Verdict) : Type 0 where
   pub made : ℕ
   pub judged : Judged
   pub file : PolicyFile
-  pub is_judged : IsJudgedFirst policy p setup after made file judged
-  pub answered : IsAnswerUnlessFlows n most p names setup made judged text verdict
+  pub is_judged : IsJudgedFirst policy p read after made file judged
+  pub answered : IsAnswerUnlessFlows n most p read.names read.setup made judged text verdict
 
 -- the policy is refused; or the set-up has fewer calls than are asked for; or it is asked of the breach, by so many copies of the kernel
 abbrev pub IsBreachHow : ℕ → List ℕ → Option ℕ → Option ℕ → ProfileName → ReadView → List ℕ → Verdict → Type 0
 IsBreachHow n policy after states p read text verdict =
-    (IsPolicyRefused text verdict ⊎ IsPast read.setup after text verdict)
-    ⊎ IsJudgedTold n (most_of states) policy p read.names read.setup after text verdict
+    (IsPolicyRefused text verdict ⊎ IsPast read.setup after text verdict) ⊎ IsJudgedTold n (most_of states) policy p read after text verdict

@@ -37,6 +37,7 @@ audit_promised policy after p read text plan (inr (inr held)) =
       made = held.made;
       is_made = held.is_made;
       judged = j;
+      meant = held.meant;
       is_judged = is;
       named = made.0;
       kept = made.1;

@@ -74,7 +74,7 @@ from_head f x xs y (Some w) is rest there = elim there [
   | inr more ↦ let m = rest more in (m.0, (inr m.1.0, m.1.1))
 ]
 
-from_found : {X Y : Type 0} (f : X → Option Y) (xs : List X) (y : Y) → In y (filter_map f xs) → (x : X) × (In x xs × (f x ≡ Some y))
+pub from_found : {X Y : Type 0} (f : X → Option Y) (xs : List X) (y : Y) → In y (filter_map f xs) → (x : X) × (In x xs × (f x ≡ Some y))
 from_found f [] y there = absurd there
 from_found f (x ∷ xs) y there = from_head f x xs y (f x) refl (from_found f xs y) there
 

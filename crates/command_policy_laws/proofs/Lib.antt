@@ -9,5 +9,6 @@ pub mod Waiting
 pub mod Unbroken
 pub mod Regions
 pub mod Theirs
+pub mod Broken
 pub mod Status
 pub mod Audits

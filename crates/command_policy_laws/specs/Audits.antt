@@ -13,17 +13,19 @@ use Rattle.command_core.specs.declared.fault.Verdict.TheVariants.{AllMet}
 use Rattle.setup_policy_file.specs.Files.{IsPolicyText}
 use Rattle.setup_policy_file.specs.declared.file.PolicyFile.{PolicyFile}
 use Rattle.command_policy.specs.declared.judging.Judged.{Judged}
-use Rattle.command_policy.specs.Policies.{IsJudged, IsPolicyOf}
+use Rattle.command_policy.specs.Policies.{IsJudged, IsPolicyMeantBehind, IsPolicyOf}
 use Rattle.command_policy_laws.specs.Unbroken.{AreKept, AreNamed}
 
--- the file of the policy is what its text says; so many calls are made as it asks for, or the command line; what is judged is of the state
--- behind them; its threads are of the groups that name them; and it is kept after whatever calls
+-- the file of the policy is what its text says, and the policy is what its words mean; so many calls are made as it asks for, or the
+-- command line; what is judged is of the state behind them; its threads are of the groups that name them; and it is kept after whatever
+-- calls
 pub record IsAuditKept (policy : List ℕ) (after : Option ℕ) (p : ProfileName) (read : ReadView) : Type 0 where
   pub file : PolicyFile
   pub says : IsPolicyText policy file
   pub made : ℕ
   pub is_made : calls_made read.setup (option_or after file.after) ≡ Some made
   pub judged : Judged
+  pub meant : IsPolicyMeantBehind p read.names read.setup made file judged
   pub is_judged : IsJudged p read.setup made judged
   pub named : AreNamed judged.policy judged.layout
   pub kept : (calls : List Call) → Each (IsAllowed (parts_listed judged.layout.memory.items judged.layout.uses.items)) calls

@@ -1,8 +1,9 @@
 -- What the laws of policies say: Held of messages by ways, Grants of capabilities that are handed over, Larger of parts that
--- lie in others, Keeps of a policy that is kept, and Unbroken of a text that tells of no breach.
+-- lie in others, Keeps of a policy that is kept, Broken of a line that tells of a breach, and Unbroken of a text that tells of none.
 pub mod Held
 pub mod Larger
 pub mod Keeps
+pub mod Broken
 pub mod Grants
 pub mod Unbroken
 pub mod Audits

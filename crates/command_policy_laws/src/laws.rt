@@ -16,6 +16,7 @@ ghost use Rattle.setup_policy.specs.declared.policy.Policy.{Policy};
 ghost use Rattle.std.specs.Prelude.{Option};
 ghost use Rattle.setup_format.specs.Views.{ReadView};
 ghost use Rattle.command_policy_laws.specs.Audits.{WhatAuditPolicyPromises};
+ghost use Rattle.command_policy_laws.specs.Broken.{WhatIsToldIsBroken};
 ghost use Rattle.command_policy_laws.specs.Grants.{are_answered, are_given, AreAnswersKeptEver, AreGrantsKeptEver};
 ghost use Rattle.command_policy_laws.specs.Held.{are_passages_let, AreWaysHeldEver};
 ghost use Rattle.command_policy_laws.specs.Keeps.{LeastKeepMost, WhatIsKeptIsHeld};
@@ -57,6 +58,14 @@ pub fn larger_parts_hold_no_less()
 pub fn least_parts_keep_what_larger_keep()
     ensures { (p : ProfileName) (threads : List ℕ) (memory : List PartMemory) (uses : List PartUse) (v : Shown) →
         LeastKeepMost p threads memory uses v }
+{}
+
+/// What is told as a breach is one of all parts that are closed around the threads which the policy does not trust, and no smaller bound
+/// of this kind is without it: where a line tells of a use in the part of a group's thread, of an endpoint in no part of this group, of
+/// threads of two groups in one part, or of a way by a use to send and a use to receive, no such parts keep the policy, whatever groups
+/// other threads have.
+pub fn what_is_told_is_broken()
+    ensures { (p : ProfileName) (c : Policy) (l : Layout) (A : State) → WhatIsToldIsBroken p c l A }
 {}
 
 /// Where confined parts keep to a policy, it is held to, whatever calls the threads of the parts make, and whatever messages other threads

@@ -14,5 +14,5 @@ pub meant_there : (kind : Kind) (asked : ObjectKind) (p : ProfileName) (names : 
     → kind_meant kind ≡ Some asked → object_meant asked p names plan v text ≡ Some base → at ≡ base → IsMeant kind p names plan v text at
 meant_there Thread asked p names plan v text base at is found same = cc
 meant_there Endpoint asked p names plan v text base at is found same = cc
-meant_there Region asked p names plan v text base at is found same = tt
+meant_there Region asked p names plan v text base at is found same = cc
 meant_there Node asked p names plan v text base at is found same = tt

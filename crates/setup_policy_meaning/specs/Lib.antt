@@ -1,1 +1,3 @@
 pub mod Meant
+pub mod Policies
+pub mod Regions

@@ -2,6 +2,7 @@
 #![tactic(auto)]
 
 mod objects;
+mod regions;
 mod resolve;
 
 pub use objects::{Meaning, Object, Objects, object_of, root_slots};

@@ -1,5 +1,5 @@
 //! Which object a word of a policy means, and what objects are called.
-ghost use Rattle.std.specs.Prelude.{◌≡◌, IfOk, IfSome, IsErr, string_bytes};
+ghost use Rattle.std.specs.Prelude.{◌≡◌, ◌++◌, codes, All, IfOk, IfSome, IsErr, IsTrue, string_bytes};
 ghost use Rattle.kernel_abstract.specs.Plan.{IsPlan, IsWithinLimits};
 ghost use Rattle.setup_values.specs.Names.{names_view};
 ghost use Rattle.setup_policy_meaning.specs.Meant as spec;
@@ -204,13 +204,6 @@ impl<'a> Objects<'a> {
         largest
     }
 
-    /// Whether another region, of another size, begins where this one does.
-    fn is_one_of_several(self, region: Object) -> bool {
-        self.live.iter().any(|live| live.kind == Kind::Region
-            && live.base == region.base
-            && live.bits != region.bits)
-    }
-
     /// What there is in place of an object that is not there.
     fn in_place(self, number: u64) -> Result<String, AllocError> {
         if self.is_slot(number) {
@@ -253,7 +246,12 @@ impl<'a> Objects<'a> {
     }
 
     /// That a word, whose number this is, means no object of a kind.
-    fn unmeant<T>(self, kind: Kind, word: &Word, number: Option<u64>) -> Result<T, Unmeant>
+    pub(crate) fn unmeant<T>(
+        self,
+        kind: Kind,
+        word: &Word,
+        number: Option<u64>,
+    ) -> Result<T, Unmeant>
         ensures { IsErr result }
     {
         match (word, number) {
@@ -305,46 +303,6 @@ impl<'a> Objects<'a> {
             self.only_name(object, true)
         }
     }
-
-    /// Adds what an object of a kind is called, where it has a name.
-    fn add_label(
-        self,
-        labels: &mut Vec<Label>,
-        kind: Kind,
-        object: Object,
-    ) -> Result<(), AllocError> {
-        if object.kind == kind
-            && let Some(name) = self.name(object)
-        {
-            labels.push(Label {
-                base: object.base,
-                text: String::from_str(self.alloc, name)?,
-            })?;
-        }
-        Ok(())
-    }
-
-    fn labels_of(self, kind: Kind) -> Result<Vec<Label>, AllocError> {
-        let mut labels = Vec::new(self.alloc);
-        for object in self.live {
-            self.add_label(&mut labels, kind, *object)?;
-        }
-        for object in self.slots {
-            if let Some(object) = object {
-                self.add_label(&mut labels, kind, *object)?;
-            }
-        }
-        Ok(labels)
-    }
-
-    /// What the live objects are called, and those that boot put into slots.
-    pub fn labels(self) -> Result<Labels, AllocError> {
-        Ok(Labels {
-            threads: self.labels_of(Kind::Thread)?,
-            endpoints: self.labels_of(Kind::Endpoint)?,
-            regions: self.labels_of(Kind::Region)?,
-        })
-    }
 }
 
 /// The state that the words of a policy are about.
@@ -357,7 +315,7 @@ pub struct Meaning<'a, P: Profile, S: CapStore<P> + Drop, W: Waiters<P> + Drop> 
 }
 
 /// A word as it stands for a number: a name behind a `@`.
-fn text_of_word(alloc: Global, word: &Word) -> Result<String, AllocError>
+pub(crate) fn text_of_word(alloc: Global, word: &Word) -> Result<String, AllocError>
     ensures { IfOk result (λ text. string_bytes text ≡ spec.word_text word.now) }
 {
     match word {
@@ -374,6 +332,9 @@ impl<'a, P: Profile, S: CapStore<P> + Drop, W: Waiters<P> + Drop> Meaning<'a, P,
         kernel: &'a Kernel<P, S, W>,
     ) -> Meaning<'a, P, S, W>
         requires { IsPlan P.profile setup.now.plan }
+        ensures objects { result.objects ≡ objects.entry }
+        ensures setup { result.setup.now ≡ setup.now }
+        ensures kernel { result.kernel.now ≡ kernel.now }
     {
         Meaning {
             objects,
@@ -382,88 +343,97 @@ impl<'a, P: Profile, S: CapStore<P> + Drop, W: Waiters<P> + Drop> Meaning<'a, P,
         }
     }
 
-    /// The live object of a kind that a text means, whose number is given.
+    /// The live object of a kind that a text means.
     #[tactic(auto, using(crate::proofs::Meant::meant_there))]
-    fn found(&self, kind: Kind, text: &str, number: u64) -> Option<Object>
+    fn found(&self, kind: Kind, text: &str) -> Option<Object>
         ensures { IfSome result (λ o. spec.IsMeant kind P.profile (names_view self.now.objects.names.now) self.now.setup.now.plan self.now.kernel.now text.now o.base) }
     {
         let Objects { names, .. } = self.objects;
         let asked = kind.meant()?;
         let base = object_meant::<P, S, W>(names, self.setup, self.kernel, asked, text.as_bytes())?;
-        if matches!(kind, Kind::Region) && self.objects.is_slot(number) {
-            return self.objects.at_slot(number);
-        }
-        self.objects.at_address(kind, base)
+        let object = self.objects.at_address(kind, base)?;
+        Some(object)
     }
 
-    fn of_word(&self, kind: Kind, word: &Word) -> Result<Object, Unmeant>
+    /// The live object of a kind that a word means (`object_meant`).
+    pub fn of_word(&self, kind: Kind, word: &Word) -> Result<Object, Unmeant>
         ensures { IfOk result (λ o. spec.IsMeant kind P.profile (names_view self.now.objects.names.now) self.now.setup.now.plan self.now.kernel.now (spec.word_text word.now) o.base) }
     {
         let text = text_of_word(self.objects.alloc, word)?;
-        let number = number_meant(self.objects.names, text.as_bytes());
-        let found = match number {
-            Some(number) => self.found(kind, text.as_str(), number),
-            None => None,
-        };
-        match found {
+        match self.found(kind, text.as_str()) {
             Some(object) => Ok(object),
-            None => self.objects.unmeant(kind, word, number),
-        }
-    }
-
-    /// The part of a region that a text with a stroke means: `NAME/BITS`.
-    fn of_part(&self, text: &str, first: &str, bits: &str) -> Result<Object, Unmeant> {
-        let alloc = self.objects.alloc;
-        let word = match first.parse::<u64>() {
-            Ok(number) => Word::Number(number),
-            Err(_) => Word::Name(String::from_str(alloc, first)?),
-        };
-        let region = self.of_word(Kind::Region, &word)?;
-        match bits.parse::<u32>() {
-            Ok(bits) if bits <= region.bits => Ok(Object { bits, ..region }),
-            _ => {
-                let most = region.bits;
-                let words = format!(in alloc; "{text}: the region {first} has {most} bits")?;
-                Err(Unmeant::Words(words))
+            None => {
+                let number = number_meant(self.objects.names, text.as_bytes());
+                self.objects.unmeant(kind, word, number)
             }
         }
     }
 
-    /// The region that a word means. An address at which several begin means none of them: the word has to say the size.
-    fn of_region(&self, word: &Word) -> Result<Object, Unmeant> {
-        let region = self.of_word(Kind::Region, word)?;
-        let alloc = self.objects.alloc;
-        let text = text_of_word(alloc, word)?;
-        let number = number_meant(self.objects.names, text.as_bytes());
-        let is_slot = number.is_some_and(|number| self.objects.is_slot(number));
-        if is_slot || !self.objects.is_one_of_several(region) {
-            return Ok(region);
-        }
-        let words = format!(in alloc;
-            "{word}: several untyped regions begin there; write the bits of one behind a stroke, as \"{word}/{}\"",
-            region.bits
-        )?;
-        Err(Unmeant::Words(words))
-    }
-
-    /// The live object of a kind that a word means (`object_meant`); of a region by its address, the one that begins there.
-    pub fn meant(&self, kind: Kind, word: &Word) -> Result<Object, Unmeant>
-        ensures { IfOk result (λ o. spec.IsMeant kind P.profile (names_view self.now.objects.names.now) self.now.setup.now.plan self.now.kernel.now (spec.word_text word.now) o.base) }
+    /// Whether a name, with a `@` before it, means the object of a kind at an address.
+    #[tactic(auto, using(crate::proofs::Meant::meant_there))]
+    fn is_called(&self, kind: Kind, base: u64, name: &str) -> Result<bool, AllocError>
+        ensures { IfOk result (λ is. IsTrue is → spec.IsMeant kind P.profile (names_view self.now.objects.names.now) self.now.setup.now.plan self.now.kernel.now (codes "@" ++ name.now) base) }
     {
-        match kind {
-            Kind::Region => self.region_meant(word),
-            _ => self.of_word(kind, word),
+        let Objects { alloc, names, .. } = self.objects;
+        let text = format!(in alloc; "@{name}")?;
+        let Some(asked) = kind.meant() else {
+            return Ok(false);
+        };
+        let meant = object_meant::<P, S, W>(names, self.setup, self.kernel, asked, text.as_bytes());
+        match meant {
+            Some(meant) => Ok(meant == base),
+            None => Ok(false),
         }
     }
 
-    /// The live region that a word means.
-    fn region_meant(&self, word: &Word) -> Result<Object, Unmeant> {
-        match word {
-            Word::Name(name) => match name.as_str().split_once('/') {
-                Some((first, bits)) => self.of_part(name.as_str(), first, bits),
-                None => self.of_region(word),
-            },
-            Word::Number(_) => self.of_region(word),
+    /// What an object of a kind is called, where it has a name.
+    fn label(&self, kind: Kind, object: Object) -> Result<Option<Label>, AllocError>
+        ensures { IfOk result (λ found. IfSome found (spec.IsLabel kind P.profile (names_view self.now.objects.names.now) self.now.setup.now.plan self.now.kernel.now)) }
+    {
+        if object.kind != kind {
+            return Ok(None);
         }
+        let (base, alloc) = (object.base, self.objects.alloc);
+        let Some(name) = self.objects.name(object) else {
+            return Ok(None);
+        };
+        if self.is_called(kind, base, name)? {
+            let text = String::from_str(alloc, name)?;
+            return Ok(Some(Label { base, text }));
+        }
+        Ok(None)
+    }
+
+    fn labels_of(&self, kind: Kind) -> Result<Vec<Label>, AllocError>
+        ensures { IfOk result (λ v. All (spec.IsLabel kind P.profile (names_view self.now.objects.names.now) self.now.setup.now.plan self.now.kernel.now) v.items) }
+    {
+        let mut labels = Vec::new(self.objects.alloc);
+        for object in self.objects.live {
+            if let Some(label) = self.label(kind, *object)? {
+                labels.push(label)?;
+            }
+        }
+        for object in self.objects.slots {
+            if let Some(object) = object
+                && let Some(label) = self.label(kind, *object)?
+            {
+                labels.push(label)?;
+            }
+        }
+        Ok(labels)
+    }
+
+    /// What the live objects are called, and those that boot put into slots.
+    ///
+    /// # Errors
+    /// Memory was refused.
+    pub fn labels(&self) -> Result<Labels, AllocError>
+        ensures { IfOk result (spec.AreLabels P.profile (names_view self.now.objects.names.now) self.now.setup.now.plan self.now.kernel.now) }
+    {
+        Ok(Labels {
+            threads: self.labels_of(Kind::Thread)?,
+            endpoints: self.labels_of(Kind::Endpoint)?,
+            regions: self.labels_of(Kind::Region)?,
+        })
     }
 }

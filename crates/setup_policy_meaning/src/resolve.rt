@@ -1,17 +1,23 @@
 //! The words of a policy are given their meaning.
-ghost use Rattle.std.specs.Prelude.{◌≡◌, map, IfOk, IsErr};
+ghost use Rattle.std.specs.Prelude.{◌≡◌, ◌++◌, ◌||◌, true, map, length, Some, IfOk, IsErr, string_bytes};
+ghost use Rattle.std.specs.List.{list_all, range_with_len};
+ghost use Rattle.slot_core.specs.Calls.{derivation_view};
+ghost use Rattle.slot_core.specs.declared.derivations.Derivation.{Derivation as TheDerivation};
 ghost use Rattle.setup_values.specs.Names.{names_view};
-ghost use Rattle.setup_policy_meaning.specs.Meant.{IsMeant, word_text};
-ghost use Rattle.setup_policy.specs.Entries as spec;
+ghost use Rattle.setup_report.specs.State.{slot_rows};
+ghost use Rattle.setup_policy.specs.Entries as entries;
+ghost use Rattle.setup_policy_file.specs.Values.{all_of};
+ghost use Rattle.setup_policy_meaning.specs.Meant as meant;
+ghost use Rattle.setup_policy_meaning.specs.Policies as spec;
 
-use crate::objects::{Kind, Meaning, Object, Unmeant};
-use cap_core::{Profile, Rights};
+use crate::objects::{Kind, Meaning, Unmeant, object_of};
+use cap_core::{Cap, Profile, Rights};
 use ipc_core::Waiters;
 use setup_policy::{Allowance, Member, OwnRegion, Policy, PolicyWay, sender_entry};
 use setup_policy_file::{
     Fault, GroupEntry, Place, PolicyFile, Refusal, Spot, UseEntry, WayEntry, Word, did_you_mean,
 };
-use slot_core::CapStore;
+use slot_core::{CapStore, Derivation};
 use std::alloc::{AllocError, Global};
 
 /// A policy file, its text, and the state that it is held to.
@@ -30,6 +36,76 @@ pub fn table_spot(place: Place, key: &'static str) -> Spot<'static> {
     }
 }
 
+/// What the groups and the trusted threads are called, and who is trusted.
+#[derive(Clone, Copy)]
+struct Actors<'a> {
+    names: &'a [String],
+    silent: &'a [Member],
+    messages: &'a [Member],
+}
+
+impl<'a> Actors<'a> {
+    fn is_trusted(self, thread: u64) -> bool
+        ensures { result ≡ (spec.is_member thread self.entry.silent.now || spec.is_member thread self.entry.messages.now) }
+    {
+        has_thread(self.silent, thread) || has_thread(self.messages, thread)
+    }
+
+    fn name(self, actor: u64) -> &'a str {
+        match self.names.get(actor as usize) {
+            Some(name) => name.as_str(),
+            None => "",
+        }
+    }
+}
+
+/// What a word is called in a policy: the number, or the name.
+fn word_name(alloc: Global, word: &Word) -> Result<String, AllocError>
+    ensures { IfOk result (λ text. string_bytes text ≡ meant.word_name word.now) }
+{
+    match word {
+        Word::Number(number) => format!(in alloc; "{number}"),
+        Word::Name(name) => String::from_str(alloc, name.as_str()),
+    }
+}
+
+/// The names of groups.
+fn group_names(alloc: Global, groups: &[GroupEntry]) -> Result<Vec<String>, AllocError>
+    ensures { IfOk result (λ v. map string_bytes v.items ≡ map spec.group_name groups.now) }
+{
+    let mut names = Vec::new(alloc);
+    for group in groups {
+        let name = String::from_str(alloc, group.name.as_str())?;
+        names.push(name)?;
+    }
+    Ok(names)
+}
+
+/// The numbers of so many groups.
+fn group_numbers(alloc: Global, count: u64) -> Result<Vec<u64>, AllocError>
+    ensures { IfOk result (λ v. v.items ≡ range_with_len 0 count) }
+{
+    let mut numbers = Vec::new(alloc);
+    for i in 0..count {
+        numbers.push(i)?;
+    }
+    Ok(numbers)
+}
+
+fn place_named(names: &[String], name: &str) -> Option<usize>
+    ensures { result ≡ spec.actor_named names.now name.now }
+{
+    names.iter().position(|other| other.as_str() == name)
+}
+
+/// The number of a group or of a trusted thread, by its name.
+fn actor_named(names: &[String], name: &str) -> Option<u64>
+    ensures { result ≡ spec.actor_named names.now name.now }
+{
+    let place = place_named(names, name)?;
+    Some(place as u64)
+}
+
 impl<P: Profile, S: CapStore<P> + Drop, W: Waiters<P> + Drop> Resolver<'_, P, S, W> {
     fn alloc(&self) -> Global {
         self.meaning.objects.alloc
@@ -41,36 +117,73 @@ impl<P: Profile, S: CapStore<P> + Drop, W: Waiters<P> + Drop> Resolver<'_, P, S,
         Err(Refusal::new(self.alloc(), self.text, fault, spot, words))
     }
 
-    fn meant(&self, kind: Kind, word: &Word, spot: Spot<'_>) -> Result<Object, Refusal>
-        ensures { IfOk result (λ o. IsMeant kind P.profile (names_view self.now.meaning.objects.names.now) self.now.meaning.setup.now.plan self.now.meaning.kernel.now (word_text word.now) o.base) }
+    /// The fault that a word means nothing.
+    fn refused<T>(&self, why: Unmeant, spot: Spot<'_>) -> Result<T, Refusal>
+        ensures { IsErr result }
     {
-        match self.meaning.meant(kind, word) {
-            Ok(object) => Ok(object),
-            Err(Unmeant::Memory) => Err(Refusal::Memory),
-            Err(Unmeant::Words(words)) => self.fault(Fault::NoSuch, spot, words),
+        match why {
+            Unmeant::Memory => Err(Refusal::Memory),
+            Unmeant::Words(words) => self.fault(Fault::NoSuch, spot, words),
         }
     }
 
-    /// Adds trusted threads, and what they are called.
-    fn add_trusted(
+    /// The thread that a word means.
+    fn thread(&self, word: &Word, spot: Spot<'_>) -> Result<u64, Refusal>
+        ensures { IfOk result (λ thread. meant.thread_meant P.profile (names_view self.now.meaning.objects.names.now) self.now.meaning.setup.now.plan self.now.meaning.kernel.now word.now ≡ Some thread) }
+    {
+        match self.meaning.of_word(Kind::Thread, word) {
+            Ok(thread) => Ok(thread.base),
+            Err(why) => self.refused(why, spot),
+        }
+    }
+
+    /// The endpoint that a word means.
+    fn endpoint(&self, word: &Word, spot: Spot<'_>) -> Result<u64, Refusal>
+        ensures { IfOk result (λ endpoint. meant.endpoint_meant P.profile (names_view self.now.meaning.objects.names.now) self.now.meaning.setup.now.plan self.now.meaning.kernel.now word.now ≡ Some endpoint) }
+    {
+        match self.meaning.of_word(Kind::Endpoint, word) {
+            Ok(endpoint) => Ok(endpoint.base),
+            Err(why) => self.refused(why, spot),
+        }
+    }
+
+    /// A trusted thread, which is none of these.
+    fn trusted_thread(
         &self,
-        policy: &mut Policy,
+        word: &Word,
+        spot: Spot<'_>,
+        silent: &[Member],
+        trusted: &[Member],
+    ) -> Result<u64, Refusal>
+        ensures { IfOk result (λ thread. meant.thread_meant P.profile (names_view self.now.meaning.objects.names.now) self.now.meaning.setup.now.plan self.now.meaning.kernel.now word.now ≡ Some thread) }
+    {
+        let thread = self.thread(word, spot)?;
+        if has_thread(silent, thread) || has_thread(trusted, thread) {
+            let words = format!(in self.alloc(); "the thread {word} is trusted twice")?;
+            return self.fault(Fault::Twice, spot, words);
+        }
+        Ok(thread)
+    }
+
+    /// Trusted threads, whose names are added.
+    fn trusted(
+        &self,
+        names: &mut Vec<String>,
         key: &str,
         words: &[Word],
+        silent: &[Member],
     ) -> Result<Vec<Member>, Refusal>
-        ensures grant { policy.new.grant ≡ policy.old.grant }
-        ensures calls { policy.new.calls ≡ policy.old.calls }
+        ensures names { IfOk result (λ _. map string_bytes names.new.items ≡ map string_bytes names.old.items ++ map meant.word_name words.now) }
+        ensures threads { IfOk result (λ v. spec.all_from (spec.member_meant P.profile (names_view self.now.meaning.objects.names.now) self.now.meaning.setup.now.plan self.now.meaning.kernel.now) (length names.old.items) words.now ≡ Some v.items) }
     {
         let mut trusted = Vec::new(self.alloc());
         let spot = Spot::Key(Place::Top, key);
         for word in words {
-            let thread = self.meant(Kind::Thread, word, spot)?.base;
-            if is_trusted(policy, thread) || has_thread(trusted.as_slice(), thread) {
-                let words = format!(in self.alloc(); "the thread {word} is trusted twice")?;
-                return self.fault(Fault::Twice, spot, words);
-            }
-            let actor = policy.actors.len() as u64;
-            policy.actors.push(format!(in self.alloc(); "{word}")?)?;
+            let thread = self.trusted_thread(word, spot, silent, trusted.as_slice())?;
+            let many = names.len();
+            let actor = many as u64;
+            let name = word_name(self.alloc(), word)?;
+            names.push(name)?;
             trusted.push(Member { thread, actor })?;
         }
         Ok(trusted)
@@ -89,217 +202,306 @@ impl<P: Profile, S: CapStore<P> + Drop, W: Waiters<P> + Drop> Resolver<'_, P, S,
         Err(Refusal::at(self.alloc(), self.text, Fault::Twice, spot, at, words))
     }
 
-    fn add_member(
+    /// A thread of a group, which has no group yet.
+    fn member(
         &self,
-        policy: &mut Policy,
+        actors: Actors<'_>,
+        members: &[Member],
         word: &Word,
-        actor: u64,
-        place: Place,
-    ) -> Result<(), Refusal>
-        ensures grant { policy.new.grant ≡ policy.old.grant }
-        ensures calls { policy.new.calls ≡ policy.old.calls }
+        spot: Spot<'_>,
+    ) -> Result<u64, Refusal>
+        ensures { IfOk result (λ thread. meant.thread_meant P.profile (names_view self.now.meaning.objects.names.now) self.now.meaning.setup.now.plan self.now.meaning.kernel.now word.now ≡ Some thread) }
     {
-        let spot = table_spot(place, "threads");
-        let thread = self.meant(Kind::Thread, word, spot)?.base;
-        let mut members = policy.members.as_slice().iter();
-        if let Some(member) = members.find(|member| member.thread == thread) {
-            let group = actor_of(policy, member.actor);
+        let thread = self.thread(word, spot)?;
+        if let Some(member) = members.iter().find(|member| member.thread == thread) {
+            let group = actors.name(member.actor);
             let words = format!(in self.alloc();
                 "the thread {word} is in group {group} already; a thread has one group"
             )?;
             return self.fault(Fault::Twice, spot, words);
         }
-        if is_trusted(policy, thread) {
+        if actors.is_trusted(thread) {
             let words = format!(in self.alloc();
                 "the thread {word} is trusted, so it is in no group"
             )?;
             return self.fault(Fault::Twice, spot, words);
         }
-        policy.members.push(Member { thread, actor })?;
-        Ok(())
+        Ok(thread)
     }
 
-    fn add_group(&self, policy: &mut Policy, group: &GroupEntry, actor: u64) -> Result<(), Refusal>
-        ensures grant { policy.new.grant ≡ policy.old.grant }
-        ensures calls { policy.new.calls ≡ policy.old.calls }
+    /// Adds the threads of a group.
+    fn add_members(
+        &self,
+        members: &mut Vec<Member>,
+        actors: Actors<'_>,
+        words: &[Word],
+        actor: u64,
+        spot: Spot<'_>,
+    ) -> Result<(), Refusal>
+        ensures { IfOk result (λ _. spec.in_front members.old.items (all_of (spec.member_meant P.profile (names_view self.now.meaning.objects.names.now) self.now.meaning.setup.now.plan self.now.meaning.kernel.now actor) words.now) ≡ Some members.new.items) }
     {
-        for word in group.threads.as_slice() {
-            self.add_member(policy, word, actor, group.place)?;
-        }
-        for word in group.regions.as_slice() {
-            let spot = Spot::Key(group.place, "regions");
-            let region = self.meant(Kind::Region, word, spot)?;
-            policy.regions.push(OwnRegion {
-                group: actor,
-                base: region.base,
-                bits: region.bits,
-            })?;
+        for word in words {
+            let thread = self.member(actors, members.as_slice(), word, spot)?;
+            members.push(Member { thread, actor })?;
         }
         Ok(())
     }
 
-    fn refuse_groupless(&self, policy: &Policy) -> Result<(), Refusal> {
-        for object in self.meaning.objects.live {
-            let Object { kind, base, .. } = *object;
-            let is_known = has_thread(policy.members.as_slice(), base) || is_trusted(policy, base);
-            if kind == Kind::Thread && !is_known {
-                let name = match self.meaning.objects.name(*object) {
-                    Some(name) => format!(in self.alloc(); "@{name}")?,
-                    None => format!(in self.alloc(); "{base}")?,
-                };
-                let words = format!(in self.alloc();
-                    "the live thread {name} is in no group; add it to a group, to alone, to silent or to messages"
-                )?;
-                return self.fault(Fault::Nowhere, Spot::Threads, words);
-            }
+    /// The region of a group that a word means.
+    fn own_region(
+        &self,
+        rows: &[Derivation],
+        word: &Word,
+        group: u64,
+        spot: Spot<'_>,
+    ) -> Result<OwnRegion, Refusal>
+        requires { map (derivation_view P.profile) rows.now ≡ slot_rows self.now.meaning.kernel.now }
+        ensures { IfOk result (λ r. spec.own_meant P.profile (names_view self.now.meaning.objects.names.now) self.now.meaning.setup.now.plan self.now.meaning.kernel.now group word.now ≡ Some r) }
+    {
+        match self.meaning.region(rows, word) {
+            Ok((base, bits)) => Ok(OwnRegion { group, base, bits }),
+            Err(why) => self.refused(why, spot),
+        }
+    }
+
+    /// Adds the regions of a group.
+    fn add_regions(
+        &self,
+        regions: &mut Vec<OwnRegion>,
+        rows: &[Derivation],
+        words: &[Word],
+        group: u64,
+        spot: Spot<'_>,
+    ) -> Result<(), Refusal>
+        requires { map (derivation_view P.profile) rows.now ≡ slot_rows self.now.meaning.kernel.now }
+        ensures { IfOk result (λ _. spec.in_front regions.old.items (all_of (spec.own_meant P.profile (names_view self.now.meaning.objects.names.now) self.now.meaning.setup.now.plan self.now.meaning.kernel.now group) words.now) ≡ Some regions.new.items) }
+    {
+        for word in words {
+            let region = self.own_region(rows, word, group, spot)?;
+            regions.push(region)?;
         }
         Ok(())
+    }
+
+    /// The threads of the groups, and their regions.
+    fn groups(
+        &self,
+        actors: Actors<'_>,
+        rows: &[Derivation],
+        groups: &[GroupEntry],
+    ) -> Result<(Vec<Member>, Vec<OwnRegion>), Refusal>
+        requires { map (derivation_view P.profile) rows.now ≡ slot_rows self.now.meaning.kernel.now }
+        ensures members { IfOk result (λ v. spec.members_meant P.profile (names_view self.now.meaning.objects.names.now) self.now.meaning.setup.now.plan self.now.meaning.kernel.now groups.now ≡ Some v.0.items) }
+        ensures regions { IfOk result (λ v. spec.regions_meant P.profile (names_view self.now.meaning.objects.names.now) self.now.meaning.setup.now.plan self.now.meaning.kernel.now groups.now ≡ Some v.1.items) }
+    {
+        let mut members = Vec::new(self.alloc());
+        let mut regions = Vec::new(self.alloc());
+        let trusted = actors.names.get(groups.len()..).unwrap_or(&[]);
+        for (i, group) in groups.iter().enumerate() {
+            let (threads, own) = (group.threads.as_slice(), group.regions.as_slice());
+            self.refuse_name_of_trusted(group, trusted)?;
+            let spot = table_spot(group.place, "threads");
+            self.add_members(&mut members, actors, threads, i as u64, spot)?;
+            let spot = Spot::Key(group.place, "regions");
+            self.add_regions(&mut regions, rows, own, i as u64, spot)?;
+        }
+        Ok((members, regions))
+    }
+
+    /// That some live thread is in no group.
+    fn groupless(
+        &self,
+        rows: &[Derivation],
+        actors: Actors<'_>,
+        members: &[Member],
+    ) -> Result<(), Refusal>
+        ensures { IsErr result }
+    {
+        let mut unknown = rows
+            .iter()
+            .filter(|row| !names_known(members, actors, row.cap))
+            .filter_map(|row| object_of::<P>(row.cap));
+        let name = match unknown.next() {
+            Some(object) => match self.meaning.objects.name(object) {
+                Some(name) => format!(in self.alloc(); "@{name}")?,
+                None => {
+                    let base = object.base;
+                    format!(in self.alloc(); "{base}")?
+                }
+            },
+            None => String::new(self.alloc()),
+        };
+        let words = format!(in self.alloc();
+            "the live thread {name} is in no group; add it to a group, to alone, to silent or to messages"
+        )?;
+        self.fault(Fault::Nowhere, Spot::Threads, words)
+    }
+
+    fn refuse_groupless(
+        &self,
+        rows: &[Derivation],
+        actors: Actors<'_>,
+        members: &[Member],
+    ) -> Result<(), Refusal>
+        ensures { IfOk result (λ _. list_all (λ (d : TheDerivation). spec.names_known (spec.is_known members.now actors.entry.silent.now actors.entry.messages.now) d.cap) rows.now ≡ true) }
+    {
+        if are_known(rows, members, actors) {
+            return Ok(());
+        }
+        self.groupless(rows, actors, members)
+    }
+
+    /// That there is no group of a name.
+    fn no_actor<T>(&self, names: &[String], name: &str, spot: Spot<'_>) -> Result<T, Refusal>
+        ensures { IsErr result }
+    {
+        let names = names.iter().map(|other| other.as_str());
+        let names: Vec<&str> = names.collect(self.alloc())?;
+        let groups = names
+            .as_slice()
+            .iter()
+            .take(self.file.groups.len())
+            .copied();
+        let groups: Vec<&str> = groups.collect(self.alloc())?;
+        let groups = groups.as_slice().join(self.alloc(), ", ")?;
+        let others = format!(in self.alloc(); "; the groups are {groups}")?;
+        let question = did_you_mean(self.alloc(), name, names.as_slice(), others.as_str())?;
+        let words = format!(in self.alloc(); "there is no group {name}{question}")?;
+        self.fault(Fault::NoSuch, spot, words)
     }
 
     /// The number of a group or of a trusted thread.
-    fn actor(&self, policy: &Policy, name: &str, spot: Spot<'_>) -> Result<u64, Refusal> {
-        let mut actors = policy.actors.as_slice().iter();
-        match actors.position(|other| other.as_str() == name) {
-            Some(actor) => Ok(actor as u64),
-            None => {
-                let names = policy.actors.as_slice().iter().map(|other| other.as_str());
-                let names: Vec<&str> = names.collect(self.alloc())?;
-                let groups = names.as_slice().iter().take(policy.groups.len()).copied();
-                let groups: Vec<&str> = groups.collect(self.alloc())?;
-                let groups = groups.as_slice().join(self.alloc(), ", ")?;
-                let others = format!(in self.alloc(); "; the groups are {groups}")?;
-                let question = did_you_mean(self.alloc(), name, names.as_slice(), others.as_str())?;
-                let words = format!(in self.alloc(); "there is no group {name}{question}")?;
-                self.fault(Fault::NoSuch, spot, words)
-            }
+    fn actor(&self, names: &[String], name: &str, spot: Spot<'_>) -> Result<u64, Refusal>
+        ensures { IfOk result (λ actor. spec.actor_named names.now name.now ≡ Some actor) }
+    {
+        match actor_named(names, name) {
+            Some(actor) => Ok(actor),
+            None => self.no_actor(names, name, spot),
         }
     }
 
-    fn add_way(&self, policy: &mut Policy, way: &WayEntry, n: usize) -> Result<(), Refusal>
-        ensures grant { policy.new.grant ≡ policy.old.grant }
-        ensures calls { policy.new.calls ≡ policy.old.calls }
+    /// What an entry of `way` means, which is the nth.
+    fn way(&self, names: &[String], way: &WayEntry, n: usize) -> Result<PolicyWay, Refusal>
+        ensures { IfOk result (λ w. spec.way_meant P.profile (names_view self.now.meaning.objects.names.now) self.now.meaning.setup.now.plan self.now.meaning.kernel.now names.now way.now ≡ Some w) }
     {
         let place = Place::Way(n);
-        let from = self.actor(policy, way.from.as_str(), Spot::Key(place, "from"))?;
-        let to = self.actor(policy, way.to.as_str(), Spot::Key(place, "to"))?;
-        let spot = Spot::Key(place, "by");
-        let endpoint = self.meant(Kind::Endpoint, &way.by, spot)?.base;
-        policy.ways.push(PolicyWay {
-            from,
-            to,
-            endpoint,
+        Ok(PolicyWay {
+            from: self.actor(names, way.from.as_str(), Spot::Key(place, "from"))?,
+            to: self.actor(names, way.to.as_str(), Spot::Key(place, "to"))?,
+            endpoint: self.endpoint(&way.by, Spot::Key(place, "by"))?,
             badge: way.badge,
             rights: way.rights,
-        })?;
-        Ok(())
-    }
-
-    fn add_use(&self, policy: &mut Policy, entry: &UseEntry, n: usize) -> Result<(), Refusal>
-        ensures grant { policy.new.grant ≡ policy.old.grant }
-        ensures calls { policy.new.calls ≡ policy.old.calls }
-    {
-        let place = Place::Use(n);
-        let actor = self.actor(policy, entry.group.as_str(), Spot::Key(place, "group"))?;
-        let endpoint = self
-            .meant(Kind::Endpoint, &entry.of, Spot::Key(place, "of"))?
-            .base;
-        policy.uses.push(Allowance {
-            actor,
-            endpoint,
-            badge: entry.badge,
-            rights: entry.rights,
-        })?;
-        Ok(())
-    }
-
-    fn add_entries(&self, policy: &mut Policy) -> Result<(), Refusal>
-        ensures allowances { IfOk result (λ _. policy.new.allowances.items ≡ spec.allowances_of policy.new.ways.items policy.new.uses.items) }
-        ensures grant { policy.new.grant ≡ policy.old.grant }
-        ensures calls { policy.new.calls ≡ policy.old.calls }
-    {
-        for (i, way) in self.file.ways.as_slice().iter().enumerate() {
-            self.add_way(policy, way, i.saturating_add(1))?;
-        }
-        for (i, entry) in self.file.uses.as_slice().iter().enumerate() {
-            self.add_use(policy, entry, i.saturating_add(1))?;
-        }
-        policy.allowances = allowances(
-            self.alloc(),
-            policy.ways.as_slice(),
-            policy.uses.as_slice(),
-        )?;
-        Ok(())
-    }
-
-    /// A policy with the numbers of the groups, and nothing else.
-    fn first_policy(&self) -> Result<Policy, AllocError>
-        ensures grant { IfOk result (λ v. v.grant ≡ self.now.file.now.grant) }
-        ensures calls { IfOk result (λ v. v.calls ≡ self.now.file.now.calls) }
-    {
-        let alloc = self.alloc();
-        let (mut actors, mut groups) = (Vec::new(alloc), Vec::new(alloc));
-        for (i, group) in self.file.groups.as_slice().iter().enumerate() {
-            actors.push(String::from_str(alloc, group.name.as_str())?)?;
-            groups.push(i as u64)?;
-        }
-        Ok(Policy {
-            actors,
-            groups,
-            members: Vec::new(alloc),
-            silent: Vec::new(alloc),
-            messages: Vec::new(alloc),
-            regions: Vec::new(alloc),
-            ways: Vec::new(alloc),
-            uses: Vec::new(alloc),
-            allowances: Vec::new(alloc),
-            grant: self.file.grant,
-            calls: self.file.calls,
         })
     }
 
-    /// The policy, where each of its words means something.
+    fn ways(&self, names: &[String], entries: &[WayEntry]) -> Result<Vec<PolicyWay>, Refusal>
+        ensures { IfOk result (λ v. all_of (spec.way_meant P.profile (names_view self.now.meaning.objects.names.now) self.now.meaning.setup.now.plan self.now.meaning.kernel.now names.now) entries.now ≡ Some v.items) }
+    {
+        let mut ways = Vec::new(self.alloc());
+        let mut n = 0usize;
+        for entry in entries {
+            n = n.saturating_add(1);
+            let way = self.way(names, entry, n)?;
+            ways.push(way)?;
+        }
+        Ok(ways)
+    }
+
+    /// What an entry of `use` means, which is the nth.
+    fn allowed(&self, names: &[String], entry: &UseEntry, n: usize) -> Result<Allowance, Refusal>
+        ensures { IfOk result (λ u. spec.use_meant P.profile (names_view self.now.meaning.objects.names.now) self.now.meaning.setup.now.plan self.now.meaning.kernel.now names.now entry.now ≡ Some u) }
+    {
+        let place = Place::Use(n);
+        Ok(Allowance {
+            actor: self.actor(names, entry.group.as_str(), Spot::Key(place, "group"))?,
+            endpoint: self.endpoint(&entry.of, Spot::Key(place, "of"))?,
+            badge: entry.badge,
+            rights: entry.rights,
+        })
+    }
+
+    fn uses(&self, names: &[String], entries: &[UseEntry]) -> Result<Vec<Allowance>, Refusal>
+        ensures { IfOk result (λ v. all_of (spec.use_meant P.profile (names_view self.now.meaning.objects.names.now) self.now.meaning.setup.now.plan self.now.meaning.kernel.now names.now) entries.now ≡ Some v.items) }
+    {
+        let mut uses = Vec::new(self.alloc());
+        let mut n = 0usize;
+        for entry in entries {
+            n = n.saturating_add(1);
+            let allowed = self.allowed(names, entry, n)?;
+            uses.push(allowed)?;
+        }
+        Ok(uses)
+    }
+
+    /// The policy, where each of its words means something. The rows are the full slots of the state.
     ///
     /// # Errors
     /// `Memory`, or its first fault.
-    pub fn policy(&self) -> Result<Policy, Refusal>
-        ensures allowances { IfOk result (λ v. v.allowances.items ≡ spec.allowances_of v.ways.items v.uses.items) }
-        ensures grant { IfOk result (λ v. v.grant ≡ self.now.file.now.grant) }
-        ensures calls { IfOk result (λ v. v.calls ≡ self.now.file.now.calls) }
+    pub fn policy(&self, rows: &[Derivation]) -> Result<Policy, Refusal>
+        requires { map (derivation_view P.profile) rows.now ≡ slot_rows self.now.meaning.kernel.now }
+        ensures { IfOk result (λ v. spec.IsPolicyMeant P.profile (names_view self.now.meaning.objects.names.now) self.now.meaning.setup.now.plan self.now.meaning.kernel.now self.now.file.now v) }
     {
         let file = self.file;
-        let mut policy = self.first_policy()?;
-        policy.silent = self.add_trusted(&mut policy, "silent", file.silent.as_slice())?;
-        policy.messages = self.add_trusted(&mut policy, "messages", file.messages.as_slice())?;
-        for (i, group) in file.groups.as_slice().iter().enumerate() {
-            let names = policy.actors.as_slice();
-            let trusted = names.get(file.groups.len()..).unwrap_or(&[]);
-            self.refuse_name_of_trusted(group, trusted)?;
-            self.add_group(&mut policy, group, i as u64)?;
-        }
-        self.refuse_groupless(&policy)?;
-        self.add_entries(&mut policy)?;
-        Ok(policy)
+        let mut names = group_names(self.alloc(), file.groups.as_slice())?;
+        let silent = self.trusted(&mut names, "silent", file.silent.as_slice(), &[])?;
+        let messages = self.trusted(
+            &mut names,
+            "messages",
+            file.messages.as_slice(),
+            silent.as_slice(),
+        )?;
+        let actors = Actors {
+            names: names.as_slice(),
+            silent: silent.as_slice(),
+            messages: messages.as_slice(),
+        };
+        let (members, regions) = self.groups(actors, rows, file.groups.as_slice())?;
+        self.refuse_groupless(rows, actors, members.as_slice())?;
+        let ways = self.ways(names.as_slice(), file.ways.as_slice())?;
+        let uses = self.uses(names.as_slice(), file.uses.as_slice())?;
+        let allowances = allowances(self.alloc(), ways.as_slice(), uses.as_slice())?;
+        Ok(Policy {
+            actors: names,
+            groups: group_numbers(self.alloc(), file.groups.len() as u64)?,
+            members,
+            silent,
+            messages,
+            regions,
+            ways,
+            uses,
+            allowances,
+            grant: file.grant,
+            calls: file.calls,
+        })
     }
 }
 
-fn has_thread(members: &[Member], thread: u64) -> bool {
+fn has_thread(members: &[Member], thread: u64) -> bool
+    ensures { result ≡ spec.is_member thread members.now }
+{
     members.iter().any(|member| member.thread == thread)
 }
 
-fn is_trusted(policy: &Policy, thread: u64) -> bool {
-    has_thread(policy.silent.as_slice(), thread) || has_thread(policy.messages.as_slice(), thread)
+/// Whether a capability names no thread but one of a group, or one that is trusted.
+fn names_known(members: &[Member], actors: Actors<'_>, cap: Cap) -> bool
+    ensures { result ≡ spec.names_known (spec.is_known members.now actors.entry.silent.now actors.entry.messages.now) cap }
+{
+    match cap {
+        Cap::Tcb { base } => has_thread(members, base) || actors.is_trusted(base),
+        _ => true,
+    }
 }
 
-fn actor_of(policy: &Policy, actor: u64) -> &str {
-    match policy.actors.as_slice().get(actor as usize) {
-        Some(name) => name.as_str(),
-        None => "",
-    }
+/// Whether full slots name no thread but those of groups, and those that are trusted.
+fn are_known(rows: &[Derivation], members: &[Member], actors: Actors<'_>) -> bool
+    ensures { result ≡ list_all (λ (d : TheDerivation). spec.names_known (spec.is_known members.now actors.entry.silent.now actors.entry.messages.now) d.cap) rows.now }
+{
+    rows.iter().all(|row| names_known(members, actors, row.cap))
 }
 
 /// What a way lets its receiver hold: Read with any badge.
 fn receiver_entry(way: &PolicyWay) -> Allowance
-    ensures { result ≡ spec.receiver_entry way.now }
+    ensures { result ≡ entries.receiver_entry way.now }
 {
     Allowance {
         actor: way.to,
@@ -311,14 +513,14 @@ fn receiver_entry(way: &PolicyWay) -> Allowance
 
 /// What ways let their senders hold.
 fn senders(alloc: Global, ways: &[PolicyWay]) -> Result<Vec<Allowance>, AllocError>
-    ensures { IfOk result (λ v. v.items ≡ map spec.sender_entry ways.now) }
+    ensures { IfOk result (λ v. v.items ≡ map entries.sender_entry ways.now) }
 {
     ways.iter().map(|way| sender_entry(way)).collect(alloc)
 }
 
 /// What ways let their receivers hold.
 fn receivers(alloc: Global, ways: &[PolicyWay]) -> Result<Vec<Allowance>, AllocError>
-    ensures { IfOk result (λ v. v.items ≡ map spec.receiver_entry ways.now) }
+    ensures { IfOk result (λ v. v.items ≡ map entries.receiver_entry ways.now) }
 {
     ways.iter().map(|way| receiver_entry(way)).collect(alloc)
 }
@@ -329,7 +531,7 @@ fn allowances(
     ways: &[PolicyWay],
     uses: &[Allowance],
 ) -> Result<Vec<Allowance>, AllocError>
-    ensures { IfOk result (λ v. v.items ≡ spec.allowances_of ways.now uses.now) }
+    ensures { IfOk result (λ v. v.items ≡ entries.allowances_of ways.now uses.now) }
 {
     let mut all = senders(alloc, ways)?;
     let receivers = receivers(alloc, ways)?;

@@ -33,8 +33,8 @@ returns g c =
     subst (λ (s : Shown). IfOk c.answer_by.result (λ answer. IsDraftOf trust p names setup made s answer.text.items answer.verdict)) c.requires.shows
     (where_ok _ _
     (λ answer told.
-    subst (λ (ts : List ℕ). IsDraftText p setup made ts (messages_of trust p names setup v) answer.text.items answer.verdict)
+    subst (λ (ts : List ℕ). IsDraftText p names setup made ts (messages_of trust p names setup v) answer.text.items answer.verdict)
     (c.as_slice-7.ensures.value ∙ silent)
-    (subst (λ (ts : List ℕ). IsDraftText p setup made c.as_slice-7.result.now ts answer.text.items answer.verdict)
+    (subst (λ (ts : List ℕ). IsDraftText p names setup made c.as_slice-7.result.now ts answer.text.items answer.verdict)
     (c.as_slice-8.ensures.value ∙ messages) told))
     c.answer_by.result c.answer_by.ensures)
