@@ -31,7 +31,7 @@ ROOMS = (
     ("The kernel", ("kernel_",)),
     ("What is asked of a kernel", ("query_",)),
     ("Set-ups", ("setup_",)),
-    ("Commands, and the command line", ("command_",)),
+    ("Commands, and the command line", ("command_", "list_")),
     ("The program", ("program", "sel4sim")),
     ("Tests", ("test_",)),
     ("Measures", ("bench_",)),

@@ -6,6 +6,8 @@ use Rattle.kernel_abstract.specs.Decode.{has_right}
 use Rattle.query_parts.specs.declared.listed.PartUse.{PartUse}
 use Rattle.query_parts.specs.Listed.{part_at, last_in}
 use Rattle.command_policy_breaches.specs.declared.breaches.Hold.{Hold}
+use Rattle.command_policy_breaches.specs.declared.breaches.Need.{Need}
+use Rattle.command_policy_breaches.specs.declared.breaches.Need.TheVariants as need
 use Rattle.setup_policy.specs.declared.policy.Allowance.{Allowance}
 use Rattle.command_policy_breaches.specs.declared.held.HeldRegion.{HeldRegion}
 use Rattle.command_policy_breaches.specs.declared.held.Layout.{Layout}
@@ -60,6 +62,21 @@ lets_with c l part endpoint badge right =
 abbrev pub lets_badge : Policy → Layout → ℕ → ℕ → ℕ → Bool
 lets_badge c l part endpoint badge =
     list_any (λ (a : Allowance). is_entry l part endpoint a && meets a.badge badge) c.allowances.items
+
+-- an entry has what is asked of it
+abbrev pub is_met_by : Need → Allowance → Bool
+is_met_by need.Entry a = true
+is_met_by (need.Right right) a = has_right right.0 a.rights
+is_met_by (need.Badge badge) a = meets a.badge badge
+is_met_by (need.RightWith right badge) a = has_right right.0 a.rights && meets a.badge badge
+
+abbrev pub is_entry_with : Need → Layout → ℕ → ℕ → Allowance → Bool
+is_entry_with need.Entry l part endpoint a = is_entry l part endpoint a
+is_entry_with asked l part endpoint a = is_entry l part endpoint a && is_met_by asked a
+
+-- an entry of the part for the endpoint has it
+abbrev pub lets : Policy → Layout → ℕ → ℕ → Need → Bool
+lets c l part endpoint asked = list_any (is_entry_with asked l part endpoint) c.allowances.items
 
 -- ---- uses: no entry is of the endpoint; or some are, and none has the right; or some have the right, and none of these the badge
 
@@ -116,9 +133,13 @@ hold_of l m = hold_in m.thread (part_at l.memory.items m.thread)
 abbrev pub is_region_own : Policy → Layout → HeldRegion → Bool
 is_region_own c l r = is_own c l r.part r.base r.bits
 
+-- a larger one of the part, which is none of its own, has the region in it
+abbrev pub is_larger_around : Policy → Layout → HeldRegion → HeldRegion → Bool
+is_larger_around c l r o =
+    o.part == r.part && (nat_lt r.bits o.bits && (range_lies_within r.base r.bits o.base o.bits && not (is_region_own c l o)))
+
 abbrev pub is_in_larger : Policy → Layout → HeldRegion → Bool
-is_in_larger c l r =
-    list_any (λ (o : HeldRegion). o.part == r.part && (nat_lt r.bits o.bits && (range_lies_within r.base r.bits o.base o.bits && not (is_region_own c l o)))) l.regions.items
+is_in_larger c l r = list_any (is_larger_around c l r) l.regions.items
 
 -- the region lies in none of the part's own, and in no larger one that is to be written
 abbrev pub is_region_amiss : Policy → Layout → HeldRegion → Bool

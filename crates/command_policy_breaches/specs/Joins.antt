@@ -7,7 +7,8 @@ use Rattle.command_policy_breaches.specs.declared.held.Home.{Home}
 use Rattle.command_policy_breaches.specs.declared.held.Layout.{Layout}
 use Rattle.setup_policy.specs.declared.policy.Policy.{Policy}
 use Rattle.command_policy_breaches.specs.Layouts.{homes_at}
-use Rattle.command_policy_breaches.specs.Sides.{may_give, may_hear, may_answer, may_part_call, is_at_home}
+use Rattle.command_policy_breaches.specs.declared.sides.Right.{Right}
+use Rattle.command_policy_breaches.specs.Sides.{may, may_give, may_hear, may_answer, may_part_call, is_at_home}
 
 abbrev pub join_from : ℕ → ℕ → ℕ → Join
 join_from from endpoint to = record { from = from; endpoint = endpoint; to = to }
@@ -25,6 +26,13 @@ given l endpoint from = cond (may_give l from endpoint) (map (join_from from end
 -- to all others that may call where the part may receive with Grant
 abbrev pub answer_joins : Layout → ℕ → ℕ → List Join
 answer_joins l endpoint from = cond (may_answer l from endpoint) (map (join_from from endpoint) (filter (is_other_caller l from endpoint) l.parts.items)) []
+
+-- a part with the one right hands capabilities to all others that have the other
+abbrev pub is_other : Right → Layout → ℕ → ℕ → ℕ → Bool
+is_other takes l from endpoint to = not (to == from) && may takes l to endpoint
+
+abbrev pub handed : Right → Right → Layout → ℕ → ℕ → List Join
+handed hands takes l endpoint from = cond (may hands l from endpoint) (map (join_from from endpoint) (filter (is_other takes l from endpoint) l.parts.items)) []
 
 abbrev pub joins_from : Layout → ℕ → ℕ → List Join
 joins_from l endpoint from = given l endpoint from ++ answer_joins l endpoint from

@@ -1,5 +1,5 @@
 -- Which part may send to an endpoint, receive on it, or hand over capabilities by it.
-use Rattle.std.specs.Prelude.{ℕ, ◌==◌, ◌&&◌, ◌||◌, Bool, false, not, cond, List, [], ◌∷◌, ◌++◌, map, filter, Option, Some, None}
+use Rattle.std.specs.Prelude.{ℕ, ◌==◌, ◌&&◌, ◌||◌, Bool, true, false, not, cond, List, [], ◌∷◌, ◌++◌, map, filter, Option, Some, None}
 use Rattle.std.specs.List.{list_any}
 use Rattle.cap_core.specs.Rights.{write_bit, read_bit, grant_bit, grant_reply_bit}
 use Rattle.kernel_abstract.specs.Decode.{has_right}
@@ -10,6 +10,8 @@ use Rattle.command_parts.specs.Text.{is_part}
 use Rattle.command_policy_breaches.specs.declared.held.Home.{Home}
 use Rattle.command_policy_breaches.specs.declared.held.Layout.{Layout}
 use Rattle.command_policy_breaches.specs.declared.held.Waiting.{Waiting}
+use Rattle.command_policy_breaches.specs.declared.sides.Right.{Right}
+use Rattle.command_policy_breaches.specs.declared.sides.Right.TheVariants.{Send, SendAny, Give, Call, Answer, Receive}
 
 -- ---- what a use of a part lets it do on an endpoint
 
@@ -33,6 +35,15 @@ hears part endpoint u = is_use_on part endpoint u && has_right read_bit u.rights
 -- it answers with capabilities: with Read and Grant
 abbrev pub answers : ℕ → ℕ → PartUse → Bool
 answers part endpoint u = hears part endpoint u && has_right grant_bit u.rights
+
+-- a use gives the part a right to the endpoint
+abbrev pub is_use_for : Right → ℕ → ℕ → PartUse → Bool
+is_use_for Send part endpoint u = sends part endpoint u
+is_use_for SendAny part endpoint u = sends part endpoint u && u.badge.0 == 0
+is_use_for Give part endpoint u = sends_with_grant part endpoint u
+is_use_for Call part endpoint u = calls part endpoint u
+is_use_for Answer part endpoint u = answers part endpoint u
+is_use_for Receive part endpoint u = hears part endpoint u
 
 -- ---- what a part may do on an endpoint: in whose memory it lies may do all, with any badge
 
@@ -61,6 +72,23 @@ may_hear l part endpoint =
 
 abbrev pub sends_any : Layout → ℕ → ℕ → Bool
 sends_any l part endpoint = owns_in_layout l part endpoint || list_any (λ (u : PartUse). sends part endpoint u && u.badge.0 == 0) l.uses.items
+
+-- a thread of the part waits there: to send, or else to receive
+abbrev pub is_wait_on : Bool → Layout → ℕ → ℕ → Waiting → Bool
+is_wait_on true l part endpoint w = waits_to_send l part endpoint w
+is_wait_on false l part endpoint w = waits_to_hear l part endpoint w
+
+abbrev pub waits_on : Bool → Layout → ℕ → ℕ → Bool
+waits_on sends l part endpoint = list_any (is_wait_on sends l part endpoint) l.waits.items
+
+-- the part has the right to the endpoint
+abbrev pub may : Right → Layout → ℕ → ℕ → Bool
+may Send l part endpoint = owns_in_layout l part endpoint || (list_any (sends part endpoint) l.uses.items || waits_on true l part endpoint)
+may SendAny l part endpoint = sends_any l part endpoint
+may Give l part endpoint = may_give l part endpoint
+may Call l part endpoint = may_part_call l part endpoint
+may Answer l part endpoint = may_answer l part endpoint
+may Receive l part endpoint = may_hear l part endpoint
 
 abbrev pub some_badges : Layout → ℕ → ℕ → List ℕ
 some_badges l part endpoint =

@@ -1,5 +1,5 @@
 //! What of a kernel's state is held to a policy.
-ghost use Rattle.std.specs.Prelude.{◌≡◌, ◌==◌, ◌++◌, IfOk, OnOk, filter, map, option_copied};
+ghost use Rattle.std.specs.Prelude.{◌≡◌, ◌++◌, IfOk, OnOk, map};
 ghost use Rattle.std.specs.List.{filter_map, flat_map};
 ghost use Rattle.cap_core.specs.Numbers.{endpoint_bits as bits_of_endpoints};
 ghost use Rattle.kernel_abstract.specs.Shown.{state_at};
@@ -11,39 +11,43 @@ ghost use Rattle.command_parts.specs.Ever.{AreRightParts};
 ghost use Rattle.command_parts.specs.Text.{parts_of as numbers_of};
 ghost use Rattle.command_policy_breaches.specs.Layouts as spec;
 
-use crate::held::{HeldRegion, Home, Layout, Waiting};
+use crate::held::{EndpointOf, HeldRegion, Home, Layout, OfGroup, Waiting};
 use cap_core::{Cap, Profile};
 use command_parts::{listed, rising};
 use ipc_core::{Offer, Waiters};
 use kernel_core::{Kernel, ThreadState};
+use list_questions::{Adds, Finds, Makes, add_all, all_found, each, those};
 use query_parts::{PartMemory, PartUse, Parts, part_at};
 use setup_policy::{Member, Policy};
 use setup_report::StateRows;
 use slot_core::{CapStore, Derivation, DerivationStore};
 use std::alloc::{AllocError, Global};
 
-fn parts_of_group(
-    alloc: Global,
-    memory: &[PartMemory],
-    members: &[Member],
-    group: u64,
-) -> Result<Vec<u64>, AllocError>
-    ensures { IfOk result (λ v. v.items ≡ filter_map (spec.part_of_member memory.now) (filter (λ m. m.actor == group) members.now)) }
-{
-    members
-        .iter()
-        .filter(|member| member.actor == group)
-        .filter_map(|member| part_at(memory, member.thread))
-        .collect(alloc)
+/// The part of a thread.
+#[derive(Clone, Copy)]
+struct PartOfMember<'a>(&'a [PartMemory]);
+
+impl Finds<Member, u64> for PartOfMember<'_> {
+    ghost found = { λ f member. spec.part_of_member f.0.now member };
+
+    fn find(&self, member: &Member) -> Option<u64> {
+        part_at(self.0, member.thread)
+    }
 }
 
-fn homes_in(alloc: Global, group: u64, parts: &[u64]) -> Result<Vec<Home>, AllocError>
-    ensures { IfOk result (λ v. v.items ≡ map (spec.home group) parts.now) }
-{
-    parts
-        .iter()
-        .map(|part| Home { group, part: *part })
-        .collect(alloc)
+/// That a group has a thread in a part.
+#[derive(Clone, Copy)]
+struct HomeOfGroup(u64);
+
+impl Makes<u64, Home> for HomeOfGroup {
+    ghost made = { λ m part. spec.home m.0 part };
+
+    fn make(&self, part: &u64) -> Home {
+        Home {
+            group: self.0,
+            part: *part,
+        }
+    }
 }
 
 /// Adds that a group has threads in these parts, each part once.
@@ -56,19 +60,39 @@ pub fn add_homes(
     ensures { OnOk result (homes.new.items ≡ homes.old.items ++ spec.homes_at group parts.now) }
 {
     let parts = rising(alloc, parts)?;
-    let more = homes_in(alloc, group, parts.as_slice())?;
+    let more = each(alloc, parts.as_slice(), &HomeOfGroup(group))?;
     homes.extend_from_slice(more.as_slice())?;
     Ok(())
+}
+
+/// In which parts the threads of a group lie.
+#[derive(Clone, Copy)]
+struct MemberHomes<'a> {
+    memory: &'a [PartMemory],
+    members: &'a [Member],
+}
+
+impl Adds<u64, Home> for MemberHomes<'_> {
+    ghost added = { λ a group. spec.homes_of a.memory.now a.members.now group };
+
+    fn add(&self, alloc: Global, homes: &mut Vec<Home>, group: &u64) -> Result<(), AllocError> {
+        let own = those(alloc, self.members, &OfGroup(*group))?;
+        let parts = all_found(alloc, own.as_slice(), &PartOfMember(self.memory))?;
+        add_homes(alloc, homes, *group, parts.as_slice())
+    }
 }
 
 fn homes(alloc: Global, memory: &[PartMemory], policy: &Policy) -> Result<Vec<Home>, AllocError>
     ensures { IfOk result (λ v. v.items ≡ flat_map (spec.homes_of memory.now policy.now.members.items) policy.now.groups.items) }
 {
     let mut homes = Vec::new(alloc);
-    for group in policy.groups.as_slice() {
-        let parts = parts_of_group(alloc, memory, policy.members.as_slice(), *group)?;
-        add_homes(alloc, &mut homes, *group, parts.as_slice())?;
-    }
+    let members = policy.members.as_slice();
+    add_all(
+        alloc,
+        &mut homes,
+        policy.groups.as_slice(),
+        &MemberHomes { memory, members },
+    )?;
     Ok(homes)
 }
 
@@ -79,8 +103,8 @@ fn endpoints_to_check(
 ) -> Result<Vec<u64>, AllocError>
     ensures { IfOk result (λ v. v.items ≡ spec.endpoints_to_check uses.now waits.now) }
 {
-    let mut endpoints: Vec<u64> = uses.iter().map(|u| u.endpoint).collect(alloc)?;
-    let others: Vec<u64> = waits.iter().map(|w| w.endpoint).collect(alloc)?;
+    let mut endpoints = each(alloc, uses, &EndpointOf)?;
+    let others = each(alloc, waits, &EndpointOf)?;
     endpoints.extend_from_slice(others.as_slice())?;
     rising(alloc, endpoints.as_slice())
 }
@@ -140,22 +164,42 @@ fn regions<P: Profile>(
         .collect(alloc)
 }
 
+#[derive(Clone, Copy)]
+struct PartOf;
+
+impl Makes<PartMemory, u64> for PartOf {
+    ghost made = { λ m stretch. stretch.part };
+
+    fn make(&self, stretch: &PartMemory) -> u64 {
+        stretch.part
+    }
+}
+
 /// The numbers of parts.
 fn part_numbers(alloc: Global, memory: &[PartMemory]) -> Result<Vec<u64>, AllocError>
     ensures { IfOk result (λ v. v.items ≡ numbers_of memory.now) }
 {
-    let parts: Vec<u64> = memory.iter().map(|m| m.part).collect(alloc)?;
+    let parts = each(alloc, memory, &PartOf)?;
     rising(alloc, parts.as_slice())
+}
+
+#[derive(Clone, Copy)]
+struct ThreadOf;
+
+impl Makes<Member, u64> for ThreadOf {
+    ghost made = { λ m trusted. trusted.thread };
+
+    fn make(&self, trusted: &Member) -> u64 {
+        trusted.thread
+    }
 }
 
 /// The threads of a policy that are trusted, rising.
 pub fn trusted_threads(alloc: Global, policy: &Policy) -> Result<Vec<u64>, AllocError>
     ensures { IfOk result (λ v. v.items ≡ spec.trusted_threads policy.now) }
 {
-    let silent = policy.silent.as_slice();
-    let messages = policy.messages.as_slice();
-    let mut threads: Vec<u64> = silent.iter().map(|m| m.thread).collect(alloc)?;
-    let others: Vec<u64> = messages.iter().map(|m| m.thread).collect(alloc)?;
+    let mut threads = each(alloc, policy.silent.as_slice(), &ThreadOf)?;
+    let others = each(alloc, policy.messages.as_slice(), &ThreadOf)?;
     threads.extend_from_slice(others.as_slice())?;
     rising(alloc, threads.as_slice())
 }

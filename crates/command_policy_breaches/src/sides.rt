@@ -1,13 +1,13 @@
 //! Which part may send to an endpoint, receive on it, or hand over capabilities by it.
-ghost use Rattle.std.specs.Prelude.{◌≡◌, ◌++◌, ◌&&◌, ◌||◌, ◌==◌, IfOk, filter, map};
-ghost use Rattle.std.specs.List.{list_any};
+ghost use Rattle.std.specs.Prelude.{◌≡◌, IfOk, filter, map};
 ghost use Rattle.query_parts.specs.Listed.{part_at as part_of};
 ghost use Rattle.command_policy_breaches.specs.Sides as spec;
 
-use crate::held::{Home, Layout, Waiting};
+use crate::held::{BadgeOf, Home, Layout, OfPart, Waiting};
 use bitflags::Flags;
 use cap_core::Rights;
 use command_parts::{is_of_part, rising};
+use list_questions::{Asks, Makes, any, each, those};
 use query_parts::{PartUse, part_at};
 use std::alloc::{AllocError, Global};
 
@@ -18,100 +18,105 @@ pub fn owns(layout: &Layout, part: u64, endpoint: u64) -> bool
     is_of_part(layout.memory.as_slice(), part, endpoint)
 }
 
-/// Whether a use lets a part send to an endpoint.
-pub fn sends(allowed: &PartUse, part: u64, endpoint: u64) -> bool
-    ensures { result ≡ spec.sends part endpoint allowed.now }
-{
-    allowed.part == part && allowed.endpoint == endpoint && allowed.rights.contains(Rights::WRITE)
+/// What a part may do on an endpoint.
+#[derive(Clone, Copy)]
+pub enum Right {
+    /// Send to it.
+    Send,
+    /// Send to it with any badge.
+    SendAny,
+    /// Send to it with Grant, and so hand over capabilities.
+    Give,
+    /// Send to it with Grant or GrantReply, and so be answered with capabilities.
+    Call,
+    /// Receive on it with Grant, and so answer with capabilities.
+    Answer,
+    /// Receive on it.
+    Receive,
 }
 
-fn hears(allowed: &PartUse, part: u64, endpoint: u64) -> bool
-    ensures { result ≡ spec.hears part endpoint allowed.now }
-{
-    allowed.part == part && allowed.endpoint == endpoint && allowed.rights.contains(Rights::READ)
+/// Whether a use gives a part a right to an endpoint.
+#[derive(Clone, Copy)]
+struct UseFor {
+    right: Right,
+    part: u64,
+    endpoint: u64,
 }
 
-fn gives_by_use(layout: &Layout, part: u64, endpoint: u64) -> bool
-    ensures { result ≡ list_any (spec.sends_with_grant part endpoint) layout.now.uses.items }
-{
-    let mut uses = layout.uses.as_slice().iter();
-    uses.any(|u| sends(u, part, endpoint) && u.rights.contains(Rights::GRANT))
+impl Asks<PartUse> for UseFor {
+    ghost holds = { λ q used. spec.is_use_for q.right q.part q.endpoint used };
+
+    fn holds(&self, used: &PartUse) -> bool {
+        let write = used.rights.contains(Rights::WRITE);
+        let read = used.rights.contains(Rights::READ);
+        let grant = used.rights.contains(Rights::GRANT);
+        let grant_reply = used.rights.contains(Rights::GRANT_REPLY);
+        used.part == self.part
+            && used.endpoint == self.endpoint
+            && match self.right {
+                Right::Send => write,
+                Right::SendAny => write && used.badge.0 == 0,
+                Right::Give => write && grant,
+                Right::Call => write && (grant || grant_reply),
+                Right::Answer => read && grant,
+                Right::Receive => read,
+            }
+    }
 }
 
-/// Whether a part may send to an endpoint with Grant.
-pub fn may_give(layout: &Layout, part: u64, endpoint: u64) -> bool
-    ensures { result ≡ spec.may_give layout.now part endpoint }
-{
-    owns(layout, part, endpoint) || gives_by_use(layout, part, endpoint)
+/// Whether a thread of a part waits on an endpoint: to send where `sends` is set, and else to receive.
+#[derive(Clone, Copy)]
+struct WaitOn<'a> {
+    layout: &'a Layout,
+    sends: bool,
+    part: u64,
+    endpoint: u64,
 }
 
-fn calls_by_use(layout: &Layout, part: u64, endpoint: u64) -> bool
-    ensures { result ≡ list_any (spec.calls part endpoint) layout.now.uses.items }
-{
-    let mut uses = layout.uses.as_slice().iter();
-    uses.any(|u| {
-        sends(u, part, endpoint)
-            && (u.rights.contains(Rights::GRANT) || u.rights.contains(Rights::GRANT_REPLY))
-    })
+impl Asks<Waiting> for WaitOn<'_> {
+    ghost holds = { λ q wait. spec.is_wait_on q.sends q.layout.now q.part q.endpoint wait };
+
+    fn holds(&self, wait: &Waiting) -> bool {
+        if self.sends {
+            wait.sends
+                && wait.endpoint == self.endpoint
+                && owns(self.layout, self.part, wait.thread)
+        } else {
+            !wait.sends
+                && wait.endpoint == self.endpoint
+                && owns(self.layout, self.part, wait.thread)
+        }
+    }
 }
 
-/// Whether a part may send to an endpoint with Grant or GrantReply, and so be answered with capabilities.
-pub fn may_call(layout: &Layout, part: u64, endpoint: u64) -> bool
-    ensures { result ≡ spec.may_part_call layout.now part endpoint }
+fn waits_on(layout: &Layout, sends: bool, part: u64, endpoint: u64) -> bool
+    ensures { result ≡ spec.waits_on sends layout.now part endpoint }
 {
-    owns(layout, part, endpoint) || calls_by_use(layout, part, endpoint)
+    let wait = WaitOn {
+        layout,
+        sends,
+        part,
+        endpoint,
+    };
+    any(layout.waits.as_slice(), &wait)
 }
 
-fn answers_by_use(layout: &Layout, part: u64, endpoint: u64) -> bool
-    ensures { result ≡ list_any (spec.answers part endpoint) layout.now.uses.items }
+/// Whether a part has a right to an endpoint: the endpoint lies in its memory, a use gives it, or a thread of it waits there.
+pub fn may(layout: &Layout, right: Right, part: u64, endpoint: u64) -> bool
+    ensures { result ≡ spec.may right layout.now part endpoint }
 {
-    let mut uses = layout.uses.as_slice().iter();
-    uses.any(|u| hears(u, part, endpoint) && u.rights.contains(Rights::GRANT))
-}
-
-/// Whether a part may receive on an endpoint with Grant, and so answer with capabilities.
-pub fn may_answer(layout: &Layout, part: u64, endpoint: u64) -> bool
-    ensures { result ≡ spec.may_answer layout.now part endpoint }
-{
-    owns(layout, part, endpoint) || answers_by_use(layout, part, endpoint)
-}
-
-fn hears_by_use(layout: &Layout, part: u64, endpoint: u64) -> bool
-    ensures { result ≡ list_any (spec.hears part endpoint) layout.now.uses.items }
-{
-    let mut uses = layout.uses.as_slice().iter();
-    uses.any(|u| hears(u, part, endpoint))
-}
-
-fn hears_by_wait(layout: &Layout, part: u64, endpoint: u64) -> bool
-    ensures { result ≡ list_any (spec.waits_to_hear layout.now part endpoint) layout.now.waits.items }
-{
-    let memory = layout.memory.as_slice();
-    let mut waits = layout.waits.as_slice().iter();
-    waits.any(|w| !w.sends && w.endpoint == endpoint && is_of_part(memory, part, w.thread))
-}
-
-/// Whether a part may receive on an endpoint.
-pub fn may_hear(layout: &Layout, part: u64, endpoint: u64) -> bool
-    ensures { result ≡ spec.may_hear layout.now part endpoint }
-{
+    let by_use = UseFor {
+        right,
+        part,
+        endpoint,
+    };
     owns(layout, part, endpoint)
-        || hears_by_use(layout, part, endpoint)
-        || hears_by_wait(layout, part, endpoint)
-}
-
-fn sends_any(layout: &Layout, part: u64, endpoint: u64) -> bool
-    ensures { result ≡ list_any (λ u. spec.sends part endpoint u && u.badge.0 == 0) layout.now.uses.items }
-{
-    let mut uses = layout.uses.as_slice().iter();
-    uses.any(|u| sends(u, part, endpoint) && u.badge.0 == 0)
-}
-
-/// Whether a part may send to an endpoint with any badge.
-pub fn may_send_any(layout: &Layout, part: u64, endpoint: u64) -> bool
-    ensures { result ≡ spec.sends_any layout.now part endpoint }
-{
-    owns(layout, part, endpoint) || sends_any(layout, part, endpoint)
+        || any(layout.uses.as_slice(), &by_use)
+        || match right {
+            Right::Send => waits_on(layout, true, part, endpoint),
+            Right::Receive => waits_on(layout, false, part, endpoint),
+            _ => false,
+        }
 }
 
 fn use_badges(
@@ -122,11 +127,13 @@ fn use_badges(
 ) -> Result<Vec<u64>, AllocError>
     ensures { IfOk result (λ v. v.items ≡ map (λ u. u.badge.0) (filter (spec.sends part endpoint) layout.now.uses.items)) }
 {
-    let uses = layout.uses.as_slice();
-    uses.iter()
-        .filter(|u| sends(u, part, endpoint))
-        .map(|u| u.badge.0)
-        .collect(alloc)
+    let by_use = UseFor {
+        right: Right::Send,
+        part,
+        endpoint,
+    };
+    let uses = those(alloc, layout.uses.as_slice(), &by_use)?;
+    each(alloc, uses.as_slice(), &BadgeOf)
 }
 
 fn wait_badges(
@@ -137,13 +144,14 @@ fn wait_badges(
 ) -> Result<Vec<u64>, AllocError>
     ensures { IfOk result (λ v. v.items ≡ map (λ w. w.badge) (filter (spec.waits_to_send layout.now part endpoint) layout.now.waits.items)) }
 {
-    let memory = layout.memory.as_slice();
-    let waits = layout.waits.as_slice();
-    waits
-        .iter()
-        .filter(|w| w.sends && w.endpoint == endpoint && is_of_part(memory, part, w.thread))
-        .map(|w| w.badge)
-        .collect(alloc)
+    let by_wait = WaitOn {
+        layout,
+        sends: true,
+        part,
+        endpoint,
+    };
+    let waits = those(alloc, layout.waits.as_slice(), &by_wait)?;
+    each(alloc, waits.as_slice(), &BadgeOf)
 }
 
 fn some_badges(
@@ -169,7 +177,7 @@ pub fn badges(
 ) -> Result<Vec<u64>, AllocError>
     ensures { IfOk result (λ v. v.items ≡ spec.sent_badges layout.now part endpoint) }
 {
-    if may_send_any(layout, part, endpoint) {
+    if may(layout, Right::SendAny, part, endpoint) {
         let mut any = Vec::new(alloc);
         any.push(0)?;
         return Ok(any);
@@ -177,13 +185,26 @@ pub fn badges(
     some_badges(alloc, layout, part, endpoint)
 }
 
+/// Whether a group has a thread in a part.
+#[derive(Clone, Copy)]
+struct HomeOf {
+    group: u64,
+    part: u64,
+}
+
+impl Asks<Home> for HomeOf {
+    ghost holds = { λ q home. spec.is_home q.group q.part home };
+
+    fn holds(&self, home: &Home) -> bool {
+        home.group == self.group && home.part == self.part
+    }
+}
+
 /// Whether a group has a thread in a part; or in one of the joined parts that have a number, where `homes` are those of joined parts.
 pub fn is_at_home(homes: &[Home], group: u64, part: u64) -> bool
     ensures { result ≡ spec.is_at_home homes.now part group }
 {
-    homes
-        .iter()
-        .any(|home| home.group == group && home.part == part)
+    any(homes, &HomeOf { group, part })
 }
 
 /// Whether a group has a thread in a part.
@@ -203,13 +224,21 @@ pub fn is_of_group(layout: &Layout, group: u64, address: u64) -> bool
     }
 }
 
+#[derive(Clone, Copy)]
+struct GroupOf;
+
+impl Makes<Home, u64> for GroupOf {
+    ghost made = { λ m home. home.group };
+
+    fn make(&self, home: &Home) -> u64 {
+        home.group
+    }
+}
+
 /// The groups that have threads in a part, or in the joined parts that have a number, in the order of the policy.
 pub fn groups_at(alloc: Global, homes: &[Home], part: u64) -> Result<Vec<u64>, AllocError>
     ensures { IfOk result (λ v. v.items ≡ spec.groups_at homes.now part) }
 {
-    homes
-        .iter()
-        .filter(|home| home.part == part)
-        .map(|home| home.group)
-        .collect(alloc)
+    let there = those(alloc, homes, &OfPart(part))?;
+    each(alloc, there.as_slice(), &GroupOf)
 }

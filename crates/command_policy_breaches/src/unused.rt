@@ -1,14 +1,15 @@
 //! What a policy allows and of which nothing is there.
-ghost use Rattle.std.specs.Prelude.{◌≡◌, ◌++◌, ◌&&◌, ◌||◌, ◌==◌, not, IfOk, filter, count_by};
-ghost use Rattle.std.specs.List.{list_any};
+ghost use Rattle.std.specs.Prelude.{◌≡◌, ◌&&◌, not, IfOk, filter};
+ghost use Rattle.kernel_abstract.specs.Decode.{has_right};
 ghost use Rattle.command_policy_breaches.specs.Unused as spec;
 
 use crate::breaches::lies_within;
-use crate::held::{HeldRegion, Home, Layout, Waiting};
+use crate::held::{Checked, HeldRegion, Home, Layout, OfGroup, Waiting};
 use crate::sides::{is_in_part, is_of_group};
-use crate::ways::{hears, is_send_of};
+use crate::ways::{SendOf, hears};
 use bitflags::Flags;
 use cap_core::Rights;
+use list_questions::{Asks, any, count, those};
 use query_parts::PartUse;
 use setup_policy::{Allowance, Member, OwnRegion, Policy, PolicyWay, sender_entry};
 use std::alloc::{AllocError, Global};
@@ -20,18 +21,74 @@ fn cross(one: u64, other: u64) -> bool
     one == 0 || other == 0 || one == other
 }
 
-fn is_use_of(layout: &Layout, used: &PartUse, actor: u64, endpoint: u64, badge: u64) -> bool
-    ensures { result ≡ spec.is_use_of_entry layout.now actor endpoint badge used.now }
-{
-    used.endpoint == endpoint && cross(badge, used.badge.0) && is_in_part(layout, actor, used.part)
+/// What there is of an actor at an endpoint, with such a badge.
+#[derive(Clone, Copy)]
+struct OfActor<'a> {
+    layout: &'a Layout,
+    actor: u64,
+    endpoint: u64,
+    badge: u64,
+}
+
+impl Asks<PartUse> for OfActor<'_> {
+    ghost holds = { λ q used. spec.is_use_of_entry q.layout.now q.actor q.endpoint q.badge used };
+
+    fn holds(&self, used: &PartUse) -> bool {
+        used.endpoint == self.endpoint
+            && cross(self.badge, used.badge.0)
+            && is_in_part(self.layout, self.actor, used.part)
+    }
+}
+
+impl Asks<Waiting> for OfActor<'_> {
+    ghost holds = { λ q wait. wait.sends && (spec.cross q.badge wait.badge && spec.is_wait_of q.layout.now q.actor q.endpoint wait) };
+
+    fn holds(&self, wait: &Waiting) -> bool {
+        wait.sends
+            && cross(self.badge, wait.badge)
+            && is_wait_of(self.layout, wait, self.actor, self.endpoint)
+    }
+}
+
+impl Asks<Member> for OfActor<'_> {
+    ghost holds = { λ q silent. spec.member_sends q.layout.now q.actor q.endpoint q.badge silent };
+
+    fn holds(&self, silent: &Member) -> bool {
+        let of = SendOf {
+            thread: silent.thread,
+            endpoint: self.endpoint,
+        };
+        let badge = self.badge;
+        silent.actor == self.actor && any(self.layout.waits.as_slice(), &SendWith { of, badge })
+    }
+}
+
+/// Whether a use that is there of an actor has a right.
+#[derive(Clone, Copy)]
+struct UseWith<'a> {
+    of: OfActor<'a>,
+    right: Rights,
+}
+
+impl Asks<PartUse> for UseWith<'_> {
+    ghost holds = { λ q used. spec.is_use_of_entry q.of.layout.now q.of.actor q.of.endpoint q.of.badge used && has_right q.right.0 used.rights };
+
+    fn holds(&self, used: &PartUse) -> bool {
+        self.of.holds(used) && used.rights.contains(self.right)
+    }
 }
 
 /// Whether a group has a right to an endpoint with such a badge.
 pub fn has(layout: &Layout, actor: u64, endpoint: u64, badge: u64, right: Rights) -> bool
     ensures { result ≡ spec.is_used layout.now actor endpoint badge right.0 }
 {
-    let uses = layout.uses.as_slice();
-    uses.iter().any(|u| is_use_of(layout, u, actor, endpoint, badge) && u.rights.contains(right))
+    let of = OfActor {
+        layout,
+        actor,
+        endpoint,
+        badge,
+    };
+    any(layout.uses.as_slice(), &UseWith { of, right })
 }
 
 /// Whether a thread in a part of the group waits on the endpoint.
@@ -41,83 +98,95 @@ fn is_wait_of(layout: &Layout, wait: &Waiting, actor: u64, endpoint: u64) -> boo
     wait.endpoint == endpoint && is_of_group(layout, actor, wait.thread)
 }
 
-fn sends_by_wait(layout: &Layout, actor: u64, endpoint: u64, badge: u64) -> bool
-    ensures { result ≡ spec.sends_by_wait layout.now actor endpoint badge }
-{
-    let mut waits = layout.waits.as_slice().iter();
-    waits.any(|w| w.sends && cross(badge, w.badge) && is_wait_of(layout, w, actor, endpoint))
+/// What there is of an actor that receives on an endpoint.
+#[derive(Clone, Copy)]
+struct Receiver<'a> {
+    layout: &'a Layout,
+    actor: u64,
+    endpoint: u64,
 }
 
-fn hears_by_wait(layout: &Layout, actor: u64, endpoint: u64) -> bool
-    ensures { result ≡ spec.hears_by_wait layout.now actor endpoint }
-{
-    let mut waits = layout.waits.as_slice().iter();
-    waits.any(|w| !w.sends && is_wait_of(layout, w, actor, endpoint))
+impl Asks<Waiting> for Receiver<'_> {
+    ghost holds = { λ q wait. not wait.sends && spec.is_wait_of q.layout.now q.actor q.endpoint wait };
+
+    fn holds(&self, wait: &Waiting) -> bool {
+        !wait.sends && is_wait_of(self.layout, wait, self.actor, self.endpoint)
+    }
+}
+
+impl Asks<Member> for Receiver<'_> {
+    ghost holds = { λ q silent. spec.member_hears q.layout.now q.actor q.endpoint silent };
+
+    fn holds(&self, silent: &Member) -> bool {
+        silent.actor == self.actor && hears(self.layout, silent.thread, self.endpoint)
+    }
 }
 
 fn group_sends(layout: &Layout, actor: u64, endpoint: u64, badge: u64) -> bool
     ensures { result ≡ spec.group_sends layout.now actor endpoint badge }
 {
+    let send = OfActor {
+        layout,
+        actor,
+        endpoint,
+        badge,
+    };
     is_of_group(layout, actor, endpoint)
         || has(layout, actor, endpoint, badge, Rights::WRITE)
-        || sends_by_wait(layout, actor, endpoint, badge)
+        || any(layout.waits.as_slice(), &send)
 }
 
 fn group_hears(layout: &Layout, actor: u64, endpoint: u64) -> bool
     ensures { result ≡ spec.group_hears layout.now actor endpoint }
 {
+    let receive = Receiver {
+        layout,
+        actor,
+        endpoint,
+    };
     is_of_group(layout, actor, endpoint)
         || has(layout, actor, endpoint, 0, Rights::READ)
-        || hears_by_wait(layout, actor, endpoint)
+        || any(layout.waits.as_slice(), &receive)
 }
 
-/// Whether an actor is one of these trusted threads.
-fn is_one_of(trusted: &[Member], actor: u64) -> bool
-    ensures { result ≡ spec.is_trusted_actor trusted.now actor }
-{
-    trusted.iter().any(|member| member.actor == actor)
-}
-
-/// Whether a thread waits to send to an endpoint with such a badge.
-fn waits_with(layout: &Layout, thread: u64, endpoint: u64, badge: u64) -> bool
-    ensures { result ≡ spec.waits_with_badge layout.now thread endpoint badge }
-{
-    let mut waits = layout.waits.as_slice().iter();
-    waits.any(|w| is_send_of(w, thread, endpoint) && cross(badge, w.badge))
-}
-
-fn some_silent_sends(
-    layout: &Layout,
-    silent: &[Member],
-    actor: u64,
-    endpoint: u64,
+/// Whether a thread waits to send with such a badge.
+#[derive(Clone, Copy)]
+struct SendWith {
+    of: SendOf,
     badge: u64,
-) -> bool
-    ensures { result ≡ list_any (spec.member_sends layout.now actor endpoint badge) silent.now }
-{
-    silent.iter().any(|m| m.actor == actor && waits_with(layout, m.thread, endpoint, badge))
 }
 
-fn some_silent_hears(layout: &Layout, silent: &[Member], actor: u64, endpoint: u64) -> bool
-    ensures { result ≡ list_any (spec.member_hears layout.now actor endpoint) silent.now }
-{
-    silent
-        .iter()
-        .any(|m| m.actor == actor && hears(layout, m.thread, endpoint))
+impl Asks<Waiting> for SendWith {
+    ghost use Rattle.command_policy_breaches.specs.Ways.{is_send_of};
+
+    ghost holds = { λ q wait. is_send_of q.of.thread q.of.endpoint wait && spec.cross q.badge wait.badge };
+
+    fn holds(&self, wait: &Waiting) -> bool {
+        self.of.holds(wait) && cross(self.badge, wait.badge)
+    }
 }
 
 fn thread_sends(policy: &Policy, layout: &Layout, actor: u64, endpoint: u64, badge: u64) -> bool
     ensures { result ≡ spec.thread_sends policy.now layout.now actor endpoint badge }
 {
-    is_one_of(policy.messages.as_slice(), actor)
-        || some_silent_sends(layout, policy.silent.as_slice(), actor, endpoint, badge)
+    let silent = OfActor {
+        layout,
+        actor,
+        endpoint,
+        badge,
+    };
+    any(policy.messages.as_slice(), &OfGroup(actor)) || any(policy.silent.as_slice(), &silent)
 }
 
 fn thread_hears(policy: &Policy, layout: &Layout, actor: u64, endpoint: u64) -> bool
     ensures { result ≡ spec.thread_hears policy.now layout.now actor endpoint }
 {
-    is_one_of(policy.messages.as_slice(), actor)
-        || some_silent_hears(layout, policy.silent.as_slice(), actor, endpoint)
+    let silent = Receiver {
+        layout,
+        actor,
+        endpoint,
+    };
+    any(policy.messages.as_slice(), &OfGroup(actor)) || any(policy.silent.as_slice(), &silent)
 }
 
 /// Whether there is what a way lets pass.
@@ -130,6 +199,18 @@ fn is_way_used(policy: &Policy, layout: &Layout, way: &PolicyWay) -> bool
             || thread_hears(policy, layout, way.to, way.endpoint))
 }
 
+/// Whether nothing of a way is there.
+#[derive(Clone, Copy)]
+struct UnusedWay<'a>(Checked<'a>);
+
+impl Asks<PolicyWay> for UnusedWay<'_> {
+    ghost holds = { λ q way. not (spec.is_way_used q.0.policy.now q.0.layout.now way) };
+
+    fn holds(&self, way: &PolicyWay) -> bool {
+        !is_way_used(self.0.policy, self.0.layout, way)
+    }
+}
+
 /// The ways of which nothing is there.
 pub fn unused_ways(
     alloc: Global,
@@ -138,11 +219,8 @@ pub fn unused_ways(
 ) -> Result<Vec<PolicyWay>, AllocError>
     ensures { IfOk result (λ v. v.items ≡ filter (λ w. not (spec.is_way_used policy.now layout.now w)) policy.now.ways.items) }
 {
-    let ways = policy.ways.as_slice();
-    ways.iter()
-        .filter(|way| !is_way_used(policy, layout, way))
-        .copied()
-        .collect(alloc)
+    let question = UnusedWay(Checked { policy, layout });
+    those(alloc, policy.ways.as_slice(), &question)
 }
 
 /// Whether an entry has a right that nothing has.
@@ -164,16 +242,23 @@ fn has_idle_behind_write(layout: &Layout, entry: &Allowance) -> bool
 fn is_group(policy: &Policy, actor: u64) -> bool
     ensures { result ≡ spec.is_group policy.now actor }
 {
-    policy.groups.as_slice().iter().any(|group| *group == actor)
+    policy.groups.as_slice().contains(&actor)
 }
 
-fn has_way_idle_right(policy: &Policy, layout: &Layout, way: &PolicyWay) -> bool
-    ensures { result ≡ spec.has_way_idle_right policy.now layout.now way.now }
-{
-    is_way_used(policy, layout, way)
-        && is_group(policy, way.from)
-        && !is_of_group(layout, way.from, way.endpoint)
-        && has_idle_behind_write(layout, &sender_entry(way))
+/// Whether a way that is used has a right that nothing has.
+#[derive(Clone, Copy)]
+struct WayIdle<'a>(Checked<'a>);
+
+impl Asks<PolicyWay> for WayIdle<'_> {
+    ghost holds = { λ q way. spec.has_way_idle_right q.0.policy.now q.0.layout.now way };
+
+    fn holds(&self, way: &PolicyWay) -> bool {
+        let Checked { policy, layout } = self.0;
+        is_way_used(policy, layout, way)
+            && is_group(policy, way.from)
+            && !is_of_group(layout, way.from, way.endpoint)
+            && has_idle_behind_write(layout, &sender_entry(way))
+    }
 }
 
 /// The ways with rights that nothing has.
@@ -184,18 +269,32 @@ pub fn ways_with_idle_rights(
 ) -> Result<Vec<PolicyWay>, AllocError>
     ensures { IfOk result (λ v. v.items ≡ filter (spec.has_way_idle_right policy.now layout.now) policy.now.ways.items) }
 {
-    let ways = policy.ways.as_slice();
-    ways.iter()
-        .filter(|way| has_way_idle_right(policy, layout, way))
-        .copied()
-        .collect(alloc)
+    let question = WayIdle(Checked { policy, layout });
+    those(alloc, policy.ways.as_slice(), &question)
 }
 
 fn is_entry_used(layout: &Layout, entry: &Allowance) -> bool
     ensures { result ≡ spec.is_entry_used layout.now entry.now }
 {
-    let uses = layout.uses.as_slice();
-    uses.iter().any(|u| is_use_of(layout, u, entry.actor, entry.endpoint, entry.badge))
+    let of = OfActor {
+        layout,
+        actor: entry.actor,
+        endpoint: entry.endpoint,
+        badge: entry.badge,
+    };
+    any(layout.uses.as_slice(), &of)
+}
+
+/// Whether nothing of a use is there.
+#[derive(Clone, Copy)]
+struct UnusedUse<'a>(&'a Layout);
+
+impl Asks<Allowance> for UnusedUse<'_> {
+    ghost holds = { λ q entry. not (spec.is_entry_used q.0.now entry) };
+
+    fn holds(&self, entry: &Allowance) -> bool {
+        !is_entry_used(self.0, entry)
+    }
 }
 
 /// The uses of which nothing is there.
@@ -206,18 +305,20 @@ pub fn unused_uses(
 ) -> Result<Vec<Allowance>, AllocError>
     ensures { IfOk result (λ v. v.items ≡ filter (λ a. not (spec.is_entry_used layout.now a)) policy.now.uses.items) }
 {
-    let uses = policy.uses.as_slice();
-    uses.iter()
-        .filter(|entry| !is_entry_used(layout, entry))
-        .copied()
-        .collect(alloc)
+    those(alloc, policy.uses.as_slice(), &UnusedUse(layout))
 }
 
-fn has_use_idle_right(layout: &Layout, entry: &Allowance) -> bool
-    ensures { result ≡ spec.has_use_idle_right layout.now entry.now }
-{
-    is_entry_used(layout, entry)
-        && (is_idle(layout, entry, Rights::WRITE) || has_idle_behind_write(layout, entry))
+/// Whether a use that is there has a right that nothing has.
+#[derive(Clone, Copy)]
+struct UseIdle<'a>(&'a Layout);
+
+impl Asks<Allowance> for UseIdle<'_> {
+    ghost holds = { λ q entry. spec.has_use_idle_right q.0.now entry };
+
+    fn holds(&self, entry: &Allowance) -> bool {
+        is_entry_used(self.0, entry)
+            && (is_idle(self.0, entry, Rights::WRITE) || has_idle_behind_write(self.0, entry))
+    }
 }
 
 /// The uses with rights that nothing has.
@@ -228,21 +329,39 @@ pub fn uses_with_idle_rights(
 ) -> Result<Vec<Allowance>, AllocError>
     ensures { IfOk result (λ v. v.items ≡ filter (spec.has_use_idle_right layout.now) policy.now.uses.items) }
 {
-    let uses = policy.uses.as_slice();
-    uses.iter()
-        .filter(|entry| has_use_idle_right(layout, entry))
-        .copied()
-        .collect(alloc)
+    those(alloc, policy.uses.as_slice(), &UseIdle(layout))
 }
 
-fn is_region_used(layout: &Layout, own: &OwnRegion) -> bool
-    ensures { result ≡ spec.is_region_used layout.now own.now }
-{
-    let mut regions = layout.regions.as_slice().iter();
-    regions.any(|held| {
-        lies_within(held.base, held.bits, own.base, own.bits)
-            && is_in_part(layout, own.group, held.part)
-    })
+/// Whether a region of a part lies in one of a group that has threads in the part.
+#[derive(Clone, Copy)]
+struct RegionOf<'a> {
+    layout: &'a Layout,
+    own: OwnRegion,
+}
+
+impl Asks<HeldRegion> for RegionOf<'_> {
+    ghost holds = { λ q held. spec.is_region_of q.layout.now q.own held };
+
+    fn holds(&self, held: &HeldRegion) -> bool {
+        lies_within(held.base, held.bits, self.own.base, self.own.bits)
+            && is_in_part(self.layout, self.own.group, held.part)
+    }
+}
+
+/// Whether nothing of a region is there.
+#[derive(Clone, Copy)]
+struct UnusedRegion<'a>(&'a Layout);
+
+impl Asks<OwnRegion> for UnusedRegion<'_> {
+    ghost holds = { λ q own. not (spec.is_region_used q.0.now own) };
+
+    fn holds(&self, own: &OwnRegion) -> bool {
+        let region = RegionOf {
+            layout: self.0,
+            own: *own,
+        };
+        !any(self.0.regions.as_slice(), &region)
+    }
 }
 
 /// The regions of groups of which nothing is there.
@@ -253,17 +372,12 @@ pub fn unused_regions(
 ) -> Result<Vec<OwnRegion>, AllocError>
     ensures { IfOk result (λ v. v.items ≡ filter (λ r. not (spec.is_region_used layout.now r)) policy.now.regions.items) }
 {
-    let regions = policy.regions.as_slice();
-    regions
-        .iter()
-        .filter(|own| !is_region_used(layout, own))
-        .copied()
-        .collect(alloc)
+    those(alloc, policy.regions.as_slice(), &UnusedRegion(layout))
 }
 
 /// How many parts the threads of a group are, where those that Grant joins count as one: `homes` are those of the joined parts.
 pub fn count_of_parts(homes: &[Home], group: u64) -> usize
     ensures { result ≡ spec.count_of_parts homes.now group }
 {
-    homes.iter().filter(|home| home.group == group).count()
+    count(homes, &OfGroup(group))
 }

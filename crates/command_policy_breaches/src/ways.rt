@@ -1,15 +1,16 @@
 //! What can pass between parts of different numbers, and between a part and a trusted thread that waits; and what of it no way lets
 //! pass.
-ghost use Rattle.std.specs.Prelude.{◌≡◌, ◌++◌, ◌&&◌, ◌||◌, ◌==◌, not, IfOk, OnOk, filter, map, count_by};
-ghost use Rattle.std.specs.List.{flat_map, list_any};
-ghost use Rattle.setup_report.specs.State.{rising as rising_of};
+ghost use Rattle.std.specs.Prelude.{◌≡◌, ◌&&◌, IfOk, filter, map, count_by};
+ghost use Rattle.std.specs.List.{list_any};
+ghost use Rattle.command_policy_breaches.specs.Breaches.{meets};
 ghost use Rattle.command_policy_breaches.specs.Ways as spec;
 
-use crate::breaches::meets;
+use crate::breaches::meets as meets_badge;
 use crate::held::{Block, Home, Layout, Waiting};
 use crate::joining::block_of;
-use crate::sides::{badges, is_at_home, may_hear};
-use command_parts::{is_of_part, rising};
+use crate::sides::{Right, badges, is_at_home, may, owns};
+use command_parts::rising;
+use list_questions::{Adds, Asks, Makes, add_all, any, count, each, those};
 use query_parts::{PartUse, part_at};
 use setup_policy::{Member, Policy, PolicyWay};
 use std::alloc::{AllocError, Global};
@@ -47,111 +48,135 @@ fn is_outside(layout: &Layout, trusted: &Member) -> bool
 }
 
 /// Whether a thread waits to send to an endpoint.
-pub fn is_send_of(wait: &Waiting, thread: u64, endpoint: u64) -> bool
-    ensures { result ≡ spec.is_send_of thread endpoint wait.now }
-{
-    wait.sends && wait.endpoint == endpoint && wait.thread == thread
+#[derive(Clone, Copy)]
+pub struct SendOf {
+    pub thread: u64,
+    pub endpoint: u64,
+}
+
+impl Asks<Waiting> for SendOf {
+    ghost holds = { λ q wait. spec.is_send_of q.thread q.endpoint wait };
+
+    fn holds(&self, wait: &Waiting) -> bool {
+        wait.sends && wait.endpoint == self.endpoint && wait.thread == self.thread
+    }
+}
+
+/// Whether a thread waits to receive on an endpoint.
+#[derive(Clone, Copy)]
+struct ReceiveOf {
+    thread: u64,
+    endpoint: u64,
+}
+
+impl Asks<Waiting> for ReceiveOf {
+    ghost holds = { λ q wait. spec.is_receive_of q.thread q.endpoint wait };
+
+    fn holds(&self, wait: &Waiting) -> bool {
+        !wait.sends && wait.endpoint == self.endpoint && wait.thread == self.thread
+    }
 }
 
 /// Whether a thread waits to receive on an endpoint.
 pub fn hears(layout: &Layout, thread: u64, endpoint: u64) -> bool
     ensures { result ≡ list_any (spec.is_receive_of thread endpoint) layout.now.waits.items }
 {
-    let mut waits = layout.waits.as_slice().iter();
-    waits.any(|w| !w.sends && w.endpoint == endpoint && w.thread == thread)
+    any(layout.waits.as_slice(), &ReceiveOf { thread, endpoint })
 }
 
-fn sends_with(
-    alloc: Global,
-    badges: &[u64],
+/// That one of an end's parts may send with a badge.
+#[derive(Clone, Copy)]
+struct SendingOf {
     end: End,
     part: u64,
-) -> Result<Vec<Sending>, AllocError>
-    ensures { IfOk result (λ v. v.items ≡ map (spec.sending end part) badges.now) }
-{
-    badges
-        .iter()
-        .map(|badge| Sending {
-            end,
-            part,
+}
+
+impl Makes<u64, Sending> for SendingOf {
+    ghost made = { λ m badge. spec.sending m.end m.part badge };
+
+    fn make(&self, badge: &u64) -> Sending {
+        Sending {
+            end: self.end,
+            part: self.part,
             badge: *badge,
-        })
-        .collect(alloc)
+        }
+    }
 }
 
-fn add_part_sends(
-    alloc: Global,
-    sends: &mut Vec<Sending>,
-    layout: &Layout,
-    blocks: &[Block],
+/// What a part may send to an endpoint.
+#[derive(Clone, Copy)]
+struct PartSends<'a> {
+    layout: &'a Layout,
+    blocks: &'a [Block],
     endpoint: u64,
-    part: u64,
-) -> Result<(), AllocError>
-    ensures { OnOk result (sends.new.items ≡ sends.old.items ++ spec.part_sendings layout.now blocks.now endpoint part) }
-{
-    let badges = badges(alloc, layout, part, endpoint)?;
-    let end = End {
-        is_part: true,
-        number: block_of(blocks, part),
-    };
-    let own = sends_with(alloc, badges.as_slice(), end, part)?;
-    sends.extend_from_slice(own.as_slice())?;
-    Ok(())
 }
 
-fn sends_that_wait(
-    alloc: Global,
-    layout: &Layout,
-    trusted: &Member,
-    endpoint: u64,
-) -> Result<Vec<Sending>, AllocError>
-    ensures { IfOk result (λ v. v.items ≡ map (spec.waiting_send trusted.now.actor) (filter (spec.is_send_of trusted.now.thread endpoint) layout.now.waits.items)) }
-{
-    let waits = layout.waits.as_slice();
-    let end = End {
-        is_part: false,
-        number: trusted.actor,
-    };
-    waits
-        .iter()
-        .filter(|w| is_send_of(w, trusted.thread, endpoint))
-        .map(|w| Sending {
+impl Adds<u64, Sending> for PartSends<'_> {
+    ghost added = { λ a part. spec.part_sendings a.layout.now a.blocks.now a.endpoint part };
+
+    fn add(&self, alloc: Global, sends: &mut Vec<Sending>, part: &u64) -> Result<(), AllocError> {
+        let badges = badges(alloc, self.layout, *part, self.endpoint)?;
+        let end = End {
+            is_part: true,
+            number: block_of(self.blocks, *part),
+        };
+        let own = each(alloc, badges.as_slice(), &SendingOf { end, part: *part })?;
+        sends.extend_from_slice(own.as_slice())?;
+        Ok(())
+    }
+}
+
+/// What a trusted thread sends by a send of it that waits.
+#[derive(Clone, Copy)]
+struct WaitingSend {
+    actor: u64,
+}
+
+impl Makes<Waiting, Sending> for WaitingSend {
+    ghost made = { λ m wait. spec.waiting_send m.actor wait };
+
+    fn make(&self, wait: &Waiting) -> Sending {
+        let end = End {
+            is_part: false,
+            number: self.actor,
+        };
+        Sending {
             end,
             part: 0,
-            badge: w.badge,
-        })
-        .collect(alloc)
+            badge: wait.badge,
+        }
+    }
 }
 
-fn add_thread_sends(
-    alloc: Global,
-    sends: &mut Vec<Sending>,
-    layout: &Layout,
+/// What a trusted thread that lies in no part sends to an endpoint.
+#[derive(Clone, Copy)]
+struct ThreadSends<'a> {
+    layout: &'a Layout,
     endpoint: u64,
-    trusted: &Member,
-) -> Result<(), AllocError>
-    ensures { OnOk result (sends.new.items ≡ sends.old.items ++ spec.thread_sendings layout.now endpoint trusted.now) }
-{
-    if is_outside(layout, trusted) {
-        let own = sends_that_wait(alloc, layout, trusted, endpoint)?;
-        sends.extend_from_slice(own.as_slice())?;
-    }
-    Ok(())
 }
 
-fn add_all_thread_sends(
-    alloc: Global,
-    sends: &mut Vec<Sending>,
-    layout: &Layout,
-    endpoint: u64,
-    silent: &[Member],
-) -> Result<(), AllocError>
-    ensures { OnOk result (sends.new.items ≡ sends.old.items ++ flat_map (spec.thread_sendings layout.now endpoint) silent.now) }
-{
-    for trusted in silent {
-        add_thread_sends(alloc, sends, layout, endpoint, trusted)?;
+impl Adds<Member, Sending> for ThreadSends<'_> {
+    ghost added = { λ a trusted. spec.thread_sendings a.layout.now a.endpoint trusted };
+
+    fn add(
+        &self,
+        alloc: Global,
+        sends: &mut Vec<Sending>,
+        trusted: &Member,
+    ) -> Result<(), AllocError> {
+        if is_outside(self.layout, trusted) {
+            let Member { thread, actor } = *trusted;
+            let endpoint = self.endpoint;
+            let waits = those(
+                alloc,
+                self.layout.waits.as_slice(),
+                &SendOf { thread, endpoint },
+            )?;
+            let own = each(alloc, waits.as_slice(), &WaitingSend { actor })?;
+            sends.extend_from_slice(own.as_slice())?;
+        }
+        Ok(())
     }
-    Ok(())
 }
 
 /// Who may send to an endpoint, with which badges.
@@ -165,12 +190,44 @@ fn sends_to(
     ensures { IfOk result (λ v. v.items ≡ spec.sendings_to policy.now layout.now blocks.now endpoint) }
 {
     let mut sends = Vec::new(alloc);
-    for part in layout.parts.as_slice() {
-        add_part_sends(alloc, &mut sends, layout, blocks, endpoint, *part)?;
-    }
-    let silent = policy.silent.as_slice();
-    add_all_thread_sends(alloc, &mut sends, layout, endpoint, silent)?;
+    let of_part = PartSends {
+        layout,
+        blocks,
+        endpoint,
+    };
+    add_all(alloc, &mut sends, layout.parts.as_slice(), &of_part)?;
+    let of_thread = ThreadSends { layout, endpoint };
+    add_all(alloc, &mut sends, policy.silent.as_slice(), &of_thread)?;
     Ok(sends)
+}
+
+/// Whether a trusted thread lies in no part and waits to receive on an endpoint.
+#[derive(Clone, Copy)]
+struct ThreadHears<'a> {
+    layout: &'a Layout,
+    endpoint: u64,
+}
+
+impl Asks<Member> for ThreadHears<'_> {
+    ghost holds = { λ q trusted. spec.hears_as_thread q.layout.now q.endpoint trusted };
+
+    fn holds(&self, trusted: &Member) -> bool {
+        is_outside(self.layout, trusted) && hears(self.layout, trusted.thread, self.endpoint)
+    }
+}
+
+#[derive(Clone, Copy)]
+struct ThreadEnd;
+
+impl Makes<Member, End> for ThreadEnd {
+    ghost made = { λ m trusted. spec.thread_end trusted.actor };
+
+    fn make(&self, trusted: &Member) -> End {
+        End {
+            is_part: false,
+            number: trusted.actor,
+        }
+    }
 }
 
 fn thread_ends(
@@ -181,14 +238,35 @@ fn thread_ends(
 ) -> Result<Vec<End>, AllocError>
     ensures { IfOk result (λ v. v.items ≡ map (λ m. spec.thread_end m.actor) (filter (spec.hears_as_thread layout.now endpoint) silent.now)) }
 {
-    silent
-        .iter()
-        .filter(|trusted| is_outside(layout, trusted) && hears(layout, trusted.thread, endpoint))
-        .map(|trusted| End {
-            is_part: false,
-            number: trusted.actor,
-        })
-        .collect(alloc)
+    let hearing = those(alloc, silent, &ThreadHears { layout, endpoint })?;
+    each(alloc, hearing.as_slice(), &ThreadEnd)
+}
+
+/// Whether a part may receive on an endpoint.
+#[derive(Clone, Copy)]
+struct PartHears<'a> {
+    layout: &'a Layout,
+    endpoint: u64,
+}
+
+impl Asks<u64> for PartHears<'_> {
+    ghost holds = { λ q part. spec.hears_on q.layout.now q.endpoint part };
+
+    fn holds(&self, part: &u64) -> bool {
+        may(self.layout, Right::Receive, *part, self.endpoint)
+    }
+}
+
+/// The number of the joined parts in which a part is.
+#[derive(Clone, Copy)]
+struct NumberOf<'a>(&'a [Block]);
+
+impl Makes<u64, u64> for NumberOf<'_> {
+    ghost made = { λ m part. spec.block_of_part m.0.now part };
+
+    fn make(&self, part: &u64) -> u64 {
+        block_of(self.0, *part)
+    }
 }
 
 fn hearing_numbers(
@@ -200,23 +278,22 @@ fn hearing_numbers(
     ensures { IfOk result (λ v. v.items ≡ map (spec.block_of_part blocks.now) (filter (spec.hears_on layout.now endpoint) layout.now.parts.items)) }
 {
     let parts = layout.parts.as_slice();
-    parts
-        .iter()
-        .filter(|part| may_hear(layout, **part, endpoint))
-        .map(|part| block_of(blocks, *part))
-        .collect(alloc)
+    let hearing = those(alloc, parts, &PartHears { layout, endpoint })?;
+    each(alloc, hearing.as_slice(), &NumberOf(blocks))
 }
 
-fn part_ends(alloc: Global, numbers: &[u64]) -> Result<Vec<End>, AllocError>
-    ensures { IfOk result (λ v. v.items ≡ map spec.part_end numbers.now) }
-{
-    numbers
-        .iter()
-        .map(|number| End {
+#[derive(Clone, Copy)]
+struct PartEnd;
+
+impl Makes<u64, End> for PartEnd {
+    ghost made = { λ m number. spec.part_end number };
+
+    fn make(&self, number: &u64) -> End {
+        End {
             is_part: true,
             number: *number,
-        })
-        .collect(alloc)
+        }
+    }
 }
 
 /// Who may receive on an endpoint.
@@ -231,80 +308,110 @@ fn hearers_on(
 {
     let numbers = hearing_numbers(alloc, layout, blocks, endpoint)?;
     let numbers = rising(alloc, numbers.as_slice())?;
-    let mut ends = part_ends(alloc, numbers.as_slice())?;
+    let mut ends = each(alloc, numbers.as_slice(), &PartEnd)?;
     let threads = thread_ends(alloc, layout, endpoint, policy.silent.as_slice())?;
     ends.extend_from_slice(threads.as_slice())?;
     Ok(ends)
 }
 
-/// Whether what passes between two ends is asked for: between parts of different numbers, and between a part and a thread.
-fn is_apart(from: End, to: End) -> bool
-    ensures { result ≡ spec.is_apart from to }
-{
-    if from.is_part {
-        !to.is_part || from.number != to.number
-    } else {
-        to.is_part
+/// Whether what passes from an end to another is asked for: between parts of different numbers, and between a part and a thread.
+#[derive(Clone, Copy)]
+struct ApartFrom(End);
+
+impl Asks<End> for ApartFrom {
+    ghost holds = { λ q to. spec.is_apart q.0 to };
+
+    fn holds(&self, to: &End) -> bool {
+        if self.0.is_part {
+            !to.is_part || self.0.number != to.number
+        } else {
+            to.is_part
+        }
     }
 }
 
-fn passages_of(
-    alloc: Global,
-    sending: &Sending,
-    hearers: &[End],
+/// That what is sent to an endpoint can be received by an end.
+#[derive(Clone, Copy)]
+struct PassageOf {
+    sending: Sending,
     endpoint: u64,
-) -> Result<Vec<Passage>, AllocError>
-    ensures { IfOk result (λ v. v.items ≡ map (spec.passage sending.now endpoint) (filter (spec.is_apart sending.now.end) hearers.now)) }
-{
-    let Sending { end, part, badge } = *sending;
-    hearers
-        .iter()
-        .filter(|to| is_apart(end, **to))
-        .map(|to| Passage {
+}
+
+impl Makes<End, Passage> for PassageOf {
+    ghost made = { λ m to. spec.passage m.sending m.endpoint to };
+
+    fn make(&self, to: &End) -> Passage {
+        let Sending { end, part, badge } = self.sending;
+        Passage {
             from: end,
             part,
-            endpoint,
+            endpoint: self.endpoint,
             badge,
             to: *to,
-        })
-        .collect(alloc)
-}
-
-fn add_passages(
-    alloc: Global,
-    passages: &mut Vec<Passage>,
-    sends: &[Sending],
-    hearers: &[End],
-    endpoint: u64,
-) -> Result<(), AllocError>
-    ensures { OnOk result (passages.new.items ≡ passages.old.items ++ flat_map (spec.passages_of hearers.now endpoint) sends.now) }
-{
-    for sending in sends {
-        let own = passages_of(alloc, sending, hearers, endpoint)?;
-        passages.extend_from_slice(own.as_slice())?;
+        }
     }
-    Ok(())
 }
 
-fn add_passages_by(
-    alloc: Global,
-    passages: &mut Vec<Passage>,
-    policy: &Policy,
-    layout: &Layout,
-    blocks: &[Block],
+/// What passes of what is sent to an endpoint.
+#[derive(Clone, Copy)]
+struct PassagesTo<'a> {
+    hearers: &'a [End],
     endpoint: u64,
-) -> Result<(), AllocError>
-    ensures { OnOk result (passages.new.items ≡ passages.old.items ++ spec.passages_by policy.now layout.now blocks.now endpoint) }
-{
-    let sends = sends_to(alloc, policy, layout, blocks, endpoint)?;
-    let hearers = hearers_on(alloc, policy, layout, blocks, endpoint)?;
-    add_passages(
-        alloc,
-        passages,
-        sends.as_slice(),
-        hearers.as_slice(),
-        endpoint,
-    )
+}
+
+impl Adds<Sending, Passage> for PassagesTo<'_> {
+    ghost added = { λ a sending. spec.passages_of a.hearers.now a.endpoint sending };
+
+    fn add(
+        &self,
+        alloc: Global,
+        passages: &mut Vec<Passage>,
+        sending: &Sending,
+    ) -> Result<(), AllocError> {
+        let passage = PassageOf {
+            sending: *sending,
+            endpoint: self.endpoint,
+        };
+        let ends = those(alloc, self.hearers, &ApartFrom(sending.end))?;
+        let own = each(alloc, ends.as_slice(), &passage)?;
+        passages.extend_from_slice(own.as_slice())?;
+        Ok(())
+    }
+}
+
+/// What can pass by an endpoint.
+#[derive(Clone, Copy)]
+struct PassagesBy<'a> {
+    policy: &'a Policy,
+    layout: &'a Layout,
+    blocks: &'a [Block],
+}
+
+impl Adds<u64, Passage> for PassagesBy<'_> {
+    ghost added = { λ a endpoint. spec.passages_by a.policy.now a.layout.now a.blocks.now endpoint };
+
+    fn add(
+        &self,
+        alloc: Global,
+        passages: &mut Vec<Passage>,
+        endpoint: &u64,
+    ) -> Result<(), AllocError> {
+        let PassagesBy {
+            policy,
+            layout,
+            blocks,
+        } = *self;
+        let endpoint = *endpoint;
+        let sends = sends_to(alloc, policy, layout, blocks, endpoint)?;
+        let hearers = hearers_on(alloc, policy, layout, blocks, endpoint)?;
+        let hearers = hearers.as_slice();
+        add_all(
+            alloc,
+            passages,
+            sends.as_slice(),
+            &PassagesTo { hearers, endpoint },
+        )
+    }
 }
 
 /// What can pass, by each endpoint.
@@ -317,20 +424,32 @@ pub fn passages(
     ensures { IfOk result (λ v. v.items ≡ spec.passages policy.now layout.now blocks.now) }
 {
     let mut passages = Vec::new(alloc);
-    for endpoint in layout.endpoints.as_slice() {
-        add_passages_by(alloc, &mut passages, policy, layout, blocks, *endpoint)?;
-    }
+    let by = PassagesBy {
+        policy,
+        layout,
+        blocks,
+    };
+    add_all(alloc, &mut passages, layout.endpoints.as_slice(), &by)?;
     Ok(passages)
+}
+
+/// Whether both ends of a passage are parts.
+#[derive(Clone, Copy)]
+struct BetweenParts;
+
+impl Asks<Passage> for BetweenParts {
+    ghost holds = { λ q passage. spec.is_between_parts passage };
+
+    fn holds(&self, passage: &Passage) -> bool {
+        passage.from.is_part && passage.to.is_part
+    }
 }
 
 /// How many of the passages are between parts.
 pub fn count_between_parts(passages: &[Passage]) -> usize
     ensures { result ≡ count_by spec.is_between_parts passages.now }
 {
-    passages
-        .iter()
-        .filter(|p| p.from.is_part && p.to.is_part)
-        .count()
+    count(passages, &BetweenParts)
 }
 
 /// Whether an actor is one of an end's: a group that has a thread in one of the parts, or the thread itself.
@@ -344,16 +463,23 @@ pub fn is_at(homes: &[Home], end: End, actor: u64) -> bool
     }
 }
 
-fn have_one_in_common(homes: &[Home], passage: &Passage) -> bool
-    ensures { result ≡ spec.have_one_in_common homes.now passage.now }
-{
-    let Passage { from, to, .. } = *passage;
-    homes.iter().any(|home| {
+/// Whether a group has a thread at both ends of a passage.
+#[derive(Clone, Copy)]
+struct HomeOfBoth<'a> {
+    homes: &'a [Home],
+    passage: Passage,
+}
+
+impl Asks<Home> for HomeOfBoth<'_> {
+    ghost holds = { λ q home. spec.is_home_of_both q.homes.now q.passage home };
+
+    fn holds(&self, home: &Home) -> bool {
+        let Passage { from, to, .. } = self.passage;
         from.is_part
             && home.part == from.number
             && to.is_part
-            && is_at_home(homes, home.group, to.number)
-    })
+            && is_at_home(self.homes, home.group, to.number)
+    }
 }
 
 fn begins_there(homes: &[Home], passage: &Passage, way: &PolicyWay) -> bool
@@ -369,61 +495,87 @@ pub fn is_way_between(homes: &[Home], passage: &Passage, way: &PolicyWay) -> boo
     begins_there(homes, passage, way) && is_at(homes, passage.to, way.to)
 }
 
-fn is_let(policy: &Policy, homes: &[Home], passage: &Passage) -> bool
-    ensures { result ≡ spec.is_let policy.now homes.now passage.now }
-{
-    let ways = policy.ways.as_slice();
-    ways.iter().any(|way| is_way_between(homes, passage, way) && meets(way.badge, passage.badge))
+/// What of the ways is held to a passage.
+#[derive(Clone, Copy)]
+struct WaysFor<'a> {
+    homes: &'a [Home],
+    passage: Passage,
 }
 
-fn is_let_elsewhere(policy: &Policy, homes: &[Home], passage: &Passage) -> bool
-    ensures { result ≡ spec.is_let_elsewhere policy.now homes.now passage.now }
-{
-    let ways = policy.ways.as_slice();
-    ways.iter().any(|way| begins_there(homes, passage, way) && meets(way.badge, passage.badge))
+/// Whether a way lets a passage be.
+#[derive(Clone, Copy)]
+struct Lets<'a>(WaysFor<'a>);
+
+impl Asks<PolicyWay> for Lets<'_> {
+    ghost holds = { λ q way. spec.is_way_between q.0.homes.now q.0.passage way && meets way.badge q.0.passage.badge };
+
+    fn holds(&self, way: &PolicyWay) -> bool {
+        let WaysFor { homes, passage } = self.0;
+        is_way_between(homes, &passage, way) && meets_badge(way.badge, passage.badge)
+    }
 }
 
-fn has_way(policy: &Policy, homes: &[Home], passage: &Passage) -> bool
-    ensures { result ≡ spec.has_way policy.now homes.now passage.now }
-{
-    let ways = policy.ways.as_slice();
-    ways.iter().any(|way| is_way_between(homes, passage, way))
+/// Whether a way lets the sender of a passage send so, to whomever.
+#[derive(Clone, Copy)]
+struct LetsElsewhere<'a>(WaysFor<'a>);
+
+impl Asks<PolicyWay> for LetsElsewhere<'_> {
+    ghost holds = { λ q way. spec.begins_there q.0.homes.now q.0.passage way && meets way.badge q.0.passage.badge };
+
+    fn holds(&self, way: &PolicyWay) -> bool {
+        let WaysFor { homes, passage } = self.0;
+        begins_there(homes, &passage, way) && meets_badge(way.badge, passage.badge)
+    }
 }
 
-fn is_told_of_use(uses: &[PartUse], passage: &Passage) -> bool
-    ensures { result ≡ list_any (spec.is_use_of_passage passage.now) uses.now }
-{
-    let Passage {
-        part,
-        endpoint,
-        badge,
-        ..
-    } = *passage;
-    let mut uses = uses.iter();
-    uses.any(|u| u.part == part && u.endpoint == endpoint && u.badge.0 == badge)
+/// Whether a way lets a passage be with some badge.
+#[derive(Clone, Copy)]
+struct LetsSome<'a>(WaysFor<'a>);
+
+impl Asks<PolicyWay> for LetsSome<'_> {
+    ghost holds = { λ q way. spec.is_way_between q.0.homes.now q.0.passage way };
+
+    fn holds(&self, way: &PolicyWay) -> bool {
+        is_way_between(self.0.homes, &self.0.passage, way)
+    }
 }
 
-fn is_told_of_wait(layout: &Layout, waits: &[Waiting], passage: &Passage) -> bool
-    ensures { result ≡ list_any (spec.is_wait_of_passage layout.now passage.now) waits.now }
-{
-    let memory = layout.memory.as_slice();
-    let Passage {
-        part,
-        endpoint,
-        badge,
-        ..
-    } = *passage;
-    let mut waits = waits.iter();
-    waits.any(|w| {
-        w.sends && w.endpoint == endpoint && w.badge == badge && is_of_part(memory, part, w.thread)
-    })
+/// Whether a use has the part, the endpoint and the badge of a passage.
+#[derive(Clone, Copy)]
+struct UseOf(Passage);
+
+impl Asks<PartUse> for UseOf {
+    ghost holds = { λ q used. spec.is_use_of_passage q.0 used };
+
+    fn holds(&self, used: &PartUse) -> bool {
+        used.part == self.0.part && used.endpoint == self.0.endpoint && used.badge.0 == self.0.badge
+    }
+}
+
+/// Whether a send of the part of a passage waits, with its endpoint and its badge.
+#[derive(Clone, Copy)]
+struct WaitOf<'a> {
+    layout: &'a Layout,
+    passage: Passage,
+}
+
+impl Asks<Waiting> for WaitOf<'_> {
+    ghost holds = { λ q wait. spec.is_wait_of_passage q.layout.now q.passage wait };
+
+    fn holds(&self, wait: &Waiting) -> bool {
+        wait.sends
+            && wait.endpoint == self.passage.endpoint
+            && wait.badge == self.passage.badge
+            && owns(self.layout, self.passage.part, wait.thread)
+    }
 }
 
 /// Whether the badge of a passage is told already, of a use or of a send that waits.
 fn is_told(layout: &Layout, uses: &[PartUse], waits: &[Waiting], passage: &Passage) -> bool
     ensures { result ≡ spec.is_passage_told layout.now uses.now waits.now passage.now }
 {
-    is_told_of_use(uses, passage) || is_told_of_wait(layout, waits, passage)
+    let passage = *passage;
+    any(uses, &UseOf(passage)) || any(waits, &WaitOf { layout, passage })
 }
 
 /// Whether the badge alone is amiss, and told already.
@@ -437,24 +589,43 @@ fn is_badge_told(
 ) -> bool
     ensures { result ≡ spec.is_badge_told policy.now layout.now homes.now uses.now waits.now passage.now }
 {
+    let ways = policy.ways.as_slice();
+    let held = WaysFor {
+        homes,
+        passage: *passage,
+    };
     is_told(layout, uses, waits, passage)
-        && has_way(policy, homes, passage)
-        && !is_let_elsewhere(policy, homes, passage)
+        && any(ways, &LetsSome(held))
+        && !any(ways, &LetsElsewhere(held))
 }
 
-fn is_passage_amiss(
-    policy: &Policy,
-    layout: &Layout,
-    homes: &[Home],
-    uses: &[PartUse],
-    waits: &[Waiting],
-    passage: &Passage,
-) -> bool
-    ensures { result ≡ spec.is_passage_amiss policy.now layout.now homes.now uses.now waits.now passage.now }
-{
-    !have_one_in_common(homes, passage)
-        && !is_let(policy, homes, passage)
-        && !is_badge_told(policy, layout, homes, uses, waits, passage)
+/// Whether no way lets a passage pass, and no group is at both of its ends, and its badge is not told already.
+#[derive(Clone, Copy)]
+struct PassageAmiss<'a> {
+    policy: &'a Policy,
+    layout: &'a Layout,
+    homes: &'a [Home],
+    uses: &'a [PartUse],
+    waits: &'a [Waiting],
+}
+
+impl Asks<Passage> for PassageAmiss<'_> {
+    ghost holds = { λ q passage. spec.is_passage_amiss q.policy.now q.layout.now q.homes.now q.uses.now q.waits.now passage };
+
+    fn holds(&self, passage: &Passage) -> bool {
+        let PassageAmiss {
+            policy,
+            layout,
+            homes,
+            uses,
+            waits,
+        } = *self;
+        let passage = *passage;
+        let held = WaysFor { homes, passage };
+        !any(homes, &HomeOfBoth { homes, passage })
+            && !any(policy.ways.as_slice(), &Lets(held))
+            && !is_badge_told(policy, layout, homes, uses, waits, &passage)
+    }
 }
 
 /// The passages that no way lets pass. `homes` has the groups of the joined parts, and `uses` and `waits` those whose badges are told
@@ -470,9 +641,12 @@ pub fn passages_amiss(
 ) -> Result<Vec<Passage>, AllocError>
     ensures { IfOk result (λ v. v.items ≡ filter (spec.is_passage_amiss policy.now layout.now homes.now uses.now waits.now) passages.now) }
 {
-    passages
-        .iter()
-        .filter(|passage| is_passage_amiss(policy, layout, homes, uses, waits, passage))
-        .copied()
-        .collect(alloc)
+    let question = PassageAmiss {
+        policy,
+        layout,
+        homes,
+        uses,
+        waits,
+    };
+    those(alloc, passages, &question)
 }
