@@ -27,8 +27,10 @@ FAULTS = {
     "element_not_closed": 16, "equals_sign_missing": 7, "id_of_an_interrupt": 14, "id_too_large": 14, "interrupt_twice": 11,
     "name_with_blank": 9, "neither_true_nor_false": 15, "no_name": 3, "no_system": 2, "one_end": 13, "permissions_unknown": 11,
     "region_misspelt": 11, "region_named_as_thread": 10, "sign_by_itself": 10, "three_ends": 13, "two_systems": 18,
-    "value_not_closed": 5,
+    "value_not_closed": 5, "several": 5, "several_parts": 4,
 }
+# The lines of all faults, where there are several: behind one the reading goes on at the next `}` or at the next element.
+SEVERAL = {"several.cdl": [5, 7, 8, 10, 12], "several_parts.system": [4, 5, 7, 10]}
 # The words by which `.system` files are read as the layouts that another program made of them.
 LEAST = ["--rights", "least"]
 RIGHTS = (("W", "w"), ("R", "r"), ("G", "g"), ("P", "p"))
@@ -336,6 +338,9 @@ def faults_of(program, folder):
         line = FAULTS[path.stem]
         if made.returncode != 2 or made.stdout != f"layout refused at {line}\n" or f"{path.name}:{line}:" not in made.stderr:
             yield f"{path.name}: {made.returncode} {made.stdout!r} {made.stderr[:200]!r}"
+        told = [int(it) for it in re.findall(rf"{path.name}:(\d+):\d+: error: ", made.stderr)]
+        if path.name in SEVERAL and told != SEVERAL[path.name]:
+            yield f"{path.name}: faults in the lines {told}"
 
 
 def faults_of_systems(program, folder):

@@ -120,7 +120,7 @@ impl<'a> Tree<'a> {
         let mut open = Vec::new(words.alloc);
         let mut above = None;
         for _node in 0..words.left() {
-            if words.is_broken {
+            if !words.goes_on() {
                 return Ok(());
             }
             if words.has("}") {

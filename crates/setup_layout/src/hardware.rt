@@ -142,7 +142,7 @@ impl<'a> Hardware<'a> {
     pub fn read_maps(&mut self, words: &mut Words<'a>) -> Result<(), AllocError> {
         words.need("{");
         for _word in 0..words.left() {
-            if words.has("}") {
+            if !words.goes_on() || words.has("}") {
                 return Ok(());
             }
             let token = words.advance();

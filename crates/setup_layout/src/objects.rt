@@ -94,7 +94,7 @@ impl<'a> Objects<'a> {
         let mut open = Vec::new(words.alloc);
         let mut cover = None;
         for _object in 0..words.left() {
-            if words.is_broken {
+            if !words.goes_on() {
                 return Ok(());
             }
             if words.has("}") {

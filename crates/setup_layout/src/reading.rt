@@ -6,7 +6,7 @@ use crate::layout::{Layout, Reading};
 use crate::names::{SetupNames, names_of};
 use crate::objects::Objects;
 use crate::places::{Places, places_of};
-use crate::scanner::{Scanner, Token, TokenKind};
+use crate::scanner::{Scanner, Spot, Token, TokenKind};
 use crate::slots::Slots;
 use crate::words::Words;
 use cap_core::{Kind, ProfileName};
@@ -50,17 +50,24 @@ impl<'a> Reader<'a> {
                 self.words.skip_block();
             }
             _ => {
-                let hint = self.words.faults.hint(text, &SECTIONS);
-                self.words.faults.say(
-                    spot,
-                    format_args!(
-                        "there is no section {text}; there are objects, caps, cdt, irq maps and asid slots{hint}"
-                    ),
-                );
-                self.words.end();
+                self.say_no_section(spot, text);
             }
         }
         Ok(())
+    }
+
+    /// Says that there is no such section: of the first one, since the words behind it are none either.
+    fn say_no_section(&mut self, spot: Spot, text: &str) {
+        if !self.words.has_failed {
+            let hint = self.words.faults.hint(text, &SECTIONS);
+            self.words.faults.say(
+                spot,
+                format_args!(
+                    "there is no section {text}; there are objects, caps, cdt, irq maps and asid slots{hint}"
+                ),
+            );
+        }
+        self.words.has_failed = true;
     }
 
     /// Reads the profile of the machine that a text names.
@@ -97,7 +104,7 @@ impl<'a> Reader<'a> {
 
     /// Fills the slots of a text that was read to its end. Answers which are derived from which.
     fn finish(&mut self) -> Result<Vec<(usize, usize)>, AllocError> {
-        if self.words.is_broken {
+        if self.words.has_failed {
             return Ok(Vec::new(self.words.alloc));
         }
         self.objects.finish(&mut self.words)?;
@@ -124,6 +131,7 @@ fn layout_of(alloc: Global, text: &str, reading: Reading) -> Result<Layout, Allo
     };
     let arch = reader.read_machine()?;
     for _section in 0..reader.words.left() {
+        reader.words.is_broken = false;
         if reader.words.token.kind == TokenKind::End {
             break;
         }

@@ -293,7 +293,7 @@ impl<'a> Slots<'a> {
         words.need("{");
         let mut holder = None;
         for _slot in 0..words.left() {
-            if words.is_broken {
+            if !words.goes_on() {
                 return Ok(());
             }
             match holder {

@@ -1,4 +1,4 @@
-//! The words of a layout's text as they are read. Where one is not what is needed, that is told, and the text is taken to end there.
+//! The words of a layout's text as they are read. Where one is not what is needed, that is told, and reading goes on at the next `}`.
 use crate::fault::Remarks;
 use crate::scanner::{Scanner, Token, TokenKind};
 use std::alloc::{AllocError, Global};
@@ -42,8 +42,10 @@ pub struct Words<'a> {
     scanner: Scanner<'a>,
     /// The word that is read next.
     pub token: Token<'a>,
-    /// Whether a word was not what is needed.
+    /// Whether a word was not what is needed: no more is read up to the next `}`.
     pub is_broken: bool,
+    /// Whether that was so anywhere.
+    pub has_failed: bool,
     pub faults: Remarks,
     pub notes: Remarks,
 }
@@ -58,6 +60,7 @@ impl<'a> Words<'a> {
             scanner,
             token,
             is_broken: false,
+            has_failed: false,
             faults: Remarks::new(alloc),
             notes: Remarks::new(alloc),
         }
@@ -77,22 +80,29 @@ impl<'a> Words<'a> {
 
     /// Reads a mark or a name, where it is next.
     pub fn has(&mut self, text: &str) -> bool {
-        let has = self.token.is(text);
+        let has = !self.is_broken && self.token.is(text);
         if has {
             self.advance();
         }
         has
     }
 
-    /// Ends the text before the next word.
-    pub fn end(&mut self) {
-        self.is_broken = true;
-        self.scanner.rest = "";
-        self.token.kind = TokenKind::End;
-        self.token.text = "";
+    /// Whether there is more to read: behind a part of the text that is broken, what stands from the next `}` on.
+    pub fn goes_on(&mut self) -> bool {
+        if !self.is_broken {
+            return true;
+        }
+        for _word in 0..self.left() {
+            if self.token.kind == TokenKind::End || self.token.is("}") {
+                break;
+            }
+            self.advance();
+        }
+        self.is_broken = self.token.kind == TokenKind::End;
+        !self.is_broken
     }
 
-    /// Says that this is needed in the place of the next word, and ends the text there.
+    /// Says that this is needed in the place of the next word, and reads no further there.
     pub fn fail(&mut self, wanted: &str) {
         let Token { kind, text, spot } = self.token;
         if !self.is_broken {
@@ -110,7 +120,8 @@ impl<'a> Words<'a> {
                     .say(spot, format_args!("{wanted} is needed, and not {text}")),
             }
         }
-        self.end();
+        self.is_broken = true;
+        self.has_failed = true;
     }
 
     /// Reads a mark that is needed.
@@ -123,11 +134,11 @@ impl<'a> Words<'a> {
     /// Reads a number of at most 64 bits.
     pub fn number(&mut self) -> u64 {
         match self.token.number() {
-            Some(number) => {
+            Some(number) if !self.is_broken => {
                 self.advance();
                 number
             }
-            None => {
+            _ => {
                 self.fail("a number of at most 64 bits");
                 0
             }
@@ -138,7 +149,7 @@ impl<'a> Words<'a> {
     pub fn name(&mut self, wanted: &str) -> Token<'a> {
         let token = self.token;
         match token.kind {
-            TokenKind::Name | TokenKind::Number => self.advance(),
+            TokenKind::Name | TokenKind::Number if !self.is_broken => self.advance(),
             _ => {
                 self.fail(wanted);
                 token
@@ -178,7 +189,7 @@ impl<'a> Words<'a> {
         }
         for _word in 0..self.left() {
             let token = self.token;
-            if token.kind == TokenKind::End {
+            if token.kind == TokenKind::End || inner == 0 && token.is("}") {
                 break;
             }
             self.advance();
@@ -211,6 +222,9 @@ impl<'a> Words<'a> {
     /// Reads over what stands in braces.
     pub fn skip_block(&mut self) {
         self.need("{");
+        if self.is_broken {
+            return;
+        }
         let mut depth = 1usize;
         for _word in 0..self.left() {
             let token = self.advance();

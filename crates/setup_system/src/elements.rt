@@ -37,11 +37,13 @@ impl<'a> Element<'a> {
     }
 }
 
-/// A text that is read up to its first fault.
+/// A text that is read. Behind a fault reading goes on at the next element.
 #[derive(Drop)]
 pub struct Elements<'a> {
     alloc: Global,
     scanner: Scanner<'a>,
+    /// Whether no more is read of the part that begins with the last `<`.
+    is_broken: bool,
     /// The elements that are not closed yet, by their places among the elements.
     open: Vec<usize>,
     /// In the order of the text.
@@ -50,19 +52,19 @@ pub struct Elements<'a> {
 }
 
 impl<'a> Elements<'a> {
-    /// Says what is wrong with a part of the text, and ends it there.
+    /// Says what is wrong with a part of the text, of which no more is read.
     fn fail(&mut self, spot: Spot, words: impl Display + Drop) {
-        if self.faults.told.is_empty() {
+        if !self.is_broken {
             self.faults.say(spot, words);
         }
-        self.scanner.rest = "";
+        self.is_broken = true;
     }
 
     /// Reads a mark, where it is next behind blanks.
     fn has(&mut self, mark: &str) -> bool {
         let (rest, inside) = (self.scanner.rest, self.scanner.rest.trim_ascii_start());
         self.scanner.take(rest.len().saturating_sub(inside.len()));
-        let has = inside.starts_with(mark);
+        let has = !self.is_broken && inside.starts_with(mark);
         if has {
             self.scanner.take(mark.len());
         }
@@ -98,6 +100,9 @@ impl<'a> Elements<'a> {
             self.need(quote);
         }
         let mut spot = self.scanner.spot(0);
+        if self.is_broken {
+            return "";
+        }
         let Some(length) = self.scanner.rest.find(quote) else {
             self.fail(
                 spot,
@@ -166,13 +171,24 @@ impl<'a> Elements<'a> {
             if self.has(">") {
                 return self.add(element, true);
             }
+            if self.is_broken {
+                break;
+            }
             self.attribute(&mut element.attributes)?;
         }
         self.fail(
             spot,
             format_args!("an element has {MOST_ATTRIBUTES} attributes at most"),
         );
-        Ok(())
+        let is_open = self.is_left_open();
+        self.add(element, is_open)
+    }
+
+    /// Whether an element that is broken seems to stand open: up to the next one no end of it is there.
+    fn is_left_open(&self) -> bool {
+        let rest = self.scanner.rest;
+        let (left, _) = rest.split_once('<').unwrap_or((rest, ""));
+        !left.trim_ascii_end().ends_with("/>")
     }
 
     /// Reads the end of an element.
@@ -188,7 +204,21 @@ impl<'a> Elements<'a> {
         if opened != name {
             let told = format_args!("the open element is {opened}, of line {line}, and not {name}");
             self.fail(spot, told);
+            self.close_up_to(name);
         }
+    }
+
+    /// Closes the open elements up to one of this name, if there is one: those in it have lost their ends.
+    fn close_up_to(&mut self, name: &str) {
+        let mut depth = self.open.len();
+        for (place, number) in self.open.iter().enumerate() {
+            if let Some(element) = self.list.get(*number) {
+                if element.name == name {
+                    depth = place;
+                }
+            }
+        }
+        self.open.truncate(depth);
     }
 
     /// Passes over a part of the text up to its end.
@@ -199,7 +229,10 @@ impl<'a> Elements<'a> {
             Some(length) => {
                 self.scanner.take(length.saturating_add(end.len()));
             }
-            None => self.fail(spot, format_args!("this has no end; write {end} behind it")),
+            None => {
+                self.fail(spot, format_args!("this has no end; write {end} behind it"));
+                self.scanner.rest = "";
+            }
         }
     }
 
@@ -215,6 +248,7 @@ impl<'a> Elements<'a> {
         } else if rest.starts_with("<!") {
             let spot = self.scanner.spot(2);
             self.fail(spot, "behind <! only comments are read, as <!-- this -->");
+            self.scanner.take(2);
         } else {
             return self.element();
         }
@@ -226,6 +260,7 @@ impl<'a> Elements<'a> {
         let mut elements = Elements {
             alloc,
             scanner: Scanner::new(text),
+            is_broken: false,
             open: Vec::new(alloc),
             list: Vec::new(alloc),
             faults: Remarks::new(alloc),
@@ -236,11 +271,17 @@ impl<'a> Elements<'a> {
             if elements.scanner.rest.is_empty() {
                 break;
             }
+            elements.is_broken = false;
             elements.part()?;
         }
         let last = elements.open.last().copied();
-        if let Some(element) = elements.list.get(last.unwrap_or(elements.list.len())) {
+        let is_read = elements.faults.told.is_empty();
+        if let (true, Some(element)) = (
+            is_read,
+            elements.list.get(last.unwrap_or(elements.list.len())),
+        ) {
             let (name, spot) = (element.name, element.spot);
+            elements.is_broken = false;
             elements.fail(spot, format_args!("{name} is not closed; write </{name}>"));
         }
         Ok(elements)
