@@ -1,4 +1,5 @@
 //! Which capability of a layout is derived from which.
+use crate::hardware::does_cover;
 use crate::layout::{Object, Slot};
 use crate::objects::{Found, Objects};
 use crate::scanner::{Spot, Token};
@@ -103,6 +104,17 @@ fn slot_of<'a>(
     found
 }
 
+/// Whether the object of one slot lies in the untyped region of another one: what is made of a region is derived from its capability
+/// without a word.
+fn is_in_region(objects: &[Object], slots: &[Slot], above: usize, below: usize) -> bool {
+    match (slots.get(above), slots.get(below)) {
+        (Some(above), Some(below)) => {
+            above.object != below.object && does_cover(objects, above.object, below.object)
+        }
+        _ => false,
+    }
+}
+
 impl<'a> Tree<'a> {
     /// No derivation is read yet.
     pub fn new(alloc: Global) -> Tree<'a> {
@@ -174,8 +186,11 @@ impl<'a> Tree<'a> {
             };
             found.push(below)?;
             if let (Some(above), Some(below)) = (above, below) {
-                let at = node.name.name.spot;
-                self.pairs.push(Pair { above, below, at })?;
+                let (all, filled) = (objects.objects.as_slice(), slots.slots.as_slice());
+                if !is_in_region(all, filled, above, below) {
+                    let at = node.name.name.spot;
+                    self.pairs.push(Pair { above, below, at })?;
+                }
             }
         }
         Ok(())

@@ -221,7 +221,7 @@ fn say_overlap(words: &mut Words<'_>, objects: &[Object], object: usize, other: 
 }
 
 /// Whether an untyped region covers an object, or covers another one that does.
-fn does_cover(objects: &[Object], region: usize, object: usize) -> bool {
+pub fn does_cover(objects: &[Object], region: usize, object: usize) -> bool {
     let mut inner = object;
     for _level in 0..MOST_LEVELS {
         if inner == region {
