@@ -83,7 +83,7 @@ LINES = [
     ("tree", "set_up.toml"), ("tree --after 1 --dot --names", "set_up.toml"),
     ("new", ""), ("new --profile narrow --threads 3 --endpoints 2 --untyped 16384:12", ""),
     ("import", "layout.cdl"), ("import --shrink 12 --flows", "layout.cdl"), ("import --listing", "layout.cdl"),
-    ("import --rights least", "layout.cdl"),
+    ("import --rights least", "layout.cdl"), ("import --strict", "layout.cdl"),
     ("help", ""), ("help why", ""),
 ]
 # These write a row of each file, also of one that cannot be read.

@@ -320,6 +320,82 @@ def spellings_of(program, folder):
             yield f"copies.cdl with {new!r}: {made.returncode} {made.stdout[:40]!r} {made.stderr[:200]!r}"
 
 
+# A layout that is whole with `--flows`; and what is left out of it or assumed if a line of it is another one: the line, the words.
+WHOLE = """arch aarch64
+objects {
+one = tcb
+two = tcb
+cn_one = cnode (3 bits)
+cn_two = cnode (3 bits)
+door = ep
+bell = notification
+page = frame (4k)
+table = pt
+}
+caps {
+cn_one { 1: door (RW)
+2: bell (W, badge: 4)
+}
+cn_two { 1: door (W, badge: 3)
+2: bell (R)
+}
+table { 0: page (RW) }
+one { cspace: cn_one (guard: 0, guard_size: 61)
+vspace: table }
+two { cspace: cn_two (guard: 0, guard_size: 61) }
+}
+"""
+GAPS = [
+    ("2: bell (W, badge: 4)", "2: bell (badge: 4)", 14, "bell: no rights are given, so the capability has all"),
+    ("door (W, badge: 3)", "door (badge: 3)", 16, "door: no rights are given, so the capability has all"),
+    ("2: bell (R)", "2: irq_control", 17, "slot 2 of cn_two: irq_control is left out"),
+    ("page (RW)", "page (RW, tinted: 1)", 19, "the parameter tinted of this capability of page is left out"),
+    ("page = frame (4k)", "page = frame (4k) { more = ep }", 9, "what stands in braces behind page is left out"),
+    ("page = frame (4k)", "page = frame (4k, place: 4096)", 9, "the parameter place of page is left out"),
+    ("table = pt\n", "table = pt\nsoft = sgi_signal (irq: 7, target: 0)\n", 11, "irq maps has no interrupt 7, which soft signals"),
+    ("size: 61) }\n}\n", "size: 61) }\n}\ncdt { (cn_one, 1) { (cn_two, 1) } }\n", 24, "--flows leaves out which slot is derived from which"),
+]
+
+
+def strict_of(program, folder):
+    """Yields which layouts are taken strictly that have gaps, or refused that have none."""
+    def lines_of(made, kind):
+        return [int(it) for it in re.findall(rf":(\d+):\d+: {kind}: ", made.stderr)]
+
+    for words in (["--flows"], ["--flows", "--listing"]):
+        taken, strict = [run(program, ["import", *words, *more, "-"], WHOLE) for more in ([], ["--strict"])]
+        if strict.returncode or strict.stdout != taken.stdout or "error" in strict.stderr:
+            yield f"whole layout with {words}: {strict.returncode} {strict.stderr[:200]!r}"
+    plain = run(program, ["import", "--strict", "-"], WHOLE)
+    if plain.returncode != 2 or plain.stdout != "layout refused at 8\n" or lines_of(plain, "error") != [8, 9, 10]:
+        yield f"whole layout without --flows: {plain.returncode} {plain.stdout!r} {plain.stderr[:300]!r}"
+    for old, new, line, said in GAPS:
+        taken, strict = [run(program, ["import", "--flows", *more, "-"], WHOLE.replace(old, new)) for more in ([], ["--strict"])]
+        if taken.returncode or f":{line}:" not in taken.stderr or f"warning: {said}\n" not in taken.stderr or f"# line {line}: {said}\n" not in taken.stdout:
+            yield f"whole layout with {new!r}: {taken.returncode} {taken.stderr[:200]!r}"
+        if strict.returncode != 2 or strict.stdout != f"layout refused at {line}\n" or lines_of(strict, "error") != [line] or f"error: {said}\n" not in strict.stderr:
+            yield f"whole layout with {new!r}, strictly: {strict.returncode} {strict.stdout[:50]!r} {strict.stderr[:200]!r}"
+    text = (folder / "hello.system").read_text()
+    for words, new, line in (([], text, 3), (LEAST, text, 0), (["--rights", "all"], text, 0), (LEAST, text.replace('<irq irq="33"', '<irq irg="1" irq="33"'), 11),
+                             (LEAST, text.replace("    <channel>\n", "    <chanel />\n    <channel>\n", 1), 22)):
+        made = run(program, ["import", "--flows", "--strict", *words, "-"], new)
+        if made.returncode != (2 if line else 0) or line and (made.stdout != f"layout refused at {line}\n" or lines_of(made, "error") != [line]):
+            yield f"hello.system, strictly with {words}: {made.returncode} {made.stdout[:50]!r} {made.stderr[:200]!r}"
+    alone = run(program, ["import", "-"], "arch aarch64\nobjects {\na = tcb\nb = tcb\nc = tcb\n}\ncaps {\n}\n")
+    if alone.returncode or not re.fullmatch("[^\n]*:3:1: warning: a has no cspace: it can make no call; and 2 more such\n", alone.stderr):
+        yield f"three threads without a space: {alone.returncode} {alone.stderr!r}"
+
+
+def domains_of(program):
+    """Yields what is wrong with the most domains that a system has, and with one more."""
+    domains = [f'<protection_domain name="d{i}" priority="9">\n</protection_domain>\n' for i in range(64)]
+    made, more = [run(program, ["import", "--listing", "-"], f"<system>\n{''.join(domains[:count])}</system>\n") for count in (63, 64)]
+    if made.returncode or "\nd62_tcb.cspace cnode d62_cnode radix 8 guard 0 size 56\n" not in made.stdout:
+        yield f"63 domains: {made.returncode} {made.stderr[:200]!r}"
+    if more.returncode != 2 or more.stdout != "layout refused at 128\n" or "a system has 63 protection domains at most" not in more.stderr:
+        yield f"64 domains: {more.returncode} {more.stdout[:50]!r} {more.stderr[:200]!r}"
+
+
 def faults_of(program, folder):
     """Yields which layouts of a folder are not imported, or not refused at their lines."""
     for path in sorted(folder.glob("*.cdl")):
@@ -353,7 +429,9 @@ def faults_of_systems(program, folder):
                 yield f"{path.name}: status {made.returncode}, or not the set-up of its layout, with {flows}"
             if "Microkit's tool is assumed" not in made.stderr:
                 yield f"{path.name}: nothing is assumed, with {flows}"
-    told = run(program, ["import", str(folder / "hello.system")], "").stdout
+    told, marked = [run(program, ["import", "-"], mark + (folder / "hello.system").read_text()).stdout for mark in ("", "\ufeff")]
+    if told != marked:
+        yield "hello.system: it is another one behind a byte order mark"
     for said in ("\n# 27: hello_cnode[75] ", "\n# 7: serial_cnode[2] ", "\n# 3: monitor_cnode[1] "):
         if said not in told:
             yield f"hello.system: no call with {said!r}"
@@ -387,7 +465,7 @@ def main(program, folder, seed, count):
     folder = pathlib.Path(folder)
     wrong = [*faults_of(program, folder), *names_of(program, folder / "names"),
              *shared_of(program, folder / "hardware"), *spellings_of(program, folder / "spellings"), *losses_of(program, folder), *shares_of(program, seed, int(count) // 10),
-             *flows_of(program, folder), *faults_of_systems(program, folder)]
+             *flows_of(program, folder), *faults_of_systems(program, folder), *strict_of(program, folder), *domains_of(program)]
     changed = unseen = 0
     for number in range(int(count)):
         text, *said = layout(f"{seed} {number}")

@@ -72,7 +72,7 @@ _sel4sim() {
             COMPREPLY=($(compgen -W '--profile --threads --endpoints --untyped -h --help' -- "$word"))
             ;;
         import)
-            COMPREPLY=($(compgen -W '--shrink --listing --flows --rights -h --help' -- "$word"))
+            COMPREPLY=($(compgen -W '--shrink --listing --flows --rights --strict -h --help' -- "$word"))
             [[ $word == -* ]] || mapfile -t -O "${#COMPREPLY[@]}" COMPREPLY < <(compgen -f -- "$word")
             ;;
         help)

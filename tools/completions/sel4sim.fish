@@ -73,6 +73,7 @@ complete -c sel4sim -n '__fish_seen_subcommand_from import' -l shrink -x -a '' -
 complete -c sel4sim -n '__fish_seen_subcommand_from import' -l listing -d 'Print what was read of the layout'
 complete -c sel4sim -n '__fish_seen_subcommand_from import' -l flows -d 'Count each object that a set-up lacks, each answer and each Grant'
 complete -c sel4sim -n '__fish_seen_subcommand_from import' -l rights -x -a '' -d 'Take these where a .system file says no rights: all, or least'
+complete -c sel4sim -n '__fish_seen_subcommand_from import' -l strict -d 'Refuse a layout if what may carry authority is left out of it or assumed'
 complete -c sel4sim -n '__fish_seen_subcommand_from import' -s h -l help -d 'Print help'
 complete -c sel4sim -n '__fish_seen_subcommand_from import' -F
 complete -c sel4sim -n '__fish_use_subcommand' -a help -d 'Print this message or the help of the given subcommand(s)'

@@ -1,8 +1,9 @@
 -- How a layout is read, as it is asked for.
-use Rattle.std.specs.Prelude.{◌≡◌, ◌+◌, ◌^◌, ◌&&◌, ◌||◌, ℕ, Bool, true, not, nat_lt, List, Option, Some, None}
+use Rattle.std.specs.Prelude.{◌≡◌, ◌+◌, ◌^◌, ◌==◌, ◌&&◌, ◌||◌, ℕ, Bool, true, not, nat_lt, List, length, Option, Some, None}
 use Rattle.std.specs.List.{list_all, list_any}
 use Rattle.cap_core.specs.declared.capability.Kind.{Kind}
 use Rattle.cap_core.specs.declared.capability.Kind.TheVariants.{Untyped, Endpoint, CNode, Tcb}
+use Rattle.setup_layout.specs.declared.fault.Remarks.{Remarks}
 use Rattle.setup_layout.specs.declared.layout.Layout.{Layout}
 use Rattle.setup_layout.specs.declared.layout.Object.{Object}
 use Rattle.setup_layout.specs.declared.layout.Reading.{Reading}
@@ -23,7 +24,13 @@ abbrev pub are_cut : Option ℕ → List Object → Bool
 are_cut None objects = true
 are_cut (Some most) objects = list_all (λ (o : Object). is_cut o.kind most objects o) objects
 
--- a layout is read as it is asked for: each object counts or not, and regions are cut
+-- nothing is said, and no more is counted
+abbrev pub are_none : Remarks → Bool
+are_none remarks = length remarks.told.items == 0 && remarks.more == 0
+
+-- a layout is read as it is asked for: each object counts or not, and regions are cut; strictly, nothing that may carry authority was
+-- left out or assumed
 pub record IsReadAs (reading : Reading) (layout : Layout) : Type 0 where
   pub flows : layout.flows ≡ reading.flows
   pub cut : are_cut reading.shrink layout.objects.items ≡ true
+  pub gaps : (not reading.strict || are_none layout.gaps) ≡ true

@@ -5,7 +5,7 @@ ghost use Rattle.command_import.specs.Asked as spec;
 
 use crate::laid_out::is_same;
 use cap_core::Kind;
-use setup_layout::{Layout, Object, Reading};
+use setup_layout::{Layout, Object, Reading, Remarks};
 
 /// Whether an object stands in a region, and is another one.
 fn covers(region: &Object, other: &Object) -> bool
@@ -53,9 +53,19 @@ fn are_cut(shrink: Option<u64>, objects: &[Object]) -> bool
     }
 }
 
-/// Whether a layout was read as it is asked for: each object counts in it or not, and its regions are cut.
+/// Whether nothing is said, and no more is counted.
+fn are_none(remarks: &Remarks) -> bool
+    ensures { result ≡ spec.are_none remarks.now }
+{
+    remarks.told.as_slice().is_empty() && remarks.more == 0
+}
+
+/// Whether a layout was read as it is asked for: each object counts in it or not, and its regions are cut; strictly, nothing that may
+/// carry authority was left out or assumed.
 pub fn is_read_as(reading: Reading, layout: &Layout) -> bool
     ensures { IsTrue result → spec.IsReadAs reading layout.now }
 {
-    layout.flows == reading.flows && are_cut(reading.shrink, layout.objects.as_slice())
+    layout.flows == reading.flows
+        && are_cut(reading.shrink, layout.objects.as_slice())
+        && (!reading.strict || are_none(&layout.gaps))
 }

@@ -9,7 +9,7 @@ use std::fmt::Write;
 /// Adds what is said of the layout, as comments.
 fn add_notes(out: &mut String, notes: &Remarks) -> Result<(), AllocError> {
     for remark in notes.told.as_slice() {
-        writeln!(out, "# line {}: {}", remark.spot.line, remark.words)?;
+        writeln!(out, "# line {}: {remark}", remark.spot.line)?;
     }
     if notes.more > 0 {
         writeln!(out, "# and {} more", notes.more)?;
@@ -67,6 +67,7 @@ pub fn setup_text(alloc: Global, read: &ReadLayout, places: &Places) -> Result<S
         &mut out,
         "#\n# The layout has {objects} objects. The first {count} calls are the loader's, which makes it: above stands what its slots hold then."
     )?;
+    add_notes(&mut out, &layout.gaps)?;
     add_notes(&mut out, &layout.notes)?;
     add_whole_names(&mut out, layout, read.names.list.as_slice())?;
     add_sizes(&mut out, layout.profile, places)?;

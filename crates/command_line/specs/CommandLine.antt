@@ -123,7 +123,7 @@ subcommands =
     ∷ subcommand_with (codes "explore") One (first_rule ∷ states_rule ∷ text_rule (codes "witness") ∷ flag_rule (codes "ends") ∷ names_rule ∷ [])
     ∷ subcommand_with (codes "tree") One (after_rule ∷ flag_rule (codes "dot") ∷ names_rule ∷ [])
     ∷ subcommand_with (codes "new") Zero (text_rule (codes "profile") ∷ number_rule (codes "threads") ∷ number_rule (codes "endpoints") ∷ text_rule (codes "untyped") ∷ [])
-    ∷ subcommand_with (codes "import") One (number_rule (codes "shrink") ∷ flag_rule (codes "listing") ∷ flag_rule (codes "flows") ∷ text_rule (codes "rights") ∷ [])
+    ∷ subcommand_with (codes "import") One (number_rule (codes "shrink") ∷ flag_rule (codes "listing") ∷ flag_rule (codes "flows") ∷ text_rule (codes "rights") ∷ flag_rule (codes "strict") ∷ [])
     ∷ []
 
 -- `sel4sim`, with all its subcommands

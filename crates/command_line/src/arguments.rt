@@ -35,7 +35,8 @@ pub enum Job {
 /// What the options of a command line give; `None` where an option is not there.
 #[derive(Clone, Copy, Default, Drop)]
 pub struct Options<'a> {
-    /// Whether `--strict` of `check` is there: a call that is refused and of which nothing is expected counts as not met.
+    /// Whether `--strict` is there: of `check`, a call that is refused and of which nothing is expected counts as not met; of `import`, a
+    /// layout is refused if what may carry authority is left out of it or assumed.
     pub strict: bool,
     /// `--call` of `why`: the call that is told of, from 1.
     pub call: Option<u64>,

@@ -106,5 +106,6 @@ pub const COMMANDS: [CommandRow; 12] = [
         OptionRow("listing", Nothing, "Print what was read of the layout"),
         OptionRow("flows", Nothing, "Count each object that a set-up lacks, each answer and each Grant"),
         OptionRow("rights", Text("RIGHTS"), "Take these where a .system file says no rights: all, or least [default: all]"),
+        OptionRow("strict", Nothing, "Refuse a layout if what may carry authority is left out of it or assumed"),
     ] },
 ];

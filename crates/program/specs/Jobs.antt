@@ -166,4 +166,4 @@ meaning Tree options policy = IsAnswerTo (IsStateAnswer (IsTree (form_of options
 meaning New options policy = λ input text verdict. IsNewOf options text verdict
 meaning Marks options policy = IsAnswerTo IsMarks
 meaning Record options policy = IsAnswerTo IsRecord
-meaning Import options policy = λ input text verdict. IsImported (record { shrink = options.shrink; flows = options.flows; all_rights = not (takes_least options) }) options.listing text verdict
+meaning Import options policy = λ input text verdict. IsImported (record { shrink = options.shrink; flows = options.flows; all_rights = not (takes_least options); are_rights_asked = is_some options.rights; strict = options.strict }) options.listing text verdict

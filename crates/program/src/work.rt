@@ -428,12 +428,15 @@ impl Engine for Work<'_> {
                     shrink,
                     listing,
                     flows,
+                    strict,
                     ..
                 } = options;
                 let reading = Reading {
                     shrink,
                     flows,
                     all_rights: !options.takes_least(),
+                    are_rights_asked: options.rights.is_some(),
+                    strict,
                 };
                 Importer { reading, listing }.make(alloc, input)
             }

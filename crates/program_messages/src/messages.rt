@@ -235,11 +235,19 @@ fn note_on_layout<R: Eprint + AllocGlobal>(
     verdict: Verdict,
     bytes: &[u8],
 ) {
-    let (Options { shrink, flows, .. }, name) = (line.options, name_of(line.file));
+    let (options, name) = (line.options, name_of(line.file));
+    let Options {
+        shrink,
+        flows,
+        strict,
+        ..
+    } = options;
     let reading = Reading {
         shrink,
         flows,
-        all_rights: !line.options.takes_least(),
+        all_rights: !options.takes_least(),
+        are_rights_asked: options.rights.is_some(),
+        strict,
     };
     if let Ok(words) = layout_words(rt.alloc(), bytes, reading, name) {
         let is_refused = matches!(verdict, Verdict::Refused);

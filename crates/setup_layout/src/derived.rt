@@ -286,6 +286,11 @@ impl<'a> Tree<'a> {
     ) -> Result<Vec<(usize, usize)>, AllocError> {
         let all = slots.slots.as_slice();
         self.find_pairs(words, objects, slots)?;
+        let flows = objects.reading.flows;
+        if let (true, Some(pair)) = (flows, self.pairs.first()) {
+            let told = "--flows leaves out which slot is derived from which";
+            words.gaps.say(pair.at, told);
+        }
         self.parents = vec![in words.alloc; None; all.len()]?;
         self.originals = vec![in words.alloc; None; objects.objects.len()]?;
         self.find_parents(words, all);
@@ -305,8 +310,8 @@ impl<'a> Tree<'a> {
                 );
             } else if self.is_kept(*pair, above, below) {
                 kept.push((pair.above, pair.below))?;
-            } else {
-                words.notes.say(
+            } else if !flows {
+                words.gaps.say(
                     pair.at,
                     format_args!(
                         "no kernel has this below the slot of line {line}: it is derived from the loader's capability, beside that slot"

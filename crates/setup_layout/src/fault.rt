@@ -2,7 +2,7 @@
 use crate::scanner::Spot;
 use setup_positions::NamedText;
 use std::alloc::{AllocError, Global};
-use std::fmt::{Display, Write};
+use std::fmt::{self, Display, Write};
 use strsim::osa_distance;
 
 /// The most faults, and the most notes, that are told.
@@ -14,12 +14,41 @@ const MAX_EDITS: usize = 2;
 /// The most bytes of a name for which one is looked for that looks like it.
 const MAX_LENGTH: usize = 60;
 
+/// What remarks are about, of which the first one is told, and counts the others.
+#[derive(Clone, Copy, PartialEq, Eq)]
+pub enum Topic {
+    /// A thread has no space.
+    NoSpace,
+    /// A capability has `G`.
+    HandsOver,
+    /// An untyped region is cut.
+    Cut,
+    /// An object that is left out lies in an untyped region.
+    Covered,
+    /// A parameter of what is left out is not known.
+    Parameter,
+}
+
 /// What is said of a part of the text.
 #[derive(Drop)]
 pub struct Remark {
     pub spot: Spot,
     /// The words.
     pub words: String,
+    /// What it is about, where it stands for all remarks on that.
+    topic: Option<Topic>,
+    /// For how many others it stands.
+    others: usize,
+}
+
+impl Display for Remark {
+    fn fmt<W: Write>(&self, f: &mut fmt::Formatter<W>) -> fmt::Result {
+        f.write_str(self.words.as_str())?;
+        match self.others {
+            0 => Ok(()),
+            others => write!(f, "; and {others} more such"),
+        }
+    }
 }
 
 /// What is said of the parts of a text, in the order in which it was found: so many remarks at the most, and how many more.
@@ -50,14 +79,42 @@ impl Remarks {
 
     /// Says something of a part of the text.
     pub fn say(&mut self, spot: Spot, words: impl Display + Drop) {
+        self.add(spot, None, 0, words);
+    }
+
+    /// Says something on a topic; where something is said on it already, that counts this one.
+    pub fn say_on(&mut self, topic: Topic, spot: Spot, words: impl Display + Drop) {
+        for remark in self.told.iter_mut() {
+            if remark.topic == Some(topic) {
+                remark.others = remark.others.saturating_add(1);
+                return;
+            }
+        }
+        self.add(spot, Some(topic), 0, words);
+    }
+
+    /// Says the same as another remark, of a part of this text.
+    pub fn say_again(&mut self, spot: Spot, remark: &Remark) {
+        self.add(spot, remark.topic, remark.others, remark.words.as_str());
+    }
+
+    /// Adds a remark.
+    fn add(&mut self, spot: Spot, topic: Option<Topic>, others: usize, words: impl Display + Drop) {
         if self.is_full() {
             self.more = self.more.saturating_add(1);
             return;
         }
-        match words.to_string(self.alloc) {
-            Ok(words) => self.is_refused |= self.told.push(Remark { spot, words }).is_err(),
-            Err(_) => self.is_refused = true,
-        }
+        let Ok(words) = words.to_string(self.alloc) else {
+            self.is_refused = true;
+            return;
+        };
+        let remark = Remark {
+            spot,
+            words,
+            topic,
+            others,
+        };
+        self.is_refused |= self.told.push(remark).is_err();
     }
 
     /// Adds the remarks, each with the line of the text where it stands. `name` is the file's.
@@ -66,14 +123,35 @@ impl Remarks {
             let Spot { start, length, .. } = remark.spot;
             let span = start..start.saturating_add(length);
             let excerpt = NamedText { name, text }.excerpt(span);
-            let words = remark.words.as_str();
-            writeln!(out, "{words}\n{excerpt}")?;
+            writeln!(out, "{remark}\n{excerpt}")?;
         }
-        if self.more > 0 {
-            let more = self.more;
-            writeln!(out, "{more} more")?;
+        self.add_more_to(out)
+    }
+
+    /// Adds the remarks, each with its place in the text alone. `name` is the file's.
+    pub fn add_places_to(
+        &self,
+        out: &mut String,
+        name: &str,
+        text: &str,
+    ) -> Result<(), AllocError> {
+        for remark in self.told.as_slice() {
+            let Spot { start, length, .. } = remark.spot;
+            let span = start..start.saturating_add(length);
+            let excerpt = NamedText { name, text }.excerpt(span);
+            let shown = format!(in self.alloc; "{excerpt}")?;
+            let place = shown.as_str().lines().next().unwrap_or("");
+            writeln!(out, "{remark}\n{place}")?;
         }
-        Ok(())
+        self.add_more_to(out)
+    }
+
+    /// Adds how many remarks there are beyond those that are told.
+    fn add_more_to(&self, out: &mut String) -> Result<(), AllocError> {
+        match self.more {
+            0 => Ok(()),
+            more => writeln!(out, "{more} more"),
+        }
     }
 
     /// The question whether the one of these names was meant that looks most like what was found; nothing where none does.

@@ -53,22 +53,29 @@ impl Device {
         }
     }
 
-    /// Reads what a parameter of an object says of it.
-    pub fn read(&mut self, parameter: &Parameter<'_>) {
+    /// Reads what a parameter of an object says of it. Answers whether it says anything.
+    pub fn read(&mut self, parameter: &Parameter<'_>) -> bool {
         let [first, second, _, from, _, to, _, _] = parameter.words;
+        let (address, interrupt) = (parameter.number("paddr"), parameter.number("irq"));
+        let mut is_read = address.is_some() || interrupt.is_some();
         if parameter.count == 1 || parameter.count == 2 && second.is("bytes") {
-            self.bytes = bytes_of(first.text).unwrap_or(self.bytes);
+            let bytes = bytes_of(first.text);
+            is_read |= bytes.is_some();
+            self.bytes = bytes.unwrap_or(self.bytes);
         }
         if parameter.count == 2 && second.is("bits") {
             self.bits = first.number();
+            is_read |= self.bits.is_some();
         }
         if parameter.count == 7 && first.is("ports") {
             if let (Some(from), Some(to)) = (from.number(), to.number()) {
                 self.ports = Some((from, to));
+                is_read = true;
             }
         }
-        self.address = parameter.number("paddr").or(self.address);
-        self.interrupt = parameter.number("irq").or(self.interrupt);
+        self.address = address.or(self.address);
+        self.interrupt = interrupt.or(self.interrupt);
+        is_read
     }
 
     /// How many bytes the object has.

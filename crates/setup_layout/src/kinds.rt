@@ -14,6 +14,26 @@ pub const KIND_WORDS: [&str; 43] = [
 /// The kinds of object that a kernel has.
 pub const KINDS: [Kind; 4] = [Kind::CNode, Kind::Tcb, Kind::Endpoint, Kind::Untyped];
 
+/// The kinds of object whose capabilities have rights, and those of which one is an interrupt.
+pub const RIGHTS_WORDS: [&str; 6] = [
+    "ep",
+    "notification",
+    "aep",
+    "frame",
+    "large_page",
+    "small_page",
+];
+
+#[rattlefmt::skip]
+pub const INTERRUPT_WORDS: [&str; 6] = ["irq", "arm_irq", "ioapic_irq", "msi_irq", "riscv_irq", "irq_slot"];
+
+/// The kinds of object of which a parameter may say where in the hardware one stands, and the parameters that do not.
+#[rattlefmt::skip]
+pub const HARDWARE_WORDS: [&str; 7] = ["frame", "large_page", "small_page", "ut", "io_ports", "sgi_signal", "arm_sgi"];
+
+#[rattlefmt::skip]
+pub const SAY_NO_PLACE: [&str; 4] = ["fill", "cached", "uncached", "target"];
+
 /// The objects that a layout need not declare, and that a set-up leaves out.
 #[rattlefmt::skip]
 pub const BUILT_IN: [&str; 7] = [

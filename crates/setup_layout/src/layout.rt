@@ -50,9 +50,13 @@ pub struct Reading {
     pub flows: bool,
     /// Whether a capability has all rights where a `.system` file says nothing of them; else it has the least.
     pub all_rights: bool,
+    /// Whether it is asked for that these are taken; else they are assumed.
+    pub are_rights_asked: bool,
+    /// Whether a layout is refused of which anything that may carry authority is left out or assumed.
+    pub strict: bool,
 }
 
-/// What is read of a text: what is left out of it is in the notes.
+/// What is read of a text: what is left out of it is in the gaps and in the notes.
 #[derive(Drop)]
 pub struct Layout {
     /// The machine.
@@ -65,7 +69,9 @@ pub struct Layout {
     pub derived: Vec<(usize, usize)>,
     /// What is wrong with it.
     pub faults: Remarks,
-    /// What is left out of it, and what is to be known of it.
+    /// What may carry authority, and is left out of it or assumed.
+    pub gaps: Remarks,
+    /// What else is left out of it, and what is to be known of it.
     pub notes: Remarks,
     /// Where the text names the machine.
     pub spot: Spot,

@@ -1,6 +1,9 @@
 //! The objects that a layout declares.
+use crate::fault::Topic;
 use crate::hardware::{Device, Hardware};
-use crate::kinds::{KIND_WORDS, KINDS, place_of};
+use crate::kinds::{
+    HARDWARE_WORDS, INTERRUPT_WORDS, KIND_WORDS, KINDS, RIGHTS_WORDS, SAY_NO_PLACE, place_of,
+};
 use crate::layout::{OTHER_BITS, Object, Reading};
 use crate::scanner::{Spot, Token};
 use crate::words::{Reference, Words};
@@ -143,7 +146,9 @@ impl<'a> Objects<'a> {
             if parameter.count == 2 && second.is("bits") {
                 declared.bits = first.number();
             }
-            declared.device.read(parameter);
+            if !declared.device.read(parameter) {
+                self.say_unknown_parameter(words, declared, first);
+            }
             if parameter.count == 3 && first.is("resume") {
                 declared.is_inactive = third.is("false") || third.is("False") || third.is("0");
             }
@@ -155,9 +160,32 @@ impl<'a> Objects<'a> {
             return Ok(words.has("{"));
         }
         if words.token.is("{") {
+            let name = object.name.text;
+            let told = format_args!("what stands in braces behind {name} is left out");
+            words.gaps.say(words.token.spot, told);
             words.skip_block();
         }
         Ok(false)
+    }
+
+    /// Says that a parameter is not known that may say where in the hardware an object stands.
+    fn say_unknown_parameter(
+        &self,
+        words: &mut Words<'a>,
+        declared: Declared<'a>,
+        parameter: Token<'a>,
+    ) {
+        let (name, kind, text) = (declared.name.text, declared.kind.text, parameter.text);
+        if !HARDWARE_WORDS.contains(&kind) || SAY_NO_PLACE.contains(&text) {
+            return;
+        }
+        if self.reading.flows || kind == "ut" {
+            let told = format_args!("the parameter {text} of {name} is left out");
+            words.gaps.say(parameter.spot, told);
+        } else {
+            let told = format_args!("the parameter {text} of {name} is not known");
+            words.notes.say_on(Topic::Parameter, parameter.spot, told);
+        }
     }
 
     /// Adds the objects of one place of the text.
@@ -192,7 +220,7 @@ impl<'a> Objects<'a> {
                         let told = format_args!(
                             "{name}, which an untyped region covers, is left out"
                         );
-                        words.notes.say(at, told);
+                        words.notes.say_on(Topic::Covered, at, told);
                     }
                 }
             },
@@ -274,6 +302,20 @@ impl<'a> Objects<'a> {
         }
     }
 
+    /// The word for the kind of the objects of a name; none where it is not declared.
+    fn kind_of(&self, object: Reference<'a>) -> &'a str {
+        match self.declared_as(object.name.text) {
+            Some(declared) => declared.kind.text,
+            None => "",
+        }
+    }
+
+    /// Whether a capability of an object has rights that are to be said: not one by which an interrupt signals.
+    pub fn needs_rights(&self, object: Reference<'a>, holder: Reference<'a>) -> bool {
+        RIGHTS_WORDS.contains(&self.kind_of(object))
+            && !INTERRUPT_WORDS.contains(&self.kind_of(holder))
+    }
+
     /// What is declared by a name.
     pub fn declared_as(&self, name: &str) -> Option<&Declared<'a>> {
         let number = self.numbers.get(name)?;
@@ -332,15 +374,26 @@ impl<'a> Objects<'a> {
             let Some((signal, interrupt)) = self.hardware.signals.get(number).copied() else {
                 continue;
             };
-            if let Some(object) = self.hardware.interrupts.get(&interrupt).copied() {
-                match self.find(object) {
-                    Found::Kept(object) => self.hardware.join(signal, object)?,
-                    Found::LeftOut(_) => {}
-                    Found::Unknown => self.say_unknown(words, object),
-                }
+            let Some(object) = self.hardware.interrupts.get(&interrupt).copied() else {
+                self.say_no_interrupt(words, signal, interrupt);
+                continue;
+            };
+            match self.find(object) {
+                Found::Kept(object) => self.hardware.join(signal, object)?,
+                Found::LeftOut(_) => {}
+                Found::Unknown => self.say_unknown(words, object),
             }
         }
         self.hardware.join_spans(words, self.objects.as_slice())
+    }
+
+    /// Says that `irq maps` has no interrupt of the number that a software interrupt has.
+    fn say_no_interrupt(&self, words: &mut Words<'a>, signal: usize, interrupt: u64) {
+        if let Some(object) = self.objects.get(signal) {
+            let name = object.name.as_str();
+            let told = format_args!("irq maps has no interrupt {interrupt}, which {name} signals");
+            words.gaps.say(object.spot, told);
+        }
     }
 
     /// Checks the sizes of CNodes and untyped regions.
@@ -390,7 +443,7 @@ impl<'a> Objects<'a> {
                 if !is_cover && object.kind == Kind::Untyped && u64::from(bits) > most {
                     object.bits = most.min(64) as u32;
                     let told = format_args!("{text}: {most} bits in place of {bits}");
-                    words.notes.say(spot, told);
+                    words.notes.say_on(Topic::Cut, spot, told);
                 }
             }
         }
@@ -410,7 +463,7 @@ impl<'a> Objects<'a> {
                 let told = format_args!(
                     "{objects} of the kind {kind} left out, with {caps} capabilities of them"
                 );
-                words.notes.say(spot, told);
+                words.gaps.say(spot, told);
             }
         }
     }

@@ -1,5 +1,6 @@
 //! The reading of a layout.
 use crate::derived::Tree;
+use crate::fault::Topic;
 use crate::flows::add_flows;
 use crate::kinds::{ARCHES, NARROW_ARCHES, place_of};
 use crate::layout::{Layout, Reading};
@@ -97,7 +98,7 @@ impl<'a> Reader<'a> {
             if object.kind == Kind::Tcb && !self.slots.places.contains_key(&(number, 0)) {
                 let name = object.name.as_str();
                 let told = format_args!("{name} has no cspace: it can make no call");
-                self.words.notes.say(object.spot, told);
+                self.words.notes.say_on(Topic::NoSpace, object.spot, told);
             }
         }
     }
@@ -144,7 +145,7 @@ fn layout_of(alloc: Global, text: &str, reading: Reading) -> Result<Layout, Allo
         slots,
         ..
     } = reader;
-    if words.faults.is_refused || words.notes.is_refused {
+    if words.faults.is_refused || words.gaps.is_refused || words.notes.is_refused {
         return Err(AllocError);
     }
     Ok(Layout {
@@ -154,6 +155,7 @@ fn layout_of(alloc: Global, text: &str, reading: Reading) -> Result<Layout, Allo
         slots: slots.slots,
         derived,
         faults: words.faults,
+        gaps: words.gaps,
         notes: words.notes,
         spot: arch.spot,
     })

@@ -1,5 +1,6 @@
 //! The slots of a layout, and the capabilities in them.
 use crate::derived::{Node, read_node};
+use crate::fault::Topic;
 use crate::kinds::{BUILT_IN, SLOT_WORDS, kind_word, place_of};
 use crate::layout::{OTHER_BITS, Object, Slot};
 use crate::machine::Machine;
@@ -128,7 +129,8 @@ fn read_cap<'a>(words: &mut Words<'a>) -> Result<CapText<'a>, AllocError> {
     Ok(cap)
 }
 
-/// Says that a parameter is not known: a fault of a capability that a set-up has, and else a note.
+/// Says that a parameter of a capability is not known that a set-up has: it is left out where the object only counts, and else a
+/// fault.
 fn say_unknown_parameter(words: &mut Words<'_>, slot: SlotText<'_>, is_fault: bool) {
     let Some(Token { text, spot, .. }) = slot.cap.unknown else {
         return;
@@ -143,7 +145,16 @@ fn say_unknown_parameter(words: &mut Words<'_>, slot: SlotText<'_>, is_fault: bo
     } else {
         let name = slot.object.name.text;
         let told = format_args!("the parameter {text} of this capability of {name} is left out");
-        words.notes.say(spot, told);
+        words.gaps.say(spot, told);
+    }
+}
+
+/// Says that a parameter of a capability that is left out is not known.
+fn note_unknown_parameter(words: &mut Words<'_>, slot: SlotText<'_>) {
+    if let Some(Token { text, spot, .. }) = slot.cap.unknown {
+        let name = slot.object.name.text;
+        let told = format_args!("the parameter {text} of this capability of {name} is not known");
+        words.notes.say_on(Topic::Parameter, spot, told);
     }
 }
 
@@ -524,14 +535,14 @@ impl<'a> Slots<'a> {
         match objects.find(object) {
             Found::Kept(object) => self.put(words, objects, slot, holder, place, object),
             Found::LeftOut(kind) => {
-                say_unknown_parameter(words, slot, false);
+                note_unknown_parameter(words, slot);
                 objects.leave_out(kind, slot.at.spot, 0, 1);
                 self.note_left_out(slot)
             }
             Found::Unknown if BUILT_IN.contains(&object.name.text) => {
                 let (holder, Token { text, spot, .. }) = (slot.holder.name.text, slot.object.name);
                 let told = format_args!("slot {place} of {holder}: {text} is left out");
-                words.notes.say(spot, told);
+                words.gaps.say(spot, told);
                 self.note_left_out(slot)
             }
             Found::Unknown => {
@@ -569,6 +580,9 @@ impl<'a> Slots<'a> {
         }
         say_unknown_parameter(words, slot, object.bits != OTHER_BITS);
         self.check(words, slot, (holder.kind, place), number, object.kind);
+        if slot.cap.rights.is_none() && objects.needs_rights(slot.object, slot.holder) {
+            say_assumed(words, slot);
+        }
         let (machine, bits) = (Machine::of(objects.profile), object.bits);
         match object.kind {
             Kind::CNode => check_guard(words, machine, slot, bits),
@@ -632,7 +646,7 @@ fn leave_out<'a>(
         (Found::Kept(_), Some(word)) => {
             let holder = slot.holder.name.text;
             let told = format_args!("{word} of {holder} is left out");
-            words.notes.say(slot.at.spot, told);
+            words.gaps.say(slot.at.spot, told);
         }
         (Found::Unknown, _) if !BUILT_IN.contains(&name) => {
             objects.say_unknown(words, slot.object);
@@ -699,17 +713,20 @@ fn check_endpoint(words: &mut Words<'_>, machine: Machine, slot: SlotText<'_>, i
             format_args!("a badge has {bits} bits at the most, and {badge} has more"),
         );
     }
-    match cap.rights {
-        None => words.notes.say(
-            spot,
-            format_args!("{name}: no rights are given, so the capability has all"),
-        ),
-        Some(rights) if is_said && rights & 5 == 5 => words.notes.say(
+    if is_said && cap.rights.unwrap_or(0) & 5 == 5 {
+        words.notes.say_on(
+            Topic::HandsOver,
             spot,
             format_args!(
                 "{name}: with G capabilities can be handed over in messages, which is not simulated; audit --ever tells it by lines grant"
             ),
-        ),
-        Some(_) => {}
+        );
     }
+}
+
+/// Says that a capability has all rights, since the text says none.
+fn say_assumed(words: &mut Words<'_>, slot: SlotText<'_>) {
+    let Token { text, spot, .. } = slot.object.name;
+    let told = format_args!("{text}: no rights are given, so the capability has all");
+    words.gaps.say(spot, told);
 }

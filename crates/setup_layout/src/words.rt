@@ -47,6 +47,8 @@ pub struct Words<'a> {
     /// Whether that was so anywhere.
     pub has_failed: bool,
     pub faults: Remarks,
+    /// What may carry authority, and is left out or assumed.
+    pub gaps: Remarks,
     pub notes: Remarks,
 }
 
@@ -62,6 +64,7 @@ impl<'a> Words<'a> {
             is_broken: false,
             has_failed: false,
             faults: Remarks::new(alloc),
+            gaps: Remarks::new(alloc),
             notes: Remarks::new(alloc),
         }
     }

@@ -3,7 +3,7 @@ use crate::elements::{Element, Elements};
 use crate::lines::Lines;
 use crate::machines::Machine;
 use crate::making::{Assumed, Domain, End, LARGE_BITS, cnode_bits, text_of};
-use setup_layout::{Remarks, Scanner, Spot, front_length, number_of};
+use setup_layout::{Reading, Remarks, Scanner, Spot, front_length, number_of};
 use std::alloc::{AllocError, Global};
 use std::collections::HashMap;
 use std::fmt::Write;
@@ -17,12 +17,17 @@ const MOST_DOMAINS: usize = 63;
 /// The objects that are made of a domain.
 const OBJECTS: [&str; 5] = ["tcb", "cnode", "ntfn", "vspace", "ep"];
 
-/// What is told of what a file does not say: with the least rights, or with all.
-const LEAST_ASSUMED: &str =
-    "what the file leaves to Microkit's tool is assumed: the places of slots, CNodes of 9 bits, the monitor, and the rights W to notify, WP to call and R to hear";
+/// What is told of what a file does not say.
+const TOOL_ASSUMED: &str =
+    "what the file leaves to Microkit's tool is assumed: the places of slots, CNodes of 9 bits, and the monitor, which has all threads and hears faults";
 
-const ALL_ASSUMED: &str =
-    "what the file leaves to Microkit's tool is assumed: the places of slots, CNodes of 9 bits, the monitor, and all rights to notify, to call and to hear";
+/// What is told of rights, of which a file says none: they are assumed, or they are taken as it is asked for.
+const RIGHTS_ASSUMED: &str =
+    "the file says no rights: all are assumed, to notify, to call and to hear; --rights all or --rights least asks for what is taken";
+
+const ALL_TAKEN: &str = "the file says no rights: all are taken, to notify, to call and to hear";
+
+const LEAST_TAKEN: &str = "the file says no rights: W is taken to notify, WP to call and R to hear";
 
 /// The elements that are read.
 #[rattlefmt::skip]
@@ -107,8 +112,8 @@ impl<'a> Names<'a> {
 #[derive(Drop)]
 pub struct System<'a> {
     alloc: Global,
-    /// Whether capabilities have all rights of which the file says nothing.
-    all_rights: bool,
+    /// How the file is read.
+    reading: Reading,
     /// Where the outermost element stands.
     spot: Spot,
     region_names: Names<'a>,
@@ -123,6 +128,8 @@ pub struct System<'a> {
     /// Where the elements stand that are read.
     places: Vec<Place>,
     pub faults: Remarks,
+    /// What may carry authority, and is left out or assumed.
+    pub gaps: Remarks,
     pub notes: Remarks,
 }
 
@@ -235,8 +242,8 @@ impl<'a> System<'a> {
         for attribute in element.attributes.as_slice() {
             let (name, spot) = (attribute.name, attribute.spot);
             if !known.as_slice().contains(&name) {
-                let hint = self.notes.hint(name, known.as_slice());
-                self.notes.say(
+                let hint = self.gaps.hint(name, known.as_slice());
+                self.gaps.say(
                     spot,
                     format_args!("{name} of this {kind} is left out{hint}"),
                 );
@@ -253,10 +260,13 @@ impl<'a> System<'a> {
             let told = format_args!("a .system file is one element system, and not {name}");
             self.faults.say(spot, told);
         }
-        if self.all_rights {
-            self.notes.say(spot, ALL_ASSUMED);
+        self.notes.say(spot, TOOL_ASSUMED);
+        if !self.reading.are_rights_asked {
+            self.gaps.say(spot, RIGHTS_ASSUMED);
+        } else if self.reading.all_rights {
+            self.notes.say(spot, ALL_TAKEN);
         } else {
-            self.notes.say(spot, LEAST_ASSUMED);
+            self.notes.say(spot, LEAST_TAKEN);
         }
         self.take_objects(spot, "monitor")?;
         Ok(Place::System)
@@ -288,7 +298,7 @@ impl<'a> System<'a> {
         let (name, spot, number) = (self.name(element), element.spot, self.domains.len());
         self.take_objects(spot, name)?;
         let is_server = self.is_so(element, "pp", false);
-        let rights = Assumed::new(self.all_rights);
+        let rights = Assumed::new(self.reading.all_rights);
         let mut domain = Domain::new(self.alloc, name, spot, is_server, rights);
         if let Some(outer) = outer {
             let id = self.id(element, outer, "a domain in ")?;
@@ -460,9 +470,9 @@ impl<'a> System<'a> {
     /// Leaves out an element.
     fn leave_out(&mut self, element: &Element<'a>) -> Place {
         let name = element.name;
-        let hint = self.notes.hint(name, &ELEMENTS);
+        let hint = self.gaps.hint(name, &ELEMENTS);
         let told = format_args!("{name} is left out here, with all that is in it{hint}");
-        self.notes.say(element.spot, told);
+        self.gaps.say(element.spot, told);
         Place::LeftOut
     }
 
@@ -551,7 +561,7 @@ impl<'a> System<'a> {
     pub fn text(&self) -> Result<Lines, AllocError> {
         let (alloc, spot, domains) = (self.alloc, self.spot, self.domains.as_slice());
         if self.faults.told.is_empty() {
-            let rights = Assumed::new(self.all_rights);
+            let rights = Assumed::new(self.reading.all_rights);
             return text_of(
                 alloc,
                 spot,
@@ -567,11 +577,11 @@ impl<'a> System<'a> {
     }
 
     /// Reads a file.
-    pub fn read(alloc: Global, text: &'a str, all_rights: bool) -> Result<System<'a>, AllocError> {
+    pub fn read(alloc: Global, text: &'a str, reading: Reading) -> Result<System<'a>, AllocError> {
         let Elements { list, faults, .. } = Elements::read(alloc, text)?;
         let mut system = System {
             alloc,
-            all_rights,
+            reading,
             spot: Scanner::new(text).spot(0),
             region_names: Names::new(alloc, "memory region"),
             domain_names: Names::new(alloc, "protection domain"),
@@ -582,6 +592,7 @@ impl<'a> System<'a> {
             taken: HashMap::new(alloc),
             places: Vec::new(alloc),
             faults,
+            gaps: Remarks::new(alloc),
             notes: Remarks::new(alloc),
         };
         if list.is_empty() && system.faults.told.is_empty() {
