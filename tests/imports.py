@@ -108,12 +108,13 @@ def layout(seed):
     return "\n".join([*text, "}", ""]), objects, want, inactive, 32 if word == 64 else 16
 
 
-def listing(objects, want, inactive):
-    """Returns the lines of the listing of a layout."""
+def listing(text, objects, want, inactive):
+    """Returns the lines of the listing of a layout, which has no letters where it says no rights of an endpoint's capability."""
     kinds = {"cnode": "cnode", "tcb": "tcb", "ep": "endpoint", "ut": "untyped"}
     places = {(holder, slot): f"{holder}.cspace" if objects[holder][0] == "tcb" else f"{holder}[{slot}]" for holder, slot in want}
     slots = [f"{places[at]} {kinds[objects[name][0]]} {name} {told}".rstrip() for at, (name, told) in want.items()]
-    return slots + [f"{name} inactive" for name in inactive]
+    assumed = ["assumed rights all"] if re.search(r": ep_\d+( \(badge: \w+\))?$", text, re.M) else []
+    return slots + [f"{name} inactive" for name in inactive] + assumed
 
 
 def run(program, words, text):
@@ -373,6 +374,8 @@ def strict_of(program, folder):
         taken, strict = [run(program, ["import", "--flows", *more, "-"], WHOLE.replace(old, new)) for more in ([], ["--strict"])]
         if taken.returncode or f":{line}:" not in taken.stderr or f"warning: {said}\n" not in taken.stderr or f"# line {line}: {said}\n" not in taken.stdout:
             yield f"whole layout with {new!r}: {taken.returncode} {taken.stderr[:200]!r}"
+        if ("# assumed rights all\n" in taken.stdout) != ("no rights" in said):
+            yield f"whole layout with {new!r}: its head tells rights that were assumed, or does not"
         if strict.returncode != 2 or strict.stdout != f"layout refused at {line}\n" or lines_of(strict, "error") != [line] or f"error: {said}\n" not in strict.stderr:
             yield f"whole layout with {new!r}, strictly: {strict.returncode} {strict.stdout[:50]!r} {strict.stderr[:200]!r}"
     text = (folder / "hello.system").read_text()
@@ -381,6 +384,10 @@ def strict_of(program, folder):
         made = run(program, ["import", "--flows", "--strict", *words, "-"], new)
         if made.returncode != (2 if line else 0) or line and (made.stdout != f"layout refused at {line}\n" or lines_of(made, "error") != [line]):
             yield f"hello.system, strictly with {words}: {made.returncode} {made.stdout[:50]!r} {made.stderr[:200]!r}"
+    for words, said in (([], "all"), (["--rights", "all"], "all"), (LEAST, "least")):
+        listed = run(program, ["import", "--listing", *words, "-"], text).stdout
+        if listed.splitlines()[-1] != f"assumed rights {said}":
+            yield f"hello.system with {words}: the last line of its listing is {listed.splitlines()[-1]!r}"
     alone = run(program, ["import", "-"], "arch aarch64\nobjects {\na = tcb\nb = tcb\nc = tcb\n}\ncaps {\n}\n")
     if alone.returncode or not re.fullmatch("[^\n]*:3:1: warning: a has no cspace: it can make no call; and 2 more such\n", alone.stderr):
         yield f"three threads without a space: {alone.returncode} {alone.stderr!r}"
@@ -477,7 +484,7 @@ def main(program, folder, seed, count):
         wrong += [f"layout {number} of {seed}: {it}" for it in differences(report, made.stdout, *said)]
         if number % 10 == 3:
             listed = run(program, ["import", "--listing"], text).stdout.splitlines()
-            wrong += [f"layout {number} of {seed}: its listing has other lines"] * (sorted(listed) != sorted(listing(*said[:3])))
+            wrong += [f"layout {number} of {seed}: its listing has other lines"] * (sorted(listed) != sorted(listing(text, *said[:3])))
         calls = made.stdout.split("\n\n# ")
         if number % 10 == 5:
             flows = run(program, ["import", "--flows"], text)

@@ -15,11 +15,13 @@ use Rattle.kernel_forest.specs.Forest.{Forest}
 use Rattle.kernel_forest.specs.Entries.{Entry, cap_at, derivations_of}
 use Rattle.kernel_abstract.specs.Plan.{Plan, first_tcb}
 use Rattle.kernel_abstract.specs.Shown.{Shown, state_at, inbox_at, waiting_at}
+use Rattle.setup_layout.specs.declared.layout.AssumedRights.{AssumedRights}
+use Rattle.setup_layout.specs.declared.layout.AssumedRights.TheVariants.{NoRights, AllRights, LeastRights}
 use Rattle.setup_layout.specs.declared.layout.Layout.{Layout}
 use Rattle.setup_layout.specs.declared.layout.Object.{Object}
 use Rattle.setup_layout.specs.declared.layout.Slot.{Slot}
 use Rattle.command_import.specs.Laid.{IsLaidOut, Rows, kind_number, is_state, are_same_object, are_objects_apart, is_capability_of, is_object_live, stands, stands_as, is_cap_with, slot_place, address_in, layout_slot_address, holds, is_slot_filled, is_number, are_slots_known, address_if, is_right_below, is_derived}
-use Rattle.command_import.specs.Told.{ToldPlace, ToldLine, HoldsUntyped, HoldsEndpoint, HoldsCNode, HoldsTcb, MakesNoCalls, StandsBelow, told_number, told_place, told_held, told_of_slot, told_slot, told_state, told_inactive, told_pair, told_derived, listing_tells, AreAtTheirNames, told_object, is_own_slot, has_objects, has_its_objects, are_slots, HasItsParts}
+use Rattle.command_import.specs.Told.{ToldPlace, ToldLine, HoldsUntyped, HoldsEndpoint, HoldsCNode, HoldsTcb, MakesNoCalls, StandsBelow, AssumesRights, told_number, told_place, told_held, told_of_slot, told_slot, told_state, told_inactive, told_pair, told_derived, told_assumed, listing_tells, AreAtTheirNames, told_object, is_own_slot, has_objects, has_its_objects, are_slots, HasItsParts}
 use Rattle.command_import.proofs.Lists.{each_both, each_in, found}
 
 -- ---- parts of a list
@@ -45,11 +47,22 @@ parts_apart is (x ∷ xs) (y ∷ ys) rest more a b e f same =
 abbrev is_of_slot : ToldLine → Bool
 is_of_slot (MakesNoCalls name) = false
 is_of_slot (StandsBelow below above) = false
+is_of_slot (AssumesRights all) = false
 is_of_slot _ = true
 
 abbrev is_of_thread : ToldLine → Bool
 is_of_thread (MakesNoCalls name) = true
 is_of_thread _ = false
+
+abbrev is_of_pair : ToldLine → Bool
+is_of_pair (StandsBelow below above) = true
+is_of_pair _ = false
+
+abbrev OfPair : ToldLine → Type 0
+OfPair line = is_of_pair line ≡ true
+
+abbrev OfNoPair : ToldLine → Type 0
+OfNoPair line = is_of_pair line ≡ false
 
 abbrev OfSlot : ToldLine → Type 0
 OfSlot line = is_of_slot line ≡ true
@@ -95,6 +108,27 @@ pair_of_no_thread objects (Some above) None = tt
 pair_of_no_thread objects None (Some below) = tt
 pair_of_no_thread objects None None = tt
 
+pair_of_pair : (objects : List Object) (above below : Option Slot) → Each OfPair (told_pair objects above below)
+pair_of_pair objects (Some above) (Some below) = (refl, tt)
+pair_of_pair objects (Some above) None = tt
+pair_of_pair objects None (Some below) = tt
+pair_of_pair objects None None = tt
+
+assumed_of_no_slot : (assumed : AssumedRights) → Each OfNoSlot (told_assumed assumed)
+assumed_of_no_slot NoRights = tt
+assumed_of_no_slot AllRights = (refl, tt)
+assumed_of_no_slot LeastRights = (refl, tt)
+
+assumed_of_no_thread : (assumed : AssumedRights) → Each OfNoThread (told_assumed assumed)
+assumed_of_no_thread NoRights = tt
+assumed_of_no_thread AllRights = (refl, tt)
+assumed_of_no_thread LeastRights = (refl, tt)
+
+assumed_of_no_pair : (assumed : AssumedRights) → Each OfNoPair (told_assumed assumed)
+assumed_of_no_pair NoRights = tt
+assumed_of_no_pair AllRights = (refl, tt)
+assumed_of_no_pair LeastRights = (refl, tt)
+
 abbrev slots_told : Layout → List ToldLine
 slots_told layout = flat_map (told_slot layout.objects.items) layout.slots.items
 
@@ -104,25 +138,39 @@ states_told layout = flat_map told_inactive layout.objects.items
 abbrev pairs_told : Layout → List ToldLine
 pairs_told layout = flat_map (told_derived layout.objects.items layout.slots.items) layout.derived.items
 
-no_slots : (layout : Layout) → Each OfNoSlot (states_told layout ++ pairs_told layout)
+-- the lines behind those of threads
+abbrev rest_told : Layout → List ToldLine
+rest_told layout = pairs_told layout ++ told_assumed layout.assumed
+
+no_slots : (layout : Layout) → Each OfNoSlot (states_told layout ++ rest_told layout)
 no_slots layout =
-    each_both OfNoSlot (states_told layout) (pairs_told layout)
+    each_both OfNoSlot (states_told layout) (rest_told layout)
     (each_in OfNoSlot told_inactive (λ (object : Object). state_of_no_slot object.kind object.is_inactive object) layout.objects.items)
+    (each_both OfNoSlot (pairs_told layout) (told_assumed layout.assumed)
     (each_in OfNoSlot (told_derived layout.objects.items layout.slots.items) (λ (pair : ℕ × ℕ). pair_of_no_slot layout.objects.items (slice_get layout.slots.items pair.0) (slice_get layout.slots.items pair.1)) layout.derived.items)
+    (assumed_of_no_slot layout.assumed))
+
+all_states : (layout : Layout) → Each OfThread (states_told layout)
+all_states layout = each_in OfThread told_inactive (λ (object : Object). state_of_thread object.kind object.is_inactive object) layout.objects.items
+
+no_states : (layout : Layout) → Each OfNoThread (rest_told layout)
+no_states layout =
+    each_both OfNoThread (pairs_told layout) (told_assumed layout.assumed)
+    (each_in OfNoThread (told_derived layout.objects.items layout.slots.items) (λ (pair : ℕ × ℕ). pair_of_no_thread layout.objects.items (slice_get layout.slots.items pair.0) (slice_get layout.slots.items pair.1)) layout.derived.items)
+    (assumed_of_no_thread layout.assumed)
+
+all_pairs : (layout : Layout) → Each OfPair (pairs_told layout)
+all_pairs layout = each_in OfPair (told_derived layout.objects.items layout.slots.items) (λ (pair : ℕ × ℕ). pair_of_pair layout.objects.items (slice_get layout.slots.items pair.0) (slice_get layout.slots.items pair.1)) layout.derived.items
 
 all_slots : (layout : Layout) → Each OfSlot (slots_told layout)
 all_slots layout = each_in OfSlot (told_slot layout.objects.items) (λ (slot : Slot). of_slot slot (slice_get layout.objects.items slot.holder) (slice_get layout.objects.items slot.object)) layout.slots.items
 
 same_parts : (a b : Layout) → listing_tells a ≡ listing_tells b → (slots_told a ≡ slots_told b) × (pairs_told a ≡ pairs_told b)
 same_parts a b same =
-    let one = parts_apart is_of_slot (slots_told a) (slots_told b) (states_told a ++ pairs_told a) (states_told b ++ pairs_told b) (all_slots a) (all_slots b) (no_slots a) (no_slots b) same in
-    let two = parts_apart is_of_thread (states_told a) (states_told b) (pairs_told a) (pairs_told b)
-    (each_in OfThread told_inactive (λ (object : Object). state_of_thread object.kind object.is_inactive object) a.objects.items)
-    (each_in OfThread told_inactive (λ (object : Object). state_of_thread object.kind object.is_inactive object) b.objects.items)
-    (each_in OfNoThread (told_derived a.objects.items a.slots.items) (λ (pair : ℕ × ℕ). pair_of_no_thread a.objects.items (slice_get a.slots.items pair.0) (slice_get a.slots.items pair.1)) a.derived.items)
-    (each_in OfNoThread (told_derived b.objects.items b.slots.items) (λ (pair : ℕ × ℕ). pair_of_no_thread b.objects.items (slice_get b.slots.items pair.0) (slice_get b.slots.items pair.1)) b.derived.items)
-    one.1 in
-    (one.0, two.1)
+    let one = parts_apart is_of_slot (slots_told a) (slots_told b) (states_told a ++ rest_told a) (states_told b ++ rest_told b) (all_slots a) (all_slots b) (no_slots a) (no_slots b) same in
+    let two = parts_apart is_of_thread (states_told a) (states_told b) (rest_told a) (rest_told b) (all_states a) (all_states b) (no_states a) (no_states b) one.1 in
+    let three = parts_apart is_of_pair (pairs_told a) (pairs_told b) (told_assumed a.assumed) (told_assumed b.assumed) (all_pairs a) (all_pairs b) (assumed_of_no_pair a.assumed) (assumed_of_no_pair b.assumed) two.1 in
+    (one.0, three.0)
 
 -- ---- what a line says of a state
 
@@ -151,6 +199,7 @@ line_place (HoldsCNode at name radix guard) = at
 line_place (HoldsTcb at name) = at
 line_place (MakesNoCalls name) = (name, None)
 line_place (StandsBelow below above) = ([], None)
+line_place (AssumesRights all) = ([], None)
 
 abbrev line_holds : (List ℕ → ℕ) → ToldLine → Cap → Bool
 line_holds place (HoldsUntyped at name bits) (cap.Untyped base size free) = (base == place name && size == bits) && true

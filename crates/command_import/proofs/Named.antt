@@ -5,10 +5,12 @@ use Rattle.std.specs.List.{AllByRecursion as Each, flat_map, list_all}
 use Rattle.std.proofs.lemmas.List.Elements.{All-from_recursion, recursion_from_All}
 use Rattle.cap_core.specs.declared.capability.Kind.{Kind}
 use Rattle.cap_core.specs.declared.capability.Kind.TheVariants.{Untyped, Endpoint, CNode, Tcb}
+use Rattle.setup_layout.specs.declared.layout.AssumedRights.{AssumedRights}
+use Rattle.setup_layout.specs.declared.layout.AssumedRights.TheVariants.{NoRights, AllRights, LeastRights}
 use Rattle.setup_layout.specs.declared.layout.Layout.{Layout}
 use Rattle.setup_layout.specs.declared.layout.Object.{Object}
 use Rattle.setup_layout.specs.declared.layout.Slot.{Slot}
-use Rattle.command_import.specs.Told.{ToldPlace, told_number, told_place, told_held, told_of_slot, told_slot, told_state, told_inactive, told_pair, told_derived, listing_tells, has_word, IsShortSlot, CanBeTold}
+use Rattle.command_import.specs.Told.{ToldPlace, told_number, told_place, told_held, told_of_slot, told_slot, told_state, told_inactive, told_pair, told_derived, told_assumed, listing_tells, has_word, IsShortSlot, CanBeTold}
 use Rattle.command_import.proofs.Lists.{each_both, each_where, found}
 use Rattle.command_import.proofs.Told.{IsShortPlace, IsPlaceOrNone, IsWellNamed}
 
@@ -87,18 +89,26 @@ each_nothing : (pairs : List (ℕ × ℕ)) → Each Nothing pairs
 each_nothing [] = tt
 each_nothing (pair ∷ pairs) = (tt, each_nothing pairs)
 
+assumed_named : (assumed : AssumedRights) → Each IsWellNamed (told_assumed assumed)
+assumed_named NoRights = tt
+assumed_named AllRights = (tt, tt)
+assumed_named LeastRights = (tt, tt)
+
 pub well_named : (layout : Layout) → CanBeTold layout → Each IsWellNamed (listing_tells layout)
 well_named layout can =
     let objects = layout.objects.items in
     let slots = layout.slots.items in
     let each = both_short objects can.names (recursion_from_All (λ (object : Object). object.bits < 2 ^ 64) objects can.bits) in
     let all : All IsShortObject objects = All-from_recursion IsShortObject objects each in
-    each_both IsWellNamed (flat_map (told_slot objects) slots) (flat_map told_inactive objects ++ flat_map (told_derived objects slots) layout.derived.items)
+    let pairs = flat_map (told_derived objects slots) layout.derived.items in
+    each_both IsWellNamed (flat_map (told_slot objects) slots) (flat_map told_inactive objects ++ (pairs ++ told_assumed layout.assumed))
     (each_where IsShortSlot IsWellNamed (told_slot objects)
     (λ slot short. slot_named slot (slice_get objects slot.holder) (slice_get objects slot.object) (object_short objects slot.holder all) (object_short objects slot.object all) short)
     slots (recursion_from_All IsShortSlot slots can.slots))
-    (each_both IsWellNamed (flat_map told_inactive objects) (flat_map (told_derived objects slots) layout.derived.items)
+    (each_both IsWellNamed (flat_map told_inactive objects) (pairs ++ told_assumed layout.assumed)
     (each_where IsShortObject IsWellNamed told_inactive (λ object short. state_named object.kind object.is_inactive object short) objects each)
+    (each_both IsWellNamed pairs (told_assumed layout.assumed)
     (each_where Nothing IsWellNamed (told_derived objects slots)
     (λ pair nothing. pair_named objects (slice_get slots pair.0) (slice_get slots pair.1) all (slot_short slots pair.0 can.slots) (slot_short slots pair.1 can.slots))
-    layout.derived.items (each_nothing layout.derived.items)))
+    layout.derived.items (each_nothing layout.derived.items))
+    (assumed_named layout.assumed)))

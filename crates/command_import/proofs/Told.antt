@@ -1,5 +1,5 @@
 -- The lines of a listing tell what they were made of.
-use Rattle.std.proofs.Common.{◌≡◌, ℕ, ◌<◌, ◌≤◌, ◌^◌, ◌==◌, Bool, true, false, not, nat_lt, List, [], ◌∷◌, ◌++◌, length, Option, Some, None, option_map, string_bytes, refl, sym, ap, ◌∙◌, subst, append_assoc, append-nil, length-append, arith}
+use Rattle.std.proofs.Common.{◌≡◌, ℕ, ◌<◌, ◌≤◌, ◌^◌, ◌==◌, Bool, true, false, not, nat_lt, List, [], ◌∷◌, ◌++◌, length, Option, Some, None, option_map, string_bytes, refl, sym, ap, ◌∙◌, subst, append_assoc, length-append, arith}
 use Rattle.std.specs.Prelude.{codes, slice_get}
 use Rattle.std.specs.Fmt.{decimal}
 use Rattle.std.specs.List.{AllByRecursion as Each, flat_map}
@@ -23,8 +23,10 @@ use Rattle.setup_report_laws.proofs.Told.{capability_told}
 use Rattle.setup_layout.specs.declared.layout.Layout.{Layout}
 use Rattle.setup_layout.specs.declared.layout.Object.{Object}
 use Rattle.setup_layout.specs.declared.layout.Slot.{Slot}
-use Rattle.command_import.specs.Listing.{listed_place, held_of, line_of, listing_line, inactive_of, inactive_line, holder_place, below_line, pair_line, listing_lines}
-use Rattle.command_import.specs.Told.{ToldPlace, ToldLine, HoldsUntyped, HoldsEndpoint, HoldsCNode, HoldsTcb, MakesNoCalls, StandsBelow, told_number, told_place, told_held, told_of_slot, told_slot, told_state, told_inactive, told_pair, told_derived, listing_tells, is_word}
+use Rattle.setup_layout.specs.declared.layout.AssumedRights.{AssumedRights}
+use Rattle.setup_layout.specs.declared.layout.AssumedRights.TheVariants.{NoRights, AllRights, LeastRights}
+use Rattle.command_import.specs.Listing.{listed_place, held_of, line_of, listing_line, inactive_of, inactive_line, holder_place, below_line, pair_line, assumed_line, listing_lines}
+use Rattle.command_import.specs.Told.{ToldPlace, ToldLine, HoldsUntyped, HoldsEndpoint, HoldsCNode, HoldsTcb, MakesNoCalls, StandsBelow, AssumesRights, told_number, told_place, told_held, told_of_slot, told_slot, told_state, told_inactive, told_pair, told_derived, told_assumed, listing_tells, is_word}
 
 -- ---- lines whose names are words and whose numbers are short
 
@@ -43,6 +45,7 @@ IsWellNamed (HoldsCNode place name radix guard) = IsShortPlace place × (is_word
 IsWellNamed (HoldsTcb place name) = IsShortPlace place × (is_word name ≡ true)
 IsWellNamed (MakesNoCalls name) = is_word name ≡ true
 IsWellNamed (StandsBelow below above) = IsPlaceOrNone below × IsPlaceOrNone above
+IsWellNamed (AssumesRights all) = Unit {0}
 
 -- ---- texts whose bytes pass a test
 
@@ -122,6 +125,10 @@ endpoint_behind badge rights = codes " badge " ++ (decimal badge ++ (codes " rig
 abbrev cnode_behind : ℕ → Guard → List ℕ
 cnode_behind radix guard = codes " radix " ++ (decimal radix ++ (codes " guard " ++ (decimal guard.value ++ (codes " size " ++ decimal guard.size))))
 
+abbrev rights_behind : Bool → List ℕ
+rights_behind true = codes " all"
+rights_behind false = codes " least"
+
 abbrev row_of : ToldLine → Row
 row_of (HoldsUntyped place name bits) = (place_text place, codes "untyped", 32 ∷ (name ++ (codes " bits " ++ decimal bits)))
 row_of (HoldsEndpoint place name badge rights) = (place_text place, codes "endpoint", 32 ∷ (name ++ endpoint_behind badge rights))
@@ -129,6 +136,7 @@ row_of (HoldsCNode place name radix guard) = (place_text place, codes "cnode", 3
 row_of (HoldsTcb place name) = (place_text place, codes "tcb", 32 ∷ name)
 row_of (MakesNoCalls name) = (name, codes "inactive", [])
 row_of (StandsBelow below above) = (either_text below, codes "below", 32 ∷ either_text above)
+row_of (AssumesRights all) = (codes "assumed", codes "rights", rights_behind all)
 
 place_word : (place : ToldPlace) → IsShortPlace place → Pass (nat_lt 32) (place_text place)
 place_word (name, None) h = pass_both (nat_lt 32) name (codes ".cspace") (word name h) (all_pass (nat_lt 32) (codes ".cspace") refl)
@@ -158,6 +166,14 @@ cnode_line radix guard =
     pass_right no_end (decimal 0) (cnode_behind radix guard)
     (pass_right no_end (codes "cnode ") (decimal 0 ++ cnode_behind radix guard)
     (all_pass no_end (cap_text plain (cnode_at_0 radix guard)) (capability_line (cnode_at_0 radix guard))))
+
+rights_stop : (all : Bool) → Stops (nat_lt 32) (rights_behind all)
+rights_stop true = refl
+rights_stop false = refl
+
+rights_line : (all : Bool) → Pass no_end (rights_behind all)
+rights_line true = all_pass no_end (codes " all") refl
+rights_line false = all_pass no_end (codes " least") refl
 
 is_row : (told : ToldLine) → IsWellNamed told → IsRow (row_of told)
 is_row (HoldsUntyped place name bits) h = (
@@ -190,6 +206,7 @@ is_row (StandsBelow below above) h = (
   refl,
   (refl, pass_more (nat_lt 32) no_end word_is_no_end (either_text above) (either_word above h.1)),
 )
+is_row (AssumesRights all) h = (all_pass (nat_lt 32) (codes "assumed") refl, all_pass (nat_lt 32) (codes "rights") refl, rights_stop all, rights_line all)
 
 -- ---- a row tells what it was made of
 
@@ -311,6 +328,7 @@ sort (HoldsCNode place name radix guard) = 99
 sort (HoldsTcb place name) = 116
 sort (MakesNoCalls name) = 105
 sort (StandsBelow below above) = 98
+sort (AssumesRights all) = 114
 
 abbrev first_of_row : Row → List ℕ
 first_of_row row = row.0
@@ -320,6 +338,16 @@ behind_in_row row = row.2
 
 abbrev head_of_row : Row → ℕ
 head_of_row row = head row.1
+
+same_rights : (all every : Bool) → rights_behind all ≡ rights_behind every → all ≡ every
+same_rights true true same = refl
+same_rights false false same = refl
+same_rights true false same =
+    let e : 108 ≡ 116 = ap (last 0) same in
+    absurd (omega (arith, e))
+same_rights false true same =
+    let e : 116 ≡ 108 = ap (last 0) same in
+    absurd (omega (arith, e))
 
 same_line : (a b : ToldLine) → IsWellNamed a → IsWellNamed b → row_of a ≡ row_of b → a ≡ b
 same_line (HoldsUntyped place name bits) (HoldsUntyped spot other size) h k same =
@@ -346,6 +374,7 @@ same_line (StandsBelow below above) (StandsBelow under over) h k same =
     let first = same_either below under h.0 k.0 (ap first_of_row same) in
     let second = same_either above over h.1 k.1 (append_cancel_left (32 ∷ []) (either_text above) (either_text over) (ap behind_in_row same)) in
     λ i. StandsBelow (first i) (second i)
+same_line (AssumesRights all) (AssumesRights every) h k same = let both = same_rights all every (ap behind_in_row same) in λ i. AssumesRights (both i)
 same_line a b h k same = let e : sort a ≡ sort b = ap head_of_row same in absurd (omega (arith, e))
 
 -- ---- all lines
@@ -425,6 +454,11 @@ pair_told prefix objects (Some above) None rest = refl
 pair_told prefix objects None (Some below) rest = refl
 pair_told prefix objects None None rest = refl
 
+assumed_told : (prefix : List ℕ) (assumed : AssumedRights) → assumed_line assumed prefix ≡ told_onto prefix (told_assumed assumed) []
+assumed_told prefix NoRights = refl
+assumed_told prefix AllRights = refl
+assumed_told prefix LeastRights = refl
+
 listing_told : (prefix : List ℕ) (layout : Layout) → listing_lines prefix layout ≡ told_onto prefix (listing_tells layout) []
 listing_told prefix layout =
     let objects = layout.objects.items in
@@ -433,10 +467,13 @@ listing_told prefix layout =
     let first = all_told prefix (listing_line prefix objects) (told_slot objects) (λ slot rest. slot_told prefix slot (slice_get objects slot.holder) (slice_get objects slot.object) rest) in
     let second = all_told prefix (inactive_line prefix) told_inactive (λ object rest. inactive_told prefix object object.kind object.is_inactive rest) in
     let third = all_told prefix (pair_line prefix objects slots) (told_derived objects slots) (λ pair rest. pair_told prefix objects (slice_get slots pair.0) (slice_get slots pair.1) rest) in
-    let lines = flat_map (pair_line prefix objects slots) pairs in
-    let told = flat_map (told_derived objects slots) pairs in
+    let assumed = told_assumed layout.assumed in
+    let lines = flat_map (pair_line prefix objects slots) pairs ++ assumed_line layout.assumed prefix in
+    let told = flat_map (told_derived objects slots) pairs ++ assumed in
     let states = flat_map told_inactive objects in
-    let end : lines ≡ told_onto prefix told [] = sym (append-nil lines) ∙ third pairs [] in
+    let end : lines ≡ told_onto prefix told [] =
+    ap (λ (t : List ℕ). flat_map (pair_line prefix objects slots) pairs ++ t) (assumed_told prefix layout.assumed)
+    ∙ (third pairs (told_onto prefix assumed []) ∙ sym (told_append prefix (flat_map (told_derived objects slots) pairs) assumed [])) in
     let middle : flat_map (inactive_line prefix) objects ++ lines ≡ told_onto prefix (states ++ told) [] =
     ap (λ (t : List ℕ). flat_map (inactive_line prefix) objects ++ t) end ∙ (second objects (told_onto prefix told []) ∙ sym (told_append prefix states told [])) in
     ap (λ (t : List ℕ). flat_map (listing_line prefix objects) slots ++ t) middle

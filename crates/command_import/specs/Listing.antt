@@ -1,11 +1,13 @@
--- What was read of a layout, in its own names: a line for what each slot holds, for each thread that makes no calls, and for each slot
--- that is derived from another one.
+-- What was read of a layout, in its own names: a line for what each slot holds, for each thread that makes no calls, for each slot that
+-- is derived from another one, and for rights that were assumed.
 use Rattle.std.specs.Prelude.{ℕ, Bool, true, codes, List, [], ◌++◌, Option, Some, None, slice_get, string_bytes}
 use Rattle.std.specs.Fmt.{decimal}
 use Rattle.std.specs.List.{flat_map}
 use Rattle.cap_core.specs.declared.capability.Kind.{Kind}
 use Rattle.cap_core.specs.declared.capability.Kind.TheVariants.{Untyped, Endpoint, CNode, Tcb}
 use Rattle.setup_report.specs.Text.{rights_text}
+use Rattle.setup_layout.specs.declared.layout.AssumedRights.{AssumedRights}
+use Rattle.setup_layout.specs.declared.layout.AssumedRights.TheVariants.{NoRights, AllRights, LeastRights}
 use Rattle.setup_layout.specs.declared.layout.Layout.{Layout}
 use Rattle.setup_layout.specs.declared.layout.Object.{Object}
 use Rattle.setup_layout.specs.declared.layout.Slot.{Slot}
@@ -55,9 +57,15 @@ below_line prefix objects _ _ = []
 abbrev pub pair_line : List ℕ → List Object → List Slot → ℕ × ℕ → List ℕ
 pair_line prefix objects slots pair = below_line prefix objects (slice_get slots pair.0) (slice_get slots pair.1)
 
--- the lines of all slots, of all such threads, and of all such slots
+-- the line that says which rights capabilities have of which the layout says none, behind a prefix
+abbrev pub assumed_line : AssumedRights → List ℕ → List ℕ
+assumed_line NoRights prefix = []
+assumed_line AllRights prefix = prefix ++ codes "assumed rights all\n"
+assumed_line LeastRights prefix = prefix ++ codes "assumed rights least\n"
+
+-- the lines of all slots, of all such threads, of all such slots, and of such rights
 abbrev pub listing_lines : List ℕ → Layout → List ℕ
 listing_lines prefix layout =
     flat_map (listing_line prefix layout.objects.items) layout.slots.items
     ++ (flat_map (inactive_line prefix) layout.objects.items
-    ++ flat_map (pair_line prefix layout.objects.items layout.slots.items) layout.derived.items)
+    ++ (flat_map (pair_line prefix layout.objects.items layout.slots.items) layout.derived.items ++ assumed_line layout.assumed prefix))

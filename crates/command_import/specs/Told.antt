@@ -6,6 +6,8 @@ use Rattle.cap_core.specs.declared.capability.Guard.{Guard}
 use Rattle.cap_core.specs.declared.capability.Kind.{Kind}
 use Rattle.cap_core.specs.declared.capability.Kind.TheVariants.{Untyped, Endpoint, CNode, Tcb}
 use Rattle.cap_core.specs.Rights.{all_rights}
+use Rattle.setup_layout.specs.declared.layout.AssumedRights.{AssumedRights}
+use Rattle.setup_layout.specs.declared.layout.AssumedRights.TheVariants.{NoRights, AllRights, LeastRights}
 use Rattle.setup_layout.specs.declared.layout.Layout.{Layout}
 use Rattle.setup_layout.specs.declared.layout.Object.{Object}
 use Rattle.setup_layout.specs.declared.layout.Slot.{Slot}
@@ -14,8 +16,8 @@ use Rattle.setup_layout.specs.declared.layout.Slot.{Slot}
 abbrev pub ToldPlace : Type 0
 ToldPlace = List ℕ × Option ℕ
 
--- what one line tells: a slot with its capability, whose object has a name; a thread that makes no calls; and a slot below another one,
--- where the holder of each is there
+-- what one line tells: a slot with its capability, whose object has a name; a thread that makes no calls; a slot below another one, where
+-- the holder of each is there; and that rights were assumed, all or the least
 pub data ToldLine : Type 0 where
   HoldsUntyped : (place : ToldPlace) (name : List ℕ) (bits : ℕ) → ToldLine
   HoldsEndpoint : (place : ToldPlace) (name : List ℕ) (badge : ℕ) (rights : Rights) → ToldLine
@@ -23,6 +25,7 @@ pub data ToldLine : Type 0 where
   HoldsTcb : (place : ToldPlace) (name : List ℕ) → ToldLine
   MakesNoCalls : (name : List ℕ) → ToldLine
   StandsBelow : (below above : Option ToldPlace) → ToldLine
+  AssumesRights : (all : Bool) → ToldLine
 
 abbrev pub told_number : Kind → Slot → Option ℕ
 told_number Tcb slot = None
@@ -61,12 +64,17 @@ told_pair objects _ _ = []
 abbrev pub told_derived : List Object → List Slot → ℕ × ℕ → List ToldLine
 told_derived objects slots pair = told_pair objects (slice_get slots pair.0) (slice_get slots pair.1)
 
+abbrev pub told_assumed : AssumedRights → List ToldLine
+told_assumed NoRights = []
+told_assumed AllRights = AssumesRights true ∷ []
+told_assumed LeastRights = AssumesRights false ∷ []
+
 -- what all lines tell
 abbrev pub listing_tells : Layout → List ToldLine
 listing_tells layout =
     flat_map (told_slot layout.objects.items) layout.slots.items
     ++ (flat_map told_inactive layout.objects.items
-    ++ flat_map (told_derived layout.objects.items layout.slots.items) layout.derived.items)
+    ++ (flat_map (told_derived layout.objects.items layout.slots.items) layout.derived.items ++ told_assumed layout.assumed))
 
 -- ---- words
 

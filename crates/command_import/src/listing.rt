@@ -5,7 +5,7 @@ ghost use Rattle.command_import.specs.Listing as spec;
 ghost use Rattle.command_import.specs.Told as told;
 
 use cap_core::Kind;
-use setup_layout::{Layout, Object, Slot};
+use setup_layout::{AssumedRights, Layout, Object, Slot};
 use setup_report::RightsText;
 use std::alloc::{AllocError, Global};
 use std::fmt::Write;
@@ -186,8 +186,19 @@ fn add_pairs(
     Ok(())
 }
 
-/// What was read of a layout, in its own names: what each slot holds, the threads that make no calls, and which slot is derived from
-/// which, each in a line behind a prefix.
+/// Adds the line that says which rights were taken where the layout says none, behind a prefix.
+fn add_assumed(out: &mut String, prefix: &str, assumed: AssumedRights) -> Result<(), AllocError>
+    ensures { OnOk result (string_bytes out.new ≡ string_bytes out.old ++ spec.assumed_line assumed prefix.now) }
+{
+    match assumed {
+        AssumedRights::NoRights => Ok(()),
+        AssumedRights::AllRights => writeln!(out, "{prefix}assumed rights all"),
+        AssumedRights::LeastRights => writeln!(out, "{prefix}assumed rights least"),
+    }
+}
+
+/// What was read of a layout, in its own names: what each slot holds, the threads that make no calls, which slot is derived from which,
+/// and which rights were assumed, each in a line behind a prefix.
 pub fn listing_text(alloc: Global, layout: &Layout, prefix: &str) -> Result<String, AllocError>
     ensures { IfOk result (λ text. string_bytes text ≡ spec.listing_lines prefix.now layout.now) }
 {
@@ -196,5 +207,6 @@ pub fn listing_text(alloc: Global, layout: &Layout, prefix: &str) -> Result<Stri
     add_slots(&mut out, prefix, objects, slots)?;
     add_all_inactive(&mut out, prefix, objects)?;
     add_pairs(&mut out, prefix, objects, slots, layout.derived.as_slice())?;
+    add_assumed(&mut out, prefix, layout.assumed)?;
     Ok(out)
 }

@@ -56,6 +56,15 @@ pub struct Reading {
     pub strict: bool,
 }
 
+/// Which rights capabilities have of which a text says none.
+#[derive(Clone, Copy)]
+pub enum AssumedRights {
+    /// There is no such capability.
+    NoRights,
+    AllRights,
+    LeastRights,
+}
+
 /// What is read of a text: what is left out of it is in the gaps and in the notes.
 #[derive(Drop)]
 pub struct Layout {
@@ -67,6 +76,7 @@ pub struct Layout {
     pub slots: Vec<Slot>,
     /// Of two slots the first one above the second, which is derived from it, by their places among the slots.
     pub derived: Vec<(usize, usize)>,
+    pub assumed: AssumedRights,
     /// What is wrong with it.
     pub faults: Remarks,
     /// What may carry authority, and is left out of it or assumed.

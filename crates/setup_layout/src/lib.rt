@@ -18,7 +18,7 @@ mod slots;
 mod words;
 
 pub use fault::{Remark, Remarks};
-pub use layout::{Layout, Object, Reading, Slot};
+pub use layout::{AssumedRights, Layout, Object, Reading, Slot};
 pub use machine::Machine;
 pub use names::{LOADER, SetupName, SetupNames};
 pub use places::{FIRST_REGION_SLOT, Places, Region, Source};

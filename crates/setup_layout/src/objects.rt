@@ -75,6 +75,11 @@ pub struct Objects<'a> {
     pub hardware: Hardware<'a>,
 }
 
+/// Whether a parameter of this name may say where in the hardware an object of this kind stands.
+fn may_say_place(kind: &str, parameter: &str) -> bool {
+    HARDWARE_WORDS.contains(&kind) && !SAY_NO_PLACE.contains(&parameter)
+}
+
 impl<'a> Objects<'a> {
     /// Nothing is declared yet.
     pub fn new(alloc: Global, reading: Reading) -> Result<Objects<'a>, AllocError> {
@@ -176,7 +181,7 @@ impl<'a> Objects<'a> {
         parameter: Token<'a>,
     ) {
         let (name, kind, text) = (declared.name.text, declared.kind.text, parameter.text);
-        if !HARDWARE_WORDS.contains(&kind) || SAY_NO_PLACE.contains(&text) {
+        if !may_say_place(kind, text) {
             return;
         }
         if self.reading.flows || kind == "ut" {

@@ -3,7 +3,7 @@ use crate::derived::Tree;
 use crate::fault::Topic;
 use crate::flows::add_flows;
 use crate::kinds::{ARCHES, NARROW_ARCHES, place_of};
-use crate::layout::{Layout, Reading};
+use crate::layout::{AssumedRights, Layout, Reading};
 use crate::names::{SetupNames, names_of};
 use crate::objects::Objects;
 use crate::places::{Places, places_of};
@@ -154,6 +154,11 @@ fn layout_of(alloc: Global, text: &str, reading: Reading) -> Result<Layout, Allo
         objects: objects.objects,
         slots: slots.slots,
         derived,
+        assumed: if slots.are_rights_assumed {
+            AssumedRights::AllRights
+        } else {
+            AssumedRights::NoRights
+        },
         faults: words.faults,
         gaps: words.gaps,
         notes: words.notes,

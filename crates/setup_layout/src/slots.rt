@@ -73,6 +73,8 @@ pub struct Slots<'a> {
     pub named: HashMap<&'a str, usize>,
     /// The names of capabilities that are left out.
     pub left_out: HashMap<&'a str, bool>,
+    /// Whether there is a capability that has all rights, since the text says none.
+    pub are_rights_assumed: bool,
 }
 
 /// The bits of the rights that letters mean; none where one means none. An endpoint has no right to execute.
@@ -296,6 +298,7 @@ impl<'a> Slots<'a> {
             places: HashMap::new(alloc),
             named: HashMap::new(alloc),
             left_out: HashMap::new(alloc),
+            are_rights_assumed: false,
         }
     }
 
@@ -582,6 +585,7 @@ impl<'a> Slots<'a> {
         self.check(words, slot, (holder.kind, place), number, object.kind);
         if slot.cap.rights.is_none() && objects.needs_rights(slot.object, slot.holder) {
             say_assumed(words, slot);
+            self.are_rights_assumed = true;
         }
         let (machine, bits) = (Machine::of(objects.profile), object.bits);
         match object.kind {

@@ -1,7 +1,7 @@
 //! The reading of a layout in either language.
 use crate::system::System;
 use setup_layout::{
-    Layout, ReadLayout, Reading, Remarks, Scanner, Spot, read_layout, without_front,
+    AssumedRights, Layout, ReadLayout, Reading, Remarks, Scanner, Spot, read_layout, without_front,
 };
 use std::alloc::{AllocError, Global};
 
@@ -62,6 +62,11 @@ fn read_system(alloc: Global, text: &str, reading: Reading) -> Result<ReadLayout
     if faults.is_refused || gaps.is_refused || notes.is_refused || named.is_refused {
         return Err(AllocError);
     }
+    read.layout.assumed = if reading.all_rights {
+        AssumedRights::AllRights
+    } else {
+        AssumedRights::LeastRights
+    };
     read.layout.faults = faults;
     read.layout.gaps = gaps;
     read.layout.notes = notes;
