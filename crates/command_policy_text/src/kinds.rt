@@ -1,25 +1,260 @@
 //! The kinds of lines: what is told of a layout, one kind after another.
-ghost use Rattle.std.specs.Prelude.{◌≡◌, ◌++◌, IfOk};
+ghost use Rattle.std.specs.Prelude.{◌≡◌, ◌++◌, nat_lt, IfOk};
+ghost use Rattle.command_policy_breaches.specs.Unused.{count_of_parts as count_of_parts_at};
 ghost use Rattle.command_policy_text.specs.Kinds as spec;
 
 use crate::told::{Held, Told};
 use command_policy_breaches::{
-    Join, Passage, badges_amiss, count_of_parts, holds, joins_amiss, parts_of_several,
-    passages_amiss, regions_amiss, rights_amiss, unlisted, unused_regions, unused_uses,
-    unused_ways, uses_with_idle_rights, waits_amiss, ways_with_idle_rights,
+    HeldRegion, Hold, Home, Join, Passage, Waiting, badges_amiss, count_of_parts, holds,
+    joins_amiss, parts_of_several, passages_amiss, regions_amiss, rights_amiss, unlisted,
+    unused_regions, unused_uses, unused_ways, uses_with_idle_rights, waits_amiss,
+    ways_with_idle_rights,
 };
-use setup_policy::Policy;
+use list_questions::{Asks, Makes, each, those};
+use query_parts::PartUse;
+use setup_policy::{Allowance, Member, OwnRegion, Policy, PolicyWay};
 use std::alloc::{AllocError, Global};
+
+#[derive(Clone, Copy)]
+struct AsSilent;
+
+impl Makes<Member, Told> for AsSilent {
+    ghost use Rattle.command_policy_text.specs.declared.told.Told.TheVariants.{Silent};
+
+    ghost made = { λ m member. Silent member.thread };
+
+    fn make(&self, member: &Member) -> Told {
+        Told::Silent(member.thread)
+    }
+}
+
+#[derive(Clone, Copy)]
+struct AsMessages;
+
+impl Makes<Member, Told> for AsMessages {
+    ghost use Rattle.command_policy_text.specs.declared.told.Told.TheVariants.{Messages};
+
+    ghost made = { λ m member. Messages member.thread };
+
+    fn make(&self, member: &Member) -> Told {
+        Told::Messages(member.thread)
+    }
+}
+
+#[derive(Clone, Copy)]
+struct AsGroup;
+
+impl Makes<u64, Told> for AsGroup {
+    ghost use Rattle.command_policy_text.specs.declared.told.Told.TheVariants.{Group};
+
+    ghost made = { λ m group. Group group };
+
+    fn make(&self, group: &u64) -> Told {
+        Told::Group(*group)
+    }
+}
+
+#[derive(Clone, Copy)]
+struct AsJoined;
+
+impl Makes<u64, Told> for AsJoined {
+    ghost use Rattle.command_policy_text.specs.declared.told.Told.TheVariants.{Joined};
+
+    ghost made = { λ m part. Joined part };
+
+    fn make(&self, part: &u64) -> Told {
+        Told::Joined(*part)
+    }
+}
+
+#[derive(Clone, Copy)]
+struct AsGrant;
+
+impl Makes<Join, Told> for AsGrant {
+    ghost use Rattle.command_policy_text.specs.declared.told.Told.TheVariants.{Grant};
+
+    ghost made = { λ m join. Grant join };
+
+    fn make(&self, join: &Join) -> Told {
+        Told::Grant(*join)
+    }
+}
+
+#[derive(Clone, Copy)]
+struct AsThread;
+
+impl Makes<Hold, Told> for AsThread {
+    ghost use Rattle.command_policy_text.specs.declared.told.Told.TheVariants.{Thread};
+
+    ghost made = { λ m hold. Thread hold };
+
+    fn make(&self, hold: &Hold) -> Told {
+        Told::Thread(*hold)
+    }
+}
+
+#[derive(Clone, Copy)]
+struct AsRegion;
+
+impl Makes<HeldRegion, Told> for AsRegion {
+    ghost use Rattle.command_policy_text.specs.declared.told.Told.TheVariants.{Region};
+
+    ghost made = { λ m region. Region region };
+
+    fn make(&self, region: &HeldRegion) -> Told {
+        Told::Region(*region)
+    }
+}
+
+#[derive(Clone, Copy)]
+struct AsUse;
+
+impl Makes<PartUse, Told> for AsUse {
+    ghost use Rattle.command_policy_text.specs.declared.told.Told.TheVariants.{Use};
+
+    ghost made = { λ m used. Use used };
+
+    fn make(&self, used: &PartUse) -> Told {
+        Told::Use(*used)
+    }
+}
+
+#[derive(Clone, Copy)]
+struct AsBadge;
+
+impl Makes<PartUse, Told> for AsBadge {
+    ghost use Rattle.command_policy_text.specs.declared.told.Told.TheVariants.{Badge};
+
+    ghost made = { λ m used. Badge used };
+
+    fn make(&self, used: &PartUse) -> Told {
+        Told::Badge(*used)
+    }
+}
+
+#[derive(Clone, Copy)]
+struct AsRight;
+
+impl Makes<PartUse, Told> for AsRight {
+    ghost use Rattle.command_policy_text.specs.declared.told.Told.TheVariants.{Right};
+
+    ghost made = { λ m used. Right used };
+
+    fn make(&self, used: &PartUse) -> Told {
+        Told::Right(*used)
+    }
+}
+
+#[derive(Clone, Copy)]
+struct AsWay;
+
+impl Makes<Passage, Told> for AsWay {
+    ghost use Rattle.command_policy_text.specs.declared.told.Told.TheVariants.{Way};
+
+    ghost made = { λ m passage. Way passage };
+
+    fn make(&self, passage: &Passage) -> Told {
+        Told::Way(*passage)
+    }
+}
+
+#[derive(Clone, Copy)]
+struct AsWaits;
+
+impl Makes<Waiting, Told> for AsWaits {
+    ghost use Rattle.command_policy_text.specs.declared.told.Told.TheVariants.{Waits};
+
+    ghost made = { λ m wait. Waits wait };
+
+    fn make(&self, wait: &Waiting) -> Told {
+        Told::Waits(*wait)
+    }
+}
+
+#[derive(Clone, Copy)]
+struct AsUnusedWay;
+
+impl Makes<PolicyWay, Told> for AsUnusedWay {
+    ghost use Rattle.command_policy_text.specs.declared.told.Told.TheVariants.{UnusedWay};
+
+    ghost made = { λ m way. UnusedWay way };
+
+    fn make(&self, way: &PolicyWay) -> Told {
+        Told::UnusedWay(*way)
+    }
+}
+
+#[derive(Clone, Copy)]
+struct AsUnusedUse;
+
+impl Makes<Allowance, Told> for AsUnusedUse {
+    ghost use Rattle.command_policy_text.specs.declared.told.Told.TheVariants.{UnusedUse};
+
+    ghost made = { λ m used. UnusedUse used };
+
+    fn make(&self, used: &Allowance) -> Told {
+        Told::UnusedUse(*used)
+    }
+}
+
+#[derive(Clone, Copy)]
+struct AsIdleInWay;
+
+impl Makes<PolicyWay, Told> for AsIdleInWay {
+    ghost use Rattle.command_policy_text.specs.declared.told.Told.TheVariants.{IdleInWay};
+
+    ghost made = { λ m way. IdleInWay way };
+
+    fn make(&self, way: &PolicyWay) -> Told {
+        Told::IdleInWay(*way)
+    }
+}
+
+#[derive(Clone, Copy)]
+struct AsIdleInUse;
+
+impl Makes<Allowance, Told> for AsIdleInUse {
+    ghost use Rattle.command_policy_text.specs.declared.told.Told.TheVariants.{IdleInUse};
+
+    ghost made = { λ m used. IdleInUse used };
+
+    fn make(&self, used: &Allowance) -> Told {
+        Told::IdleInUse(*used)
+    }
+}
+
+#[derive(Clone, Copy)]
+struct AsUnusedRegion;
+
+impl Makes<OwnRegion, Told> for AsUnusedRegion {
+    ghost use Rattle.command_policy_text.specs.declared.told.Told.TheVariants.{UnusedRegion};
+
+    ghost made = { λ m own. UnusedRegion own };
+
+    fn make(&self, own: &OwnRegion) -> Told {
+        Told::UnusedRegion(*own)
+    }
+}
+
+#[derive(Clone, Copy)]
+struct AsUnusedGroup;
+
+impl Makes<u64, Told> for AsUnusedGroup {
+    ghost use Rattle.command_policy_text.specs.declared.told.Told.TheVariants.{UnusedGroup};
+
+    ghost made = { λ m group. UnusedGroup group };
+
+    fn make(&self, group: &u64) -> Told {
+        Told::UnusedGroup(*group)
+    }
+}
 
 /// The threads that are trusted to make no more calls.
 pub fn silent(alloc: Global, policy: &Policy) -> Result<Vec<Told>, AllocError>
     ensures { IfOk result (λ v. v.items ≡ spec.silent policy.now) }
 {
     let threads = policy.silent.as_slice();
-    threads
-        .iter()
-        .map(|member| Told::Silent(member.thread))
-        .collect(alloc)
+    each(alloc, threads, &AsSilent)
 }
 
 /// The threads that are trusted to send and to receive.
@@ -27,10 +262,7 @@ pub fn messages(alloc: Global, policy: &Policy) -> Result<Vec<Told>, AllocError>
     ensures { IfOk result (λ v. v.items ≡ spec.messages policy.now) }
 {
     let threads = policy.messages.as_slice();
-    threads
-        .iter()
-        .map(|member| Told::Messages(member.thread))
-        .collect(alloc)
+    each(alloc, threads, &AsMessages)
 }
 
 /// The groups.
@@ -38,10 +270,7 @@ pub fn groups(alloc: Global, policy: &Policy) -> Result<Vec<Told>, AllocError>
     ensures { IfOk result (λ v. v.items ≡ spec.groups policy.now) }
 {
     let groups = policy.groups.as_slice();
-    groups
-        .iter()
-        .map(|group| Told::Group(*group))
-        .collect(alloc)
+    each(alloc, groups, &AsGroup)
 }
 
 /// The parts in which threads of several groups are.
@@ -50,7 +279,7 @@ pub fn joined(alloc: Global, held: Held<'_>) -> Result<Vec<Told>, AllocError>
 {
     let parts = parts_of_several(alloc, held.layout)?;
     let parts = parts.as_slice();
-    parts.iter().map(|part| Told::Joined(*part)).collect(alloc)
+    each(alloc, parts, &AsJoined)
 }
 
 /// What parts can hand to each other.
@@ -59,7 +288,7 @@ pub fn grants(alloc: Global, held: Held<'_>, joins: &[Join]) -> Result<Vec<Told>
 {
     let joins = joins_amiss(alloc, held.layout, joins)?;
     let joins = joins.as_slice();
-    joins.iter().map(|join| Told::Grant(*join)).collect(alloc)
+    each(alloc, joins, &AsGrant)
 }
 
 /// The trusted threads whose control blocks parts have.
@@ -70,7 +299,7 @@ pub fn threads(alloc: Global, held: Held<'_>) -> Result<Vec<Told>, AllocError>
     let others = holds(alloc, held.layout, held.policy.messages.as_slice())?;
     all.extend_from_slice(others.as_slice())?;
     let all = all.as_slice();
-    all.iter().map(|hold| Told::Thread(*hold)).collect(alloc)
+    each(alloc, all, &AsThread)
 }
 
 /// The untyped regions that parts have and that are none of their own.
@@ -79,10 +308,7 @@ pub fn regions(alloc: Global, held: Held<'_>) -> Result<Vec<Told>, AllocError>
 {
     let regions = regions_amiss(alloc, held.policy, held.layout)?;
     let regions = regions.as_slice();
-    regions
-        .iter()
-        .map(|region| Told::Region(*region))
-        .collect(alloc)
+    each(alloc, regions, &AsRegion)
 }
 
 /// The capabilities to endpoints of which the part has no entry.
@@ -91,7 +317,7 @@ pub fn uses(alloc: Global, held: Held<'_>) -> Result<Vec<Told>, AllocError>
 {
     let uses = unlisted(alloc, held.policy, held.layout)?;
     let uses = uses.as_slice();
-    uses.iter().map(|used| Told::Use(*used)).collect(alloc)
+    each(alloc, uses, &AsUse)
 }
 
 /// The capabilities with another badge than the part's entries.
@@ -100,7 +326,7 @@ pub fn badges(alloc: Global, held: Held<'_>) -> Result<Vec<Told>, AllocError>
 {
     let uses = badges_amiss(alloc, held.policy, held.layout)?;
     let uses = uses.as_slice();
-    uses.iter().map(|used| Told::Badge(*used)).collect(alloc)
+    each(alloc, uses, &AsBadge)
 }
 
 /// The capabilities with a right that none of the part's entries has.
@@ -109,7 +335,7 @@ pub fn rights(alloc: Global, held: Held<'_>) -> Result<Vec<Told>, AllocError>
 {
     let uses = rights_amiss(alloc, held.policy, held.layout)?;
     let uses = uses.as_slice();
-    uses.iter().map(|used| Told::Right(*used)).collect(alloc)
+    each(alloc, uses, &AsRight)
 }
 
 /// What no way lets pass, but for badges that are told of what is held.
@@ -143,10 +369,7 @@ pub fn ways(alloc: Global, held: Held<'_>, passages: &[Passage]) -> Result<Vec<T
 {
     let amiss = untold_passages(alloc, held, passages)?;
     let amiss = amiss.as_slice();
-    amiss
-        .iter()
-        .map(|passage| Told::Way(*passage))
-        .collect(alloc)
+    each(alloc, amiss, &AsWay)
 }
 
 /// The threads that wait where no entry lets them.
@@ -155,7 +378,7 @@ pub fn waits(alloc: Global, held: Held<'_>) -> Result<Vec<Told>, AllocError>
 {
     let waits = waits_amiss(alloc, held.policy, held.layout)?;
     let waits = waits.as_slice();
-    waits.iter().map(|wait| Told::Waits(*wait)).collect(alloc)
+    each(alloc, waits, &AsWaits)
 }
 
 /// The ways of which nothing is there.
@@ -164,7 +387,7 @@ pub fn idle_ways(alloc: Global, held: Held<'_>) -> Result<Vec<Told>, AllocError>
 {
     let ways = unused_ways(alloc, held.policy, held.layout)?;
     let ways = ways.as_slice();
-    ways.iter().map(|way| Told::UnusedWay(*way)).collect(alloc)
+    each(alloc, ways, &AsUnusedWay)
 }
 
 /// The uses of which nothing is there.
@@ -173,9 +396,7 @@ pub fn idle_uses(alloc: Global, held: Held<'_>) -> Result<Vec<Told>, AllocError>
 {
     let uses = unused_uses(alloc, held.policy, held.layout)?;
     let uses = uses.as_slice();
-    uses.iter()
-        .map(|used| Told::UnusedUse(*used))
-        .collect(alloc)
+    each(alloc, uses, &AsUnusedUse)
 }
 
 fn idle_in_ways(alloc: Global, held: Held<'_>) -> Result<Vec<Told>, AllocError>
@@ -183,7 +404,7 @@ fn idle_in_ways(alloc: Global, held: Held<'_>) -> Result<Vec<Told>, AllocError>
 {
     let ways = ways_with_idle_rights(alloc, held.policy, held.layout)?;
     let ways = ways.as_slice();
-    ways.iter().map(|way| Told::IdleInWay(*way)).collect(alloc)
+    each(alloc, ways, &AsIdleInWay)
 }
 
 fn idle_in_uses(alloc: Global, held: Held<'_>) -> Result<Vec<Told>, AllocError>
@@ -191,9 +412,7 @@ fn idle_in_uses(alloc: Global, held: Held<'_>) -> Result<Vec<Told>, AllocError>
 {
     let uses = uses_with_idle_rights(alloc, held.policy, held.layout)?;
     let uses = uses.as_slice();
-    uses.iter()
-        .map(|used| Told::IdleInUse(*used))
-        .collect(alloc)
+    each(alloc, uses, &AsIdleInUse)
 }
 
 /// The rights of ways and of uses that nothing has.
@@ -212,10 +431,19 @@ pub fn idle_regions(alloc: Global, held: Held<'_>) -> Result<Vec<Told>, AllocErr
 {
     let regions = unused_regions(alloc, held.policy, held.layout)?;
     let regions = regions.as_slice();
-    regions
-        .iter()
-        .map(|own| Told::UnusedRegion(*own))
-        .collect(alloc)
+    each(alloc, regions, &AsUnusedRegion)
+}
+
+/// Whether the threads of a group are several parts.
+#[derive(Clone, Copy)]
+struct OfSeveralParts<'a>(&'a [Home]);
+
+impl Asks<u64> for OfSeveralParts<'_> {
+    ghost holds = { λ q group. nat_lt 1 (count_of_parts_at q.0.now group) };
+
+    fn holds(&self, group: &u64) -> bool {
+        count_of_parts(self.0, *group) > 1
+    }
 }
 
 /// The groups whose threads are several parts.
@@ -223,9 +451,6 @@ pub fn idle_groups(alloc: Global, held: Held<'_>) -> Result<Vec<Told>, AllocErro
     ensures { IfOk result (λ v. v.items ≡ spec.idle_groups held.entry.policy.now held.entry.homes.now) }
 {
     let groups = held.policy.groups.as_slice();
-    groups
-        .iter()
-        .filter(|group| count_of_parts(held.homes, **group) > 1)
-        .map(|group| Told::UnusedGroup(*group))
-        .collect(alloc)
+    let several = those(alloc, groups, &OfSeveralParts(held.homes))?;
+    each(alloc, several.as_slice(), &AsUnusedGroup)
 }

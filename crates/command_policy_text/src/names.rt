@@ -4,6 +4,7 @@ ghost use Rattle.std.specs.List.{flat_map};
 ghost use Rattle.command_policy_text.specs.Names as spec;
 
 use command_policy_breaches::{Layout, groups_at};
+use list_questions::{Asks, first};
 use setup_policy::{Label, Policy};
 use std::alloc::{AllocError, Global};
 use std::fmt;
@@ -28,16 +29,22 @@ impl fmt::Display for ObjectText<'_> {
     }
 }
 
-fn first_label(labels: &[Label], base: u64) -> Option<&Label>
-    ensures { option_copied result ≡ find (λ l. l.base == base) labels.now }
-{
-    labels.iter().find(|label| label.base == base)
+/// Whether a name is of the object at an address.
+#[derive(Clone, Copy)]
+struct NameAt(u64);
+
+impl Asks<Label> for NameAt {
+    ghost holds = { λ q label. label.base == q.0 };
+
+    fn holds(&self, label: &Label) -> bool {
+        label.base == self.0
+    }
 }
 
 fn label_of(labels: &[Label], base: u64) -> Option<&str>
     ensures { option_copied result ≡ spec.label_of labels.entry.now base }
 {
-    match first_label(labels, base) {
+    match first(labels, &NameAt(base)) {
         None => None,
         Some(label) => Some(label.text.as_str()),
     }

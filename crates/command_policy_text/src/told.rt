@@ -13,6 +13,7 @@ use command_policy_breaches::{
     End, HeldRegion, Hold, Home, Join, Layout, Passage, Waiting, count_of_parts, groups_at,
     is_entry, is_idle, lets_ever, strays,
 };
+use list_questions::{Asks, Makes, each, those};
 use query_parts::PartUse;
 use setup_policy::{Allowance, Labels, Member, OwnRegion, Policy, PolicyWay, sender_entry};
 use setup_report::RightsText;
@@ -115,15 +116,22 @@ fn joined_text(alloc: Global, held: Held<'_>, part: u64) -> Result<String, Alloc
     Ok(out)
 }
 
+/// Whether a thread is of a group.
+#[derive(Clone, Copy)]
+struct MemberOf(u64);
+
+impl Asks<Member> for MemberOf {
+    ghost holds = { λ q member. member.actor == q.0 };
+
+    fn holds(&self, member: &Member) -> bool {
+        member.actor == self.0
+    }
+}
+
 fn members_of(alloc: Global, policy: &Policy, group: u64) -> Result<Vec<Member>, AllocError>
     ensures { IfOk result (λ v. v.items ≡ filter (λ m. m.actor == group) policy.now.members.items) }
 {
-    let members = policy.members.as_slice();
-    members
-        .iter()
-        .filter(|member| member.actor == group)
-        .copied()
-        .collect(alloc)
+    those(alloc, policy.members.as_slice(), &MemberOf(group))
 }
 
 fn thread_text(alloc: Global, labels: &Labels, thread: u64) -> Result<String, AllocError>
@@ -230,15 +238,38 @@ pub fn is_other_badge(held: Held<'_>, used: &PartUse, entry: &Allowance) -> bool
             || has_strayed(held, used, entry, Rights::GRANT_REPLY))
 }
 
+/// Whether an entry has a badge that stands in place of that of a use.
+#[derive(Clone, Copy)]
+struct InPlaceOf<'a> {
+    held: Held<'a>,
+    used: PartUse,
+}
+
+impl Asks<Allowance> for InPlaceOf<'_> {
+    ghost holds = { λ q entry. spec.is_other_badge q.held.policy.now q.held.layout.now q.used entry };
+
+    fn holds(&self, entry: &Allowance) -> bool {
+        is_other_badge(self.held, &self.used, entry)
+    }
+}
+
+#[derive(Clone, Copy)]
+struct BadgeOf;
+
+impl Makes<Allowance, u64> for BadgeOf {
+    ghost made = { λ m entry. entry.badge };
+
+    fn make(&self, entry: &Allowance) -> u64 {
+        entry.badge
+    }
+}
+
 fn other_badges(alloc: Global, held: Held<'_>, used: &PartUse) -> Result<Vec<u64>, AllocError>
     ensures { IfOk result (λ v. v.items ≡ map (λ a. a.badge) (filter (spec.is_other_badge held.entry.policy.now held.entry.layout.now used.now) held.entry.policy.now.allowances.items)) }
 {
     let entries = held.policy.allowances.as_slice();
-    entries
-        .iter()
-        .filter(|entry| is_other_badge(held, used, entry))
-        .map(|entry| entry.badge)
-        .collect(alloc)
+    let others = those(alloc, entries, &InPlaceOf { held, used: *used })?;
+    each(alloc, others.as_slice(), &BadgeOf)
 }
 
 /// The badges that the part may have in place of that of a use.
