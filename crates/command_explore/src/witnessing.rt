@@ -28,7 +28,7 @@ fn witness_text(alloc: Global, made: Option<Table>) -> Result<Answer, AllocError
 }
 
 /// A set-up in the newest format with the calls of the first order that tells what the witness is of. It is made by the plain
-/// forms, as `Explore` does. The verdict is `AllMet`, or `Absent` with nothing written where no order is told for the witness.
+/// forms. The verdict is `AllMet`, or `Absent` with nothing written where no order is told for the witness.
 #[derive(Clone, Copy, Drop)]
 pub struct WriteWitness {
     pub options: ExploreOptions,
