@@ -89,7 +89,7 @@ LINES = [
     ("trace --names", 0, "  + endpoint 6144 sending 2048\n"),
     ("why --names", 0, "refused 0 of 2\nexpected 1 of 1\n"),
     ("threads --names", 0, "entries 2 of 2\n"),
-    ("explore --names", 0, "explore 1 wide clients 1 calls 2\n"),
+    ("explore --names", 0, "explore 2 wide clients 1 calls 2\n"),
     ("explore --names --witness 2.1", 4, REFUSED),
     ("audit --slot 32 --names", 0, "audit 2 wide memory_bits 16 calls 2 after 2 slot 32\n"),
     ("audit --without 2048", 0, "audit 2 wide memory_bits 16 calls 2 after 2\nwithout 2048\n"),
@@ -116,7 +116,7 @@ LINES = [
     ("audit --policy text.toml --how 1", 2, "policy refused 600 at text\n"),
     ("audit --how 1", 4, REFUSED),
     # orders
-    ("explore", 0, "explore 1 wide clients 1 calls 2\n"),
+    ("explore", 0, "explore 2 wide clients 1 calls 2\n"),
     ("explore --witness 2.1", 0, "format = 2\n"),
     ("explore --witness 2.2", 4, REFUSED),
     ("explore --witness stuck.1", 4, REFUSED),

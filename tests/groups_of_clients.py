@@ -115,7 +115,7 @@ def answers_of(report):
         if head:
             found[head] = answers = set()
         else:
-            answers.add(re.sub(r" \[not met\] by.*", "", line.split(" ", 1)[1]))
+            answers.add(re.sub(r" \[not met\] (by|in order to) .*", "", line.split(" ", 1)[1]))
     return found
 
 
@@ -132,7 +132,7 @@ def faults(program, profile, calls, first):
     wrong += ["the groups"] if {tuple(clients) for clients, *_ in groups} != wanted else []
     wrong += ["the answers"] if answers_of(whole) != answers_of(report) else []
     wrong += ["the ends"] if math.prod(count for _, _, count, _, _ in groups) != ends else []
-    wrong += ["what ends stuck"] if (stuck > 0) != any(it[4] for it in groups) or (stuck > 0) != ("\nstuck.1 by" in report) else []
+    wrong += ["what ends stuck"] if (stuck > 0) != any(it[4] for it in groups) or (stuck > 0) != ("\nstuck.1 " in report) else []
     wrong += ["expectations"] if whole.splitlines()[-1] != report.splitlines()[-1] or status != status_by_groups else []
     if len(groups) == 1 and [f"states {groups[0][1]} ends", f"orders {groups[0][3]} stuck"] != [
             " ".join(line.split()[:3]) for line in whole.splitlines()[-3:-1]]:

@@ -112,6 +112,13 @@ def is_met(answer, expect):
     return any(part == expect or part.startswith(f"{expect} ") for part in parts)
 
 
+def order_text(order):
+    """How a report tells an order: by the numbers of its calls, or, if these are the first calls of the set-up in its own order, by the
+    last one."""
+    is_own = order == list(range(1, len(order) + 1))
+    return f"in order to {len(order)}" if is_own else " ".join(["by", *map(str, order)])
+
+
 class Orders:
     """All orders of a set-up's calls, made one by one."""
 
@@ -199,14 +206,14 @@ class Orders:
 
     def lines(self):
         """The report, but for its counts of states."""
-        yield f"explore 1 {self.profile} clients {CLIENTS} calls {len(self.calls)}"
+        yield f"explore 2 {self.profile} clients {CLIENTS} calls {len(self.calls)}"
         for number, call in enumerate(self.calls, 1):
             yield f"{number} client {call['client']}: {call['thread']} {call['op']}{self.mark(number)}"
             for place, (answer, order) in enumerate(self.answers[number].items(), 1):
                 is_missed = "expect" in call and not is_met(answer, call["expect"])
-                yield f"  {number}.{place} {answer}" + (f" [not met] by {' '.join(map(str, order))}" if is_missed else "")
+                yield f"  {number}.{place} {answer}" + (f" [not met] {order_text(order)}" if is_missed else "")
         for place, (lines, order) in enumerate(self.stuck.items(), 1):
-            yield f"stuck.{place} by {' '.join(map(str, order))}".rstrip() if order else f"stuck.{place} by"
+            yield f"stuck.{place} {order_text(order)}"
             yield from lines
         yield f"orders {self.ended} stuck {self.ended_stuck}"
         expected = [n for n, call in enumerate(self.calls, 1) if "expect" in call]

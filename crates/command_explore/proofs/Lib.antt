@@ -10,3 +10,5 @@ pub mod Entries
 pub mod NoLonger
 pub mod Limits
 pub mod Replay
+pub mod Counted
+pub mod Taken

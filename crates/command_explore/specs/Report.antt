@@ -28,7 +28,7 @@ use Rattle.command_explore.specs.Views.{ExploredView}
 -- the version of the report's form, and how large the set-up is
 abbrev pub explore_head_line : SetupView → List ℕ
 explore_head_line setup =
-    terminated (codes "explore 1 " ++ (profile_text setup.profile ++ (codes " clients " ++ (decimal setup.clients ++ (codes " calls " ++ decimal (length setup.calls))))))
+    terminated (codes "explore 2 " ++ (profile_text setup.profile ++ (codes " clients " ++ (decimal setup.clients ++ (codes " calls " ++ decimal (length setup.calls))))))
 
 abbrev pub count_lines : ℕ → ℕ → ℕ → ℕ → List ℕ
 count_lines states ends orders stuck =

@@ -17,7 +17,7 @@ use Rattle.query_orders.specs.declared.answer.Answer.TheVariants.{Replied, Serve
 use Rattle.query_orders.specs.declared.left.LeftCall.{LeftCall}
 use Rattle.query_orders.specs.Answers.{Answered}
 use Rattle.query_orders.specs.Ends.{StuckEnd}
-use Rattle.command_explore.specs.Numbers.{call_number_at, order_text}
+use Rattle.command_explore.specs.Numbers.{call_number_at, order_numbers, order_text}
 
 -- ---- answers
 
@@ -51,7 +51,7 @@ is_answer_of numbers number a = call_number_at numbers a.client a.place == numbe
 -- the order with an answer, where it does not meet the expectation
 abbrev pub unmet_order_text : List (List ℕ) → Bool → List ℕ → List ℕ
 unmet_order_text numbers false order = []
-unmet_order_text numbers true order = codes " [not met] by" ++ order_text numbers [] order
+unmet_order_text numbers true order = codes " [not met]" ++ order_text (codes "by") (order_numbers numbers [] order)
 
 abbrev pub call_answer_line : Texts → List (List ℕ) → ℕ → ℕ → Option (List ℕ) → Answered → List ℕ
 call_answer_line texts numbers number place expected a =
@@ -131,7 +131,7 @@ left_line texts numbers call =
 
 abbrev pub stuck_block : Texts → List (List ℕ) → ℕ → StuckEnd → List ℕ
 stuck_block texts numbers place s =
-    codes "stuck." ++ (decimal place ++ (codes " by" ++ (order_text numbers [] s.order ++ (codes "\n" ++ flat_map (left_line texts numbers) s.left))))
+    codes "stuck." ++ (decimal place ++ (order_text (codes "by") (order_numbers numbers [] s.order) ++ (codes "\n" ++ flat_map (left_line texts numbers) s.left)))
 
 abbrev pub stuck_blocks : Texts → List (List ℕ) → ℕ → List StuckEnd → List ℕ
 stuck_blocks texts numbers place [] = []

@@ -6,8 +6,9 @@ import { drawOpeners } from "./opener.mjs";
 
 const ONE_CLIENT = /^explore \d+ \w+ clients 1 /u;
 const CALL = /^(\d+) (client \d+: \d+ \w+)(?: \[(.*)\])?$/u;
-const ANSWER = /^ {2}(\d+\.\d+) (.*?)(?: (\[not met\]) by ([\d ]+))?$/u;
-const STUCK = /^(stuck\.\d+) by ([\d ]*)$/u;
+// An order is `by` and the numbers of its calls, or `in order to N`: the first N calls in the order of the set-up.
+const ANSWER = /^ {2}(\d+\.\d+) (.*?)(?: (\[not met\]) (by [\d ]+|in order to \d+))?$/u;
+const STUCK = /^(stuck\.\d+) (by [\d ]+|in order to \d+)$/u;
 
 /** The mark of a call: whether its expectation is met, in which orders. */
 function drawMark(mark) {
@@ -21,12 +22,13 @@ function drawCall([, number, words, mark], { go }) {
     { class: "line call", title: "To this call in the set-up" });
 }
 
-/** An order of calls, each with a way to it. */
+/** An order of calls, each with a way to it: of `by 1 3 2` all three, and of `in order to 3` the last one. */
 function drawOrder(order, go) {
-  return order.split(" ").filter(Boolean).map((number) => {
-    const call = button(number, () => go(Number(number)), { class: "link step", title: `To call ${number} in the set-up` });
-    return [" ", call];
-  });
+  const [first, ...rest] = order.split(" ");
+  const numbers = first === "by" ? rest : rest.slice(-1);
+  const calls = numbers.map((number) => [" ",
+    button(number, () => go(Number(number)), { class: "link step", title: `To call ${number} in the set-up` })]);
+  return first === "by" ? [" by the calls", calls] : [" in the set-up's order to call", calls];
 }
 
 /** A button that opens the order of a name as a set-up. */
@@ -36,13 +38,12 @@ const drawOpener = (name, open) => drawOpeners([{ words: "open this order",
 function drawAnswer([, name, answer, missed, order], { go, open }) {
   return element("div", { class: missed ? "line answer missed-answer" : "line answer" },
     element("span", { class: "dim" }, name), " ", answer,
-    missed ? [" ", element("span", { class: "tag missed" }, "not met"), " by the calls", drawOrder(order, go), " ",
-      drawOpener(name, open)] : null);
+    missed ? [" ", element("span", { class: "tag missed" }, "not met"), drawOrder(order, go), " ", drawOpener(name, open)] : null);
 }
 
 function drawStuck([, name, order], { go, open }) {
-  return element("div", { class: "line stuck" }, element("span", { class: "tag missed" }, name), " after the calls",
-    drawOrder(order, go), "; then no client can go on: ", drawOpener(name, open));
+  return element("div", { class: "line stuck" }, element("span", { class: "tag missed" }, name), drawOrder(order, go),
+    "; then no client can go on: ", drawOpener(name, open));
 }
 
 const drawOneClient = () => element("p", {}, "One client makes all calls, so there is one order. There are more where calls name "

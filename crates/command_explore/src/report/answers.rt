@@ -154,8 +154,8 @@ fn add_answer(
     };
     write!(out, "  {number}.{place} {text}")?;
     if misses(alloc, answer.answer, expected)? {
-        write!(out, " [not met] by")?;
-        add_order(alloc, out, numbers, &answer.order)?;
+        write!(out, " [not met]")?;
+        add_order(alloc, out, numbers, "by", &answer.order)?;
     }
     writeln!(out)
 }

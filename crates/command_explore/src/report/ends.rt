@@ -71,8 +71,8 @@ fn add_stuck_end(
     ensures { OnOk result (string_bytes out.new ≡ string_bytes out.old
         ++ spec.stuck_block (naming_view naming.now) (numbers_in numbers.now) place (stuck_end stuck.now.order stuck.now.left.items)) }
 {
-    write!(out, "stuck.{place} by")?;
-    add_order(alloc, out, numbers, &stuck.order)?;
+    write!(out, "stuck.{place}")?;
+    add_order(alloc, out, numbers, "by", &stuck.order)?;
     writeln!(out)?;
     add_left(out, naming, numbers, stuck.left.as_slice())
 }

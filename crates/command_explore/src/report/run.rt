@@ -43,7 +43,7 @@ pub fn add_head(out: &mut String, setup: &Setup) -> Result<(), AllocError>
     let profile = profile_text(setup.profile());
     let clients = setup.clients();
     let calls = setup.calls().len();
-    writeln!(out, "explore 1 {profile} clients {clients} calls {calls}")
+    writeln!(out, "explore 2 {profile} clients {clients} calls {calls}")
 }
 
 /// Adds how many states and orders there are, where all orders are explored.

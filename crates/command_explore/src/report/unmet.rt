@@ -28,8 +28,8 @@ fn add_unmet(
         naming: &Naming::plain(),
         answer: answer.answer,
     };
-    let mut text = format!(in alloc; "{shown}, and not {expected}, in the order")?;
-    add_order(alloc, &mut text, numbers, &answer.order)?;
+    let mut text = format!(in alloc; "{shown}, and not {expected},")?;
+    add_order(alloc, &mut text, numbers, "in the order", &answer.order)?;
     unmet.push(CallNote { call, text })?;
     Ok(())
 }
