@@ -29,7 +29,7 @@ _sel4sim() {
     esac
     case $command in
         '')
-            COMPREPLY=($(compgen -W 'check marks trace migrate threads why audit explore tree new import help -h --help -V --version' -- "$word"))
+            COMPREPLY=($(compgen -W 'check marks record trace migrate threads why audit explore tree new import help -h --help -V --version' -- "$word"))
             [[ $word == -* ]] || mapfile -t -O "${#COMPREPLY[@]}" COMPREPLY < <(compgen -f -- "$word")
             ;;
         check)
@@ -38,6 +38,10 @@ _sel4sim() {
             ;;
         marks)
             COMPREPLY=($(compgen -W '--of -h --help' -- "$word"))
+            [[ $word == -* ]] || mapfile -t -O "${#COMPREPLY[@]}" COMPREPLY < <(compgen -f -- "$word")
+            ;;
+        record)
+            COMPREPLY=($(compgen -W '-h --help' -- "$word"))
             [[ $word == -* ]] || mapfile -t -O "${#COMPREPLY[@]}" COMPREPLY < <(compgen -f -- "$word")
             ;;
         trace)
@@ -76,7 +80,7 @@ _sel4sim() {
             [[ $word == -* ]] || mapfile -t -O "${#COMPREPLY[@]}" COMPREPLY < <(compgen -f -- "$word")
             ;;
         help)
-            COMPREPLY=($(compgen -W 'check marks trace migrate threads why audit explore tree new import help' -- "$word"))
+            COMPREPLY=($(compgen -W 'check marks record trace migrate threads why audit explore tree new import help' -- "$word"))
             ;;
     esac
 }

@@ -12,6 +12,9 @@ complete -c sel4sim -n '__fish_use_subcommand' -a marks -d 'Runs a set-up and pr
 complete -c sel4sim -n '__fish_seen_subcommand_from marks' -l of -x -a '' -d 'Mark the files by the questions of this one, and print a table'
 complete -c sel4sim -n '__fish_seen_subcommand_from marks' -s h -l help -d 'Print help'
 complete -c sel4sim -n '__fish_seen_subcommand_from marks' -F
+complete -c sel4sim -n '__fish_use_subcommand' -a record -d 'Runs a set-up and prints it with the reply to each call as what the call expects'
+complete -c sel4sim -n '__fish_seen_subcommand_from record' -s h -l help -d 'Print help'
+complete -c sel4sim -n '__fish_seen_subcommand_from record' -F
 complete -c sel4sim -n '__fish_use_subcommand' -a trace -d 'Runs a set-up and prints what each of its calls changed'
 complete -c sel4sim -n '__fish_seen_subcommand_from trace' -l names -d 'Tell objects by their names, in place of their addresses'
 complete -c sel4sim -n '__fish_seen_subcommand_from trace' -s h -l help -d 'Print help'
@@ -77,4 +80,4 @@ complete -c sel4sim -n '__fish_seen_subcommand_from import' -l strict -d 'Refuse
 complete -c sel4sim -n '__fish_seen_subcommand_from import' -s h -l help -d 'Print help'
 complete -c sel4sim -n '__fish_seen_subcommand_from import' -F
 complete -c sel4sim -n '__fish_use_subcommand' -a help -d 'Print this message or the help of the given subcommand(s)'
-complete -c sel4sim -n '__fish_seen_subcommand_from help' -a 'check marks trace migrate threads why audit explore tree new import help'
+complete -c sel4sim -n '__fish_seen_subcommand_from help' -a 'check marks record trace migrate threads why audit explore tree new import help'

@@ -2,6 +2,7 @@
 ghost use Rattle.std.specs.Prelude.{◌≡◌, false, IfOk, Some};
 ghost use Rattle.std.specs.Option.{option_or};
 ghost use Rattle.kernel_abstract.specs.Plan.{IsPlan};
+ghost use Rattle.setup_format.specs.Read.{read_view};
 ghost use Rattle.setup_report.specs.Behind.{calls_made as calls_made_of};
 ghost use Rattle.setup_report.specs.State.{is_in};
 ghost use Rattle.setup_policy_file.specs.Files.{IsPolicyText};
@@ -111,7 +112,7 @@ impl HeldTo<'_> {
         requires plan { IsPlan P.profile read.now.setup.plan }
         requires says { IsPolicyText self.now.policy.now file }
         requires made { calls_made_of read.now.setup (option_or self.now.after file.after) ≡ Some made }
-        ensures { IfOk result (IsJudging self.now.policy.now self.now.after P.profile read.now) }
+        ensures { IfOk result (IsJudging self.now.policy.now self.now.after P.profile (read_view read.now)) }
     {
         let text = text_of(self.policy);
         let (names, setup) = (read.names.as_slice(), &read.setup);
@@ -128,7 +129,7 @@ impl HeldTo<'_> {
         read: &ReadSetup,
     ) -> Result<Judging, AllocError>
         requires { IsPlan P.profile read.now.setup.plan }
-        ensures { IfOk result (IsJudging self.now.policy.now self.now.after P.profile read.now) }
+        ensures { IfOk result (IsJudging self.now.policy.now self.now.after P.profile (read_view read.now)) }
     {
         let file = match read_policy(alloc, self.policy) {
             Ok(file) => file,
