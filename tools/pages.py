@@ -1,7 +1,7 @@
 #!/usr/bin/env python3
 """pages.py [--check] [PROGRAM]: writes what is made of the sources, and with PROGRAM also what is made of its help.
 
-Of the sources: docs/definitions.md, as definitions.py has it, and tables of the crates, with the first paragraph of `src/lib.rt` or
+Of the sources: docs/definitions.md, as definitions.py has it, and tables of the crates, with the first sentence of `src/lib.rt` or
 `src/main.rt` and the line of crates.txt without what another crate of that line stands on already. Of what `PROGRAM --help` and
 `PROGRAM COMMAND --help` print: the files of tools/completions/, which complete the words of a command line, as completions.py has
 them; the man page tools/sel4sim.1, as man_page.py has it; and tables of options.
@@ -47,10 +47,11 @@ def read(path):
 
 
 def head_of(name):
-    """The first paragraph of the text at the top of a crate's first file."""
+    """The first sentence of the text at the top of a crate's first file."""
     folder = os.path.join(TOP, "crates", name, "src")
     text = read(os.path.join(folder, "lib.rt")) or read(os.path.join(folder, "main.rt"))
-    return " ".join(line.removeprefix("//!").strip() for line in re.match(r"(?://! *\S.*\n)*", text)[0].splitlines())
+    paragraph = " ".join(line.removeprefix("//!").strip() for line in re.match(r"(?://! *\S.*\n)*", text)[0].splitlines())
+    return re.split(r"(?<=\.) (?=[A-Z])", paragraph, maxsplit=1)[0]
 
 
 def below(name, uses, known):
