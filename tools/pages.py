@@ -2,7 +2,7 @@
 """pages.py [--check] [PROGRAM]: writes what is made of the sources, and with PROGRAM also what is made of its help.
 
 Of the sources: docs/definitions.md, as definitions.py has it, and tables of the crates, with the first sentence of `src/lib.rt` or
-`src/main.rt` and the line of crates.txt without what another crate of that line stands on already. Of what `PROGRAM --help` and
+`src/main.rt`. Of what `PROGRAM --help` and
 `PROGRAM COMMAND --help` print: the files of tools/completions/, which complete the words of a command line, as completions.py has
 them; the man page tools/sel4sim.1, as man_page.py has it; and tables of options.
 
@@ -20,7 +20,7 @@ import sys
 import definitions
 import man_page
 from completions import completions
-from crates import TOP, listed, uses_of
+from crates import TOP, listed
 from helps import NAME, helps
 
 DOCS, TOOLS = os.path.join(TOP, "docs"), os.path.join(TOP, "tools")
@@ -54,27 +54,16 @@ def head_of(name):
     return re.split(r"(?<=\.) (?=[A-Z])", paragraph, maxsplit=1)[0]
 
 
-def below(name, uses, known):
-    """All that a crate stands on."""
-    if name not in known:
-        known[name] = set(uses.get(name, ())).union(*(below(it, uses, known) for it in uses.get(name, ())))
-    return known[name]
-
-
 def crates(_):
     """The tables of crates, with a title for each room."""
-    lines, known = listed(), {}
-    uses = {name: uses_of(line) for name, (_, line) in lines.items()}
+    lines = listed()
     rooms = {title: [it for it in lines if it.startswith(names)] for title, names in ROOMS}
     left = set(lines).difference(*rooms.values())
     if left:
         sys.exit(f"pages.py has no room for {', '.join(sorted(left))}")
     for at, (title, names) in enumerate(rooms.items()):
         yield from [""] * (at > 0)
-        yield from (f"### {title}", "", "| crate | what it holds | stands on |", "|---|---|---|")
-        for name in names:
-            near = [it for it in uses[name] if not any(it in below(other, uses, known) for other in uses[name])]
-            yield f"| `{name}` | {head_of(name)} | {', '.join(f'`{it}`' for it in near)} |"
+        yield from (f"### {title}", "", "| crate | what it holds |", "|---|---|", *(f"| `{name}` | {head_of(name)} |" for name in names))
 
 
 class OfHelp:
