@@ -1,10 +1,9 @@
 #!/usr/bin/env python3
 """pages.py [--check] [PROGRAM]: writes what is made of the sources, and with PROGRAM also what is made of its help.
 
-Of the sources: docs/definitions.md, as definitions.py has it, and tables of the crates, with the first sentence of `src/lib.rt` or
-`src/main.rt`. Of what `PROGRAM --help` and
-`PROGRAM COMMAND --help` print: the files of tools/completions/, which complete the words of a command line, as completions.py has
-them; the man page tools/sel4sim.1, as man_page.py has it; and tables of options.
+Of the sources: docs/definitions.md, as definitions.py has it, and lists of the crates, with the first sentence of `src/lib.rt` or
+`src/main.rt`. Of what `PROGRAM --help` and `PROGRAM COMMAND --help` print: the files of tools/completions/, which complete the
+words of a command line, as completions.py has them; the man page tools/sel4sim.1, as man_page.py has it; and tables of options.
 
 In a page by hand a line `<!-- WORDS -->` begins what is made, and `<!-- to here` ends it. The words are `crates` and `options of
 COMMAND`, which has all options but `--help`, or those after a colon alone, as in `options of audit: after slot`. Each option of a
@@ -55,7 +54,7 @@ def head_of(name):
 
 
 def crates(_):
-    """The tables of crates, with a title for each room."""
+    """The lists of crates, with a title for each room."""
     lines = listed()
     rooms = {title: [it for it in lines if it.startswith(names)] for title, names in ROOMS}
     left = set(lines).difference(*rooms.values())
@@ -63,7 +62,7 @@ def crates(_):
         sys.exit(f"pages.py has no room for {', '.join(sorted(left))}")
     for at, (title, names) in enumerate(rooms.items()):
         yield from [""] * (at > 0)
-        yield from (f"### {title}", "", "| crate | what it holds |", "|---|---|", *(f"| `{name}` | {head_of(name)} |" for name in names))
+        yield from (f"### {title}", "", *(f"- `{name}`. {head_of(name)}" for name in names))
 
 
 class OfHelp:
