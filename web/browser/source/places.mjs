@@ -7,6 +7,7 @@ const TOKEN = new RegExp([
 ].map(({ source }) => source).join("|"), "gm");
 const HEAD = /^\s*\[\[?([^[\]]*)\]/;
 const LISTED = ["call", "untyped"];
+const DOTTED = /^names\.([\w-]+)$/;
 
 const bare = (word) => word.replace(/^(["'])(.*)\1$/, "$2");
 
@@ -49,8 +50,17 @@ class Reader {
     this.valued = { entry: this.depth === 2 ? this.inline : this.depth === 0 ? this.table : null, key: this.word };
     if (this.depth === 2) this.inline?.keys.set(this.word, line);
     if (this.depth > 0) return;
-    this.table.keys.set(this.word, line);
+    const name = this.table === this.found.top ? DOTTED.exec(this.word)?.[1] : undefined;
+    if (name === undefined) this.table.keys.set(this.word, line);
+    else this.dotted(name, line);
     this.list = this.table === this.found.top && LISTED.includes(this.word) ? this.word : "";
+  }
+
+  /** A name by a key `names.NAME`. */
+  dotted(name, line) {
+    const { top, names } = this.found;
+    names.keys.set(name, line);
+    if (!top.keys.has("names")) top.keys.set("names", line);
   }
 
   /** Keeps where a text stands that is the value of a key: its first letter, the one behind its last, and its content. */
@@ -86,6 +96,7 @@ export function placesOf(text, calls = Infinity) {
 }
 
 const NAMES = [/^\[names\]((?:\s*\n(?!\s*\[).*)*)/mu, /^names\s*=\s*\{([^}]*)\}/mu];
+const DOTTED_LINE = /^names\.([\w-]+\s*=.*)$/gmu;
 const NAMED = /([\w-]+)\s*=\s*"?(0x[0-9a-f]+|\d+)"?/giu;
 
 /** How many bits a word has in the profile of a set-up. */
@@ -93,7 +104,9 @@ export const wordBitsOf = (text) => (/^profile\s*=\s*["']narrow["']/mu.test(text
 
 /** The names of a set-up by their numbers, of each number that has just one. */
 export function namesOf(text) {
-  const table = NAMES.map((pattern) => pattern.exec(text.replace(/#.*$/gmu, ""))?.[1]).find(Boolean) ?? "";
+  const bareText = text.replace(/#.*$/gmu, "");
+  const dotted = [...bareText.matchAll(DOTTED_LINE)].map(([, pair]) => pair).join("\n");
+  const table = NAMES.map((pattern) => pattern.exec(bareText)?.[1]).find(Boolean) ?? dotted;
   const pairs = [...table.matchAll(NAMED)].map(([, name, value]) => [String(BigInt(value)), name]);
   return new Map(pairs.filter(([value]) => pairs.filter(([other]) => other === value).length === 1));
 }
