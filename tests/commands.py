@@ -66,6 +66,7 @@ FILES = {"set_up.toml": SET_UP, "first.toml": FIRST, "apart.toml": APART, "layou
 # The words of a line but its last, which is the file that it reads, or "" where it reads none.
 LINES = [
     ("check", "set_up.toml"), ("check --strict --names", "set_up.toml"), ("check first.toml", "apart.toml"),
+    ("check --quiet", "apart.toml"),
     ("marks", "set_up.toml"), ("marks --of set_up.toml", "set_up.toml"), ("record", "set_up.toml"),
     ("trace", "set_up.toml"), ("trace --names", "set_up.toml"),
     ("migrate", "first.toml"),
@@ -83,11 +84,11 @@ LINES = [
     ("tree", "set_up.toml"), ("tree --after 1 --dot --names", "set_up.toml"),
     ("new", ""), ("new --profile narrow --threads 3 --endpoints 2 --untyped 16384:12", ""),
     ("import", "layout.cdl"), ("import --shrink 12 --flows", "layout.cdl"), ("import --listing", "layout.cdl"),
-    ("import --rights least", "layout.cdl"), ("import --strict", "layout.cdl"),
+    ("import --rights least", "layout.cdl"), ("import --strict", "layout.cdl"), ("import --cdl", "layout.cdl"), ("import --plain", "layout.cdl"),
     ("help", ""), ("help why", ""),
 ]
 # These write a row of each file, also of one that cannot be read.
-OF_FILES = ("check first.toml", "marks --of set_up.toml")
+OF_FILES = ("check first.toml", "check --quiet", "marks --of set_up.toml")
 # Set-ups whose words show a part of the text: a value, an element of an array, a table without a key, and the place at which
 # the text breaks off.
 REFUSED = [NAMED + 'call = [{ thread = "@a", op = "nbsend", cap = "@endpiont" }]\n',

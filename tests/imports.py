@@ -15,6 +15,7 @@ import re
 import subprocess
 import sys
 import tempfile
+import tomllib
 
 # The line of the first fault, by the name of the layout.
 FAULTS = {
@@ -123,8 +124,7 @@ def run(program, words, text):
 
 def named(text):
     """Returns the addresses of the names of a set-up."""
-    table = text.split("[names]\n")[1].split("\n\n")[0]
-    return {line.split(" = ")[0]: int(line.split(" = ")[1]) for line in table.splitlines()}
+    return tomllib.loads(text)["names"]
 
 
 def shown(report):
@@ -251,7 +251,7 @@ def shared_of(program, folder):
             told = run(program, ["audit", "--never", both, "--without", trusted, "-"], made.stdout)
             if told.returncode != possible or ("excluded" in told.stdout) == possible:
                 yield f"{name}: {both}: status {told.returncode} {told.stdout[-200:]!r}"
-    listed = run(program, ["import", "--listing", *LEAST, str(folder / "guests.system")], "").stdout
+    listed = run(program, ["import", "--plain", "--listing", *LEAST, str(folder / "guests.system")], "").stdout
     for line in ("south_cnode[269] tcb south_guest_tcb_3", "south_cnode[266] tcb south_guest_tcb", "north_guest_cnode[1] endpoint north_ep badge 4611686018427387904 rights w--p",
                  "south_guest_tcb_3.cspace cnode south_guest_cnode radix 6 guard 0 size 58"):
         if f"{line}\n" not in listed:
@@ -396,7 +396,7 @@ def strict_of(program, folder):
 def domains_of(program):
     """Yields what is wrong with the most domains that a system has, and with one more."""
     domains = [f'<protection_domain name="d{i}" priority="9">\n</protection_domain>\n' for i in range(64)]
-    made, more = [run(program, ["import", "--listing", "-"], f"<system>\n{''.join(domains[:count])}</system>\n") for count in (63, 64)]
+    made, more = [run(program, ["import", "--plain", "--listing", "-"], f"<system>\n{''.join(domains[:count])}</system>\n") for count in (63, 64)]
     if made.returncode or "\nd62_tcb.cspace cnode d62_cnode radix 8 guard 0 size 56\n" not in made.stdout:
         yield f"63 domains: {made.returncode} {made.stderr[:200]!r}"
     if more.returncode != 2 or more.stdout != "layout refused at 128\n" or "a system has 63 protection domains at most" not in more.stderr:
@@ -408,8 +408,10 @@ def faults_of(program, folder):
     for path in sorted(folder.glob("*.cdl")):
         made = run(program, ["import", str(path)], "")
         checked = run(program, ["check", "-"], made.stdout)
-        if made.returncode or checked.returncode or run(program, ["import", "-"], path.read_text()).stdout != made.stdout:
+        from_input = run(program, ["import", "-"], path.read_text()).stdout
+        if made.returncode or checked.returncode or from_input.replace('# layout "-"\n', f'# layout "{path}"\n') != made.stdout or from_input == made.stdout:
             yield f"{path.name}: status {made.returncode}, and of its set-up {checked.returncode}"
+        yield from wrong_comments(path, made.stdout)
         listed = run(program, ["import", "--listing", str(path)], "").stdout
         if sorted(listed.splitlines()) != sorted(path.with_suffix(".listing").read_text().splitlines()):
             yield f"{path.name}: its listing has other lines"
@@ -430,16 +432,19 @@ def faults_of_systems(program, folder):
     """Yields which `.system` files of a folder do not come to the set-ups of the layouts that were made of them by another program, and
     what is not told of them with its line: what stands above a call, what is assumed, and what is left out."""
     for path in sorted(folder.glob("*.system")):
-        for flows in ([], ["--flows"]):
-            made, wanted = [run(program, ["import", *flows, *words, str(it)], "") for it, words in ((path, LEAST), (folder / f"{path.stem}_from_system.cdl", []))]
-            if made.returncode or plain_lines(made.stdout) != plain_lines(wanted.stdout):
+        for flows, of_text in ((["--plain"], []), ([], ["--flows"]), (["--flows"], ["--flows"])):
+            made, wanted = [run(program, ["import", *words, str(it)], "")
+                            for it, words in ((path, [*flows, *LEAST]), (folder / f"{path.stem}_from_system.cdl", of_text))]
+            if made.returncode or tomllib.loads(made.stdout) != tomllib.loads(wanted.stdout):
                 yield f"{path.name}: status {made.returncode}, or not the set-up of its layout, with {flows}"
             if "Microkit's tool is assumed" not in made.stderr:
                 yield f"{path.name}: nothing is assumed, with {flows}"
-    told, marked = [run(program, ["import", "-"], mark + (folder / "hello.system").read_text()).stdout for mark in ("", "\ufeff")]
+            if ("--plain leaves out memory regions, notifications and interrupts" in made.stderr) != (flows == ["--plain"]):
+                yield f"{path.name}: what --plain leaves out is told with {flows}: {made.stderr}"
+    told, marked = [run(program, ["import", "--plain", "-"], mark + (folder / "hello.system").read_text()).stdout for mark in ("", "\ufeff")]
     if told != marked:
         yield "hello.system: it is another one behind a byte order mark"
-    for said in ("\n# 27: hello_cnode[75] ", "\n# 7: serial_cnode[2] ", "\n# 3: monitor_cnode[1] "):
+    for said in ("  # 27: hello_cnode[75] ", "  # 7: serial_cnode[2] ", "  # 3: monitor_cnode[1] "):
         if said not in told:
             yield f"hello.system: no call with {said!r}"
     text = (folder / "hello.system").read_text()
@@ -450,9 +455,44 @@ def faults_of_systems(program, folder):
             yield f"hello.system with more: status {made.returncode}, and nothing of {said!r}"
 
 
-def plain_lines(text):
-    """Returns the lines of a set-up that are no comments."""
-    return [line for line in text.splitlines() if not line.startswith("#")]
+def wrong_comments(path, text):
+    """Yields which calls of a set-up do not lead back to the layout: the line that the comment behind one has declares or fills what it
+    says there."""
+    lines, calls = path.read_text().splitlines(), re.findall(r"^    \{ .* \},  # (.*)$", text, re.M)
+    if len(calls) != len(tomllib.loads(text)["call"]) or calls[-1] != "the loader is done":
+        yield f"{path.name}: {len(calls)} calls with comments, the last one with {calls[-1]!r}"
+    for comment in calls[:-1]:
+        number, name, _, slot = re.fullmatch(r"(\d+): ([\w.@/-]+)(\[\d+\])?( .*)?", comment).groups()
+        held = re.fullmatch(r"(?: cspace)? = ([\w.@/-]+)(\[\d+\])?( .*)?", slot or "")
+        if (held[1] if held else name) not in lines[int(number) - 1] and ".." not in lines[int(number) - 1]:
+            yield f"{path.name}: line {number} is not of {comment!r}"
+
+
+def texts_of(program, folder):
+    """Yields which layouts do not become capDL text from which the same set-up is made, and which capDL text becomes another one."""
+    for path in sorted((*folder.glob("*.system"), *folder.glob("hardware/*.system"))):
+        text = run(program, ["import", "--cdl", *LEAST, str(path)], "")
+        for of_file, of_text in (([], ["--flows"]), (["--plain"], [])):
+            made, again = run(program, ["import", *of_file, *LEAST, str(path)], ""), run(program, ["import", *of_text, "-"], text.stdout)
+            if text.returncode or made.returncode != again.returncode or again.returncode == 0 and tomllib.loads(made.stdout) != tomllib.loads(again.stdout):
+                yield f"{path.name}: its capDL text has another set-up: {text.returncode} {made.returncode} {again.returncode} {again.stderr[:200]!r}"
+    for path in sorted(folder.glob("*.cdl")):
+        made = run(program, ["import", "--cdl", str(path)], "")
+        if made.returncode or made.stdout != path.read_text():
+            yield f"{path.name}: status {made.returncode}, or not its own text"
+    for path in sorted((*folder.glob("wrong/*.cdl"), *folder.glob("wrong/*.system"))):
+        made, text = [run(program, ["import", *words, str(path)], "") for words in ([], ["--cdl"])]
+        if (made.returncode, made.stdout) != (text.returncode, text.stdout):
+            yield f"{path.name}: with --cdl status {text.returncode} {text.stdout[:50]!r}"
+    strict = run(program, ["import", "--cdl", "--strict", str(folder / "hello.system")], "")
+    if (strict.returncode, strict.stdout) != (2, "layout refused at 3\n"):
+        yield f"hello.system with --cdl, strictly: {strict.returncode} {strict.stdout[:50]!r}"
+    with tempfile.TemporaryDirectory() as room:
+        path = pathlib.Path(room, 'a "b"\n]\\.cdl')
+        path.write_text((folder / "twelve.cdl").read_text())
+        made = run(program, ["import", str(path)], "").stdout
+        if run(program, ["check", "-"], made).returncode or made.count("# layout ") != 1:
+            yield f"a layout in a file of a strange name: {made[:300]!r}"
 
 
 def faults_by_name(program, folder):
@@ -472,7 +512,7 @@ def main(program, folder, seed, count):
     folder = pathlib.Path(folder)
     wrong = [*faults_of(program, folder), *names_of(program, folder / "names"),
              *shared_of(program, folder / "hardware"), *spellings_of(program, folder / "spellings"), *losses_of(program, folder), *shares_of(program, seed, int(count) // 10),
-             *flows_of(program, folder), *faults_of_systems(program, folder), *strict_of(program, folder), *domains_of(program)]
+             *flows_of(program, folder), *faults_of_systems(program, folder), *texts_of(program, folder), *strict_of(program, folder), *domains_of(program)]
     changed = unseen = 0
     for number in range(int(count)):
         text, *said = layout(f"{seed} {number}")
@@ -485,15 +525,16 @@ def main(program, folder, seed, count):
         if number % 10 == 3:
             listed = run(program, ["import", "--listing"], text).stdout.splitlines()
             wrong += [f"layout {number} of {seed}: its listing has other lines"] * (sorted(listed) != sorted(listing(text, *said[:3])))
-        calls = made.stdout.split("\n\n# ")
+        lines = made.stdout.splitlines(keepends=True)
+        calls = [at for at, line in enumerate(lines) if line.startswith("    { thread = ")]
         if number % 10 == 5:
             flows = run(program, ["import", "--flows"], text)
             status = flows.returncode or run(program, ["check", "-"], flows.stdout).returncode
             wrong += [f"layout {number} of {seed}, with --flows: {status} {flows.stderr[-200:]}"] if status else []
-        if number % 10 == 0 and len(calls) > 4:
+        if number % 10 == 0 and len(calls) > 3:
             # Without one of its calls the end has to be another one.
-            out = random.Random(number).randrange(2, len(calls) - 1)
-            report = run(program, ["check", "-"], "\n\n# ".join(calls[:out] + calls[out + 1 :])).stdout
+            out = calls[random.Random(number).randrange(1, len(calls) - 1)]
+            report = run(program, ["check", "-"], "".join(lines[:out] + lines[out + 1 :])).stdout
             changed += 1
             unseen += not list(differences(report, made.stdout, *said))
     for line in wrong[:20]:

@@ -12,10 +12,11 @@ import random
 import re
 import sys
 import tempfile
+import tomllib
 
 import imports
 import parts
-from program import run
+from program import document, run
 
 LETTERS = "wrgp"
 USE = re.compile(r"  use (\d+) badge (\w+) rights (\S+)")
@@ -154,6 +155,13 @@ def held(program, policy, layout, folder):
     return run(program, "audit", "--policy", str(file), "-", text=layout.text)
 
 
+def with_calls(text, calls):
+    """The text of a set-up with these calls behind its own: one that was imported has its calls in a list, to which none can be added
+    behind its end."""
+    table = tomllib.loads(text)
+    return document({**table, "call": table.get("call", []) + tomllib.loads(calls)["call"]})
+
+
 def main():
     program, seed, count, folders = str(pathlib.Path(sys.argv[1]).absolute()), int(sys.argv[2]), int(sys.argv[3]), sys.argv[4:]
     tally = {"layouts": 0, "kept": 0, "cut": 0, "told": 0, "allowed": 0, "calls": 0}
@@ -183,7 +191,7 @@ def main():
                     faults.append(f"{layout.name}: a {kind} is cut, status {status}, wanted {wanted.pattern}\n{policy}{text}")
             ops = (parts.MESSAGES, parts.OTHERS)
             calls = "".join(parts.random_call(chance, chance.choice(list(layout.threads)), chance.choice(ops)) for _ in range(parts.CALLS))
-            _, report = run(program, "check", "-", text=layout.text + "\n" + calls)
+            _, report = run(program, "check", "-", text=with_calls(layout.text, calls))
             tally["calls"] += parts.CALLS
             faults += [f"{layout.name}: {line}" for line in layout.broken(report)]
     for fault in faults[:5]:

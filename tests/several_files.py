@@ -1,5 +1,5 @@
 #!/usr/bin/env python3
-"""several_files.py PROGRAM FOLDER: `check` of several files, and of the same without `check`.
+"""several_files.py PROGRAM FOLDER: `check` of several files, of one with `--quiet`, and of several without `check`.
 
 The set-ups in the folders of FOLDER, with others that are not met, refused, empty, too long or not there, are checked alone and then
 together. The lines have to be those of the reports' ends, the summary has to count them, the exit status has to be the greatest of
@@ -92,6 +92,10 @@ def runs_of(files, setups):
             yield ["check", name, other], [name, other]
             if name:
                 yield [name, other], [name, other]
+    for name in (*texts, "missing.toml", "/", "-"):
+        yield ["check", "--quiet", "--", name], [name]
+    yield ["check", "--quiet"], ["-"]
+    yield ["check", "--quiet", "met.toml", "unmet.toml"], ["met.toml", "unmet.toml"]
     yield ["check", "-", "met.toml"], ["-", "met.toml"]
     yield ["check", "met.toml", "met.toml"], ["met.toml", "met.toml"]
     yield ["check", "met.toml", "--", "-", "-name"], ["met.toml", "-", "-name"]

@@ -33,7 +33,7 @@ _sel4sim() {
             [[ $word == -* ]] || mapfile -t -O "${#COMPREPLY[@]}" COMPREPLY < <(compgen -f -- "$word")
             ;;
         check)
-            COMPREPLY=($(compgen -W '--strict --names -h --help' -- "$word"))
+            COMPREPLY=($(compgen -W '--strict --quiet --names -h --help' -- "$word"))
             [[ $word == -* ]] || mapfile -t -O "${#COMPREPLY[@]}" COMPREPLY < <(compgen -f -- "$word")
             ;;
         marks)
@@ -76,7 +76,7 @@ _sel4sim() {
             COMPREPLY=($(compgen -W '--profile --threads --endpoints --untyped -h --help' -- "$word"))
             ;;
         import)
-            COMPREPLY=($(compgen -W '--shrink --listing --flows --rights --strict -h --help' -- "$word"))
+            COMPREPLY=($(compgen -W '--shrink --listing --cdl --flows --plain --rights --strict -h --help' -- "$word"))
             [[ $word == -* ]] || mapfile -t -O "${#COMPREPLY[@]}" COMPREPLY < <(compgen -f -- "$word")
             ;;
         help)

@@ -5,6 +5,7 @@ complete -c sel4sim -n '__fish_use_subcommand' -s V -l version -d 'Print version
 complete -c sel4sim -n '__fish_use_subcommand' -F
 complete -c sel4sim -n '__fish_use_subcommand' -a check -d 'Runs a set-up and prints its report'
 complete -c sel4sim -n '__fish_seen_subcommand_from check' -l strict -d 'End with status 1 also where a call is refused and has no expectation'
+complete -c sel4sim -n '__fish_seen_subcommand_from check' -l quiet -d 'Print one line and a summary, also of one file'
 complete -c sel4sim -n '__fish_seen_subcommand_from check' -l names -d 'Tell objects by their names, in place of their addresses'
 complete -c sel4sim -n '__fish_seen_subcommand_from check' -s h -l help -d 'Print help'
 complete -c sel4sim -n '__fish_seen_subcommand_from check' -F
@@ -74,7 +75,9 @@ complete -c sel4sim -n '__fish_seen_subcommand_from new' -s h -l help -d 'Print 
 complete -c sel4sim -n '__fish_use_subcommand' -a import -d 'Reads a layout as capDL text or a .system file and prints a set-up whose calls make it'
 complete -c sel4sim -n '__fish_seen_subcommand_from import' -l shrink -x -a '' -d 'Cut untyped regions that cover nothing to N bits'
 complete -c sel4sim -n '__fish_seen_subcommand_from import' -l listing -d 'Print what was read of the layout'
+complete -c sel4sim -n '__fish_seen_subcommand_from import' -l cdl -d 'Print the capDL text that the layout becomes'
 complete -c sel4sim -n '__fish_seen_subcommand_from import' -l flows -d 'Count each object that a set-up lacks, each answer and each Grant'
+complete -c sel4sim -n '__fish_seen_subcommand_from import' -l plain -d 'Leave out of a .system file what a set-up lacks'
 complete -c sel4sim -n '__fish_seen_subcommand_from import' -l rights -x -a '' -d 'Take these where a .system file says no rights: all, or least'
 complete -c sel4sim -n '__fish_seen_subcommand_from import' -l strict -d 'Refuse a layout if what may carry authority is left out of it or assumed'
 complete -c sel4sim -n '__fish_seen_subcommand_from import' -s h -l help -d 'Print help'

@@ -7,6 +7,8 @@ use Rattle.setup_format.specs.Views.{ReadView}
 use Rattle.setup_format.specs.Setups.{read_of_bytes}
 use Rattle.setup_report.specs.Behind.{state_behind}
 use Rattle.setup_layout.specs.declared.layout.Layout.{Layout}
+use Rattle.setup_layout.specs.declared.languages.Language.TheVariants.{Capdl}
+use Rattle.setup_layout.specs.Languages.{language_of}
 use Rattle.command_core.specs.declared.fault.Verdict.{Verdict}
 use Rattle.command_core.specs.declared.fault.Verdict.TheVariants.{AllMet, NotMet, Refused, Absent}
 use Rattle.setup_layout.specs.declared.layout.Reading.{Reading}
@@ -46,3 +48,10 @@ IsImported reading listing text AllMet = IsImportText reading listing text
 IsImported reading listing text NotMet = ⊥
 IsImported reading listing text Refused = IsRefusal text
 IsImported reading listing text Absent = text ≡ []
+
+-- what is written where the capDL text of an input is asked for: capDL text as it is; and only its line, if the layout has faults
+abbrev pub IsLayoutText : List ℕ → List ℕ → Verdict → Type 0
+IsLayoutText input text AllMet = language_of input ≡ Capdl → text ≡ input
+IsLayoutText input text NotMet = ⊥
+IsLayoutText input text Refused = IsRefusal text
+IsLayoutText input text Absent = ⊥

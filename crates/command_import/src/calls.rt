@@ -10,7 +10,7 @@ const ROOT_SLOT: u64 = 1;
 
 const LOADER_SLOT: u64 = 2;
 
-/// The calls of the loader as tables of a set-up.
+/// The calls of the loader as tables of a set-up, one a line.
 #[derive(Drop)]
 pub struct Calls<'a> {
     layout: &'a Layout,
@@ -141,27 +141,24 @@ impl<'a> Calls<'a> {
         self.loader_slots.get(object).copied().unwrap_or(0)
     }
 
-    /// Begins a call; a line of the layout and what it says stand above it.
-    fn begin(&mut self, line: usize, what: &str, op: &str) -> Result<(), AllocError> {
+    /// Begins a call.
+    fn begin(&mut self, op: &str) -> Result<(), AllocError> {
         self.count = self.count.saturating_add(1);
-        writeln!(
-            &mut self.text,
-            "\n# {line}: {what}\n[[call]]\nthread = \"@loader\"\nop = \"{op}\""
-        )
+        write!(&mut self.text, "    {{ thread = \"@loader\", op = \"{op}\"")
     }
 
     /// Adds a key of a call. A number that TOML does not have is a text.
     fn key(&mut self, key: &str, value: u64) -> Result<(), AllocError> {
         if value > i64::MAX as u64 {
-            writeln!(&mut self.text, "{key} = \"0x{value:x}\"")
+            write!(&mut self.text, ", {key} = \"0x{value:x}\"")
         } else {
-            writeln!(&mut self.text, "{key} = {value}")
+            write!(&mut self.text, ", {key} = {value}")
         }
     }
 
-    /// Ends a call.
-    fn end(&mut self) -> Result<(), AllocError> {
-        writeln!(&mut self.text, "expect = \"done\"")
+    /// Ends a call. A comment behind it has a line of the layout, and what that says.
+    fn end(&mut self, line: usize, what: &str) -> Result<(), AllocError> {
+        writeln!(&mut self.text, ", expect = \"done\" }},  # {line}: {what}")
     }
 
     /// Whether an object is made by the same call as the one before it, so many of which it makes already.
@@ -203,7 +200,7 @@ impl<'a> Calls<'a> {
             1 => format!(in alloc; "{}", object.name)?,
             _ => format!(in alloc; "{} .. {}", object.name, last.name)?,
         };
-        self.begin(object.spot.line, what.as_str(), "retype")?;
+        self.begin("retype")?;
         self.key("cap", source)?;
         self.key("kind", kind_number(object.kind))?;
         if matches!(object.kind, Kind::Untyped | Kind::CNode) {
@@ -212,7 +209,7 @@ impl<'a> Calls<'a> {
         self.key("root", ROOT_SLOT)?;
         self.key("offset", self.loader_slot(number))?;
         self.key("count", count)?;
-        self.end()
+        self.end(object.spot.line, what.as_str())
     }
 
     /// Adds the calls that make the objects.
@@ -265,11 +262,11 @@ impl<'a> Calls<'a> {
     /// Adds the call that sets the space of a thread.
     fn add_space(&mut self, alloc: Global, slot: &Slot) -> Result<(), AllocError> {
         let what = self.what(alloc, slot)?;
-        self.begin(slot.line, what.as_str(), "set_space")?;
+        self.begin("set_space")?;
         self.key("cap", self.loader_slot(slot.holder))?;
         self.key("root", self.loader_slot(slot.object))?;
         self.key("word", self.guard_word(slot.guard))?;
-        self.end()
+        self.end(slot.line, what.as_str())
     }
 
     /// The radix of a CNode.
@@ -322,11 +319,7 @@ impl<'a> Calls<'a> {
             _ => 0,
         };
         let what = self.what(alloc, slot)?;
-        self.begin(
-            slot.line,
-            what.as_str(),
-            if word > 0 { "mint" } else { "copy" },
-        )?;
+        self.begin(if word > 0 { "mint" } else { "copy" })?;
         self.add_slots(slot, source)?;
         if kind == Some(Kind::Endpoint) {
             self.key("rights", u64::from(slot.rights.0))?;
@@ -334,15 +327,15 @@ impl<'a> Calls<'a> {
         if word > 0 {
             self.key("word", word)?;
         }
-        self.end()
+        self.end(slot.line, what.as_str())
     }
 
     /// Adds the call that moves the loader's capability to a slot.
     fn add_move(&mut self, alloc: Global, slot: &Slot) -> Result<(), AllocError> {
         let what = self.what(alloc, slot)?;
-        self.begin(slot.line, what.as_str(), "move")?;
+        self.begin("move")?;
         self.add_slots(slot, None)?;
-        self.end()
+        self.end(slot.line, what.as_str())
     }
 
     /// Adds the calls that set the spaces of the threads.
@@ -376,9 +369,9 @@ impl<'a> Calls<'a> {
         let layout = self.layout;
         for (number, object) in layout.objects.as_slice().iter().enumerate() {
             if object.kind == Kind::Tcb && !object.is_inactive {
-                self.begin(object.spot.line, object.name.as_str(), "resume")?;
+                self.begin("resume")?;
                 self.key("cap", self.loader_slot(number))?;
-                self.end()?;
+                self.end(object.spot.line, object.name.as_str())?;
             }
         }
         Ok(())
@@ -399,10 +392,11 @@ impl<'a> Calls<'a> {
 
     /// Adds the call by which the loader makes no more.
     pub fn add_suspend(&mut self) -> Result<(), AllocError> {
-        self.count = self.count.saturating_add(1);
+        self.begin("suspend")?;
+        self.key("cap", LOADER_SLOT)?;
         writeln!(
             &mut self.text,
-            "\n# the loader is done\n[[call]]\nthread = \"@loader\"\nop = \"suspend\"\ncap = {LOADER_SLOT}\nexpect = \"done\""
+            ", expect = \"done\" }},  # the loader is done"
         )
     }
 }

@@ -13,5 +13,5 @@ mod text;
 
 pub use laid_out::is_laid_out;
 pub use laws::{layouts_of_one_listing_are_laid_out_alike, listings_tell_layouts};
-pub use making::Importer;
+pub use making::{Importer, LayoutText};
 pub use setup_layout::Reading;

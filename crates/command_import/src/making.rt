@@ -1,12 +1,13 @@
-//! The engine that makes a set-up of a layout.
+//! The engines that make a set-up of a layout, or its capDL text.
 ghost use Rattle.std.specs.Prelude.{◌≡◌, ◌++◌, ℕ, List, [], IfOk, IfSome, IsErr, IsTrue, MatchOption, codes, false, true, length, string_bytes};
 ghost use Rattle.kernel_abstract.specs.Plan.{IsPlan};
 ghost use Rattle.kernel_abstract.specs.State.{shown};
 ghost use Rattle.setup_format.specs.Read.{read_view};
 ghost use Rattle.setup_format.specs.Setups.{read_of_bytes};
+ghost use Rattle.setup_layout.specs.Languages.{reading_of};
 ghost use Rattle.setup_report.specs.Behind.{state_behind};
 ghost use Rattle.command_import.specs.Asked.{IsReadAs};
-ghost use Rattle.command_import.specs.Import.{ComesTo, IsImported, IsRefusal, IsSetUpOf};
+ghost use Rattle.command_import.specs.Import.{ComesTo, IsImported, IsLayoutText, IsRefusal, IsSetUpOf};
 ghost use Rattle.command_import.specs.Private.{IsFor, IsWritten};
 ghost use Rattle.command_import.specs.Listing.{listing_lines};
 ghost use Rattle.command_import.specs.Laid.{IsLaidOut};
@@ -19,10 +20,9 @@ use cap_core::{Narrow, Profile, ProfileName, Wide};
 use command_core::{Answer, Engine, RunFault, Verdict};
 use ipc_core::{LinkedWaiters, MakeWaiters};
 use setup_format::{ReadSetup, Setup, SetupFault, read};
-use setup_layout::{Layout, Places, ReadLayout, Reading};
+use setup_layout::{Layout, Places, ReadLayout, Reading, capdl_text, read_any_layout};
 use setup_marks::is_for_flows;
 use setup_report::kernel_after;
-use setup_system::read_any_layout;
 use slot_core::{DerivationStore, LinkedStore, MakeStore};
 use std::alloc::{AllocError, Global};
 
@@ -126,22 +126,19 @@ fn tested(alloc: Global, layout: &Layout, text: Vec<u8>) -> Result<Answer, Alloc
     Ok(Answer::new(alloc, Vec::new(alloc), Verdict::Absent))
 }
 
-/// The text of a set-up of a layout, which begins with a list of what its slots hold.
-fn text_of(alloc: Global, read: &ReadLayout, places: &Places) -> Result<String, AllocError>
+/// The text of a set-up of the layout in a file of this name, which begins with a list of what its slots hold.
+fn text_of(
+    alloc: Global,
+    read: &ReadLayout,
+    places: &Places,
+    name: &str,
+) -> Result<String, AllocError>
     ensures { IfOk result (λ text. (rest : List ℕ) × (string_bytes text ≡ listing_lines (codes "# ") read.now.layout ++ rest)) }
 {
-    let rest = setup_text(alloc, read, places)?;
+    let rest = setup_text(alloc, read, places, name)?;
     let mut text = listing_text(alloc, &read.layout, "# ")?;
     text.push_str(rest.as_str())?;
     Ok(text)
-}
-
-/// A set-up of the layout that the input is as capDL text or as a `.system` file, or, with `listing`, what was read of it, in lines. The verdict is `Refused`
-/// where the layout has faults, and `Absent`, with nothing written, where the set-up that was made does not come to the layout.
-#[derive(Clone, Copy)]
-pub struct Importer {
-    pub reading: Reading,
-    pub listing: bool,
 }
 
 /// What is written of a layout without faults: its listing where that is asked for, or else a set-up.
@@ -150,6 +147,7 @@ fn written(
     read: &ReadLayout,
     places: &Places,
     listing: bool,
+    name: &str,
 ) -> Result<Answer, AllocError>
     ensures listed { listing ≡ true → IfOk result (λ made. IsWritten (λ text. text ≡ listing_lines [] read.now.layout) made.text.items made.verdict) }
     ensures tested { listing ≡ false → IfOk result (λ made. IsWritten (IsSetUpOf read.now.layout) made.text.items made.verdict) }
@@ -157,35 +155,80 @@ fn written(
     if listing {
         return listed(alloc, &read.layout);
     }
-    let text = text_of(alloc, read, places)?;
+    let text = text_of(alloc, read, places, name)?;
     tested(alloc, &read.layout, text.into_bytes())
 }
 
-impl Importer {
-    /// What is written of a layout that was read.
-    fn made_of(self, alloc: Global, read: &ReadLayout) -> Result<Answer, AllocError>
-        ensures { IfOk result (λ made. IsImported self.reading self.listing made.text.items made.verdict) }
-    {
-        let Some(places) = &read.places else {
-            return refused(alloc, &read.layout);
-        };
-        if !is_read_as(self.reading, &read.layout) {
-            return Ok(Answer::new(alloc, Vec::new(alloc), Verdict::Absent));
-        }
-        written(alloc, read, places, self.listing)
+/// What is written of a layout that was read.
+fn made_of(
+    alloc: Global,
+    reading: Reading,
+    listing: bool,
+    name: &str,
+    read: &ReadLayout,
+) -> Result<Answer, AllocError>
+    ensures { IfOk result (λ made. IsImported reading listing made.text.items made.verdict) }
+{
+    let Some(places) = &read.places else {
+        return refused(alloc, &read.layout);
+    };
+    if !is_read_as(reading, &read.layout) {
+        return Ok(Answer::new(alloc, Vec::new(alloc), Verdict::Absent));
     }
+    written(alloc, read, places, listing, name)
+}
 
+/// A set-up of the layout that the input is, or, with `listing`, what was read of it, in lines. The verdict is `Refused` where the layout
+/// has faults, and `Absent`, with nothing written, where the set-up that was made does not come to the layout.
+#[derive(Clone, Copy)]
+pub struct Importer<'a> {
+    pub reading: Reading,
+    pub listing: bool,
+    /// The name of the layout's file, which a comment of the set-up tells.
+    pub name: &'a str,
+}
+
+impl Importer<'_> {
     /// What is written of the input.
-    fn made(self, alloc: Global, input: &[u8]) -> Result<Answer, AllocError>
-        ensures { IfOk result (λ made. IsImported self.reading self.listing made.text.items made.verdict) }
+    fn made(&self, alloc: Global, input: &[u8]) -> Result<Answer, AllocError>
+        ensures { IfOk result (λ made. IsImported (reading_of self.now.reading input.now) self.now.listing made.text.items made.verdict) }
     {
-        let read = read_any_layout(alloc, input, self.reading)?;
-        self.made_of(alloc, &read)
+        let reading = self.reading.of_layout(input);
+        let read = read_any_layout(alloc, input, reading)?;
+        made_of(alloc, reading, self.listing, self.name, &read)
     }
 }
 
-impl Engine for Importer {
-    ghost means = { λ importer input text verdict. IsImported importer.reading importer.listing text verdict };
+impl Engine for Importer<'_> {
+    ghost means = { λ importer input text verdict. IsImported (reading_of importer.reading input) importer.listing text verdict };
+
+    fn make(&self, alloc: Global, input: &[u8]) -> Result<Answer, RunFault> {
+        self.made(alloc, input).map_err(|_| RunFault::Memory)
+    }
+}
+
+/// The capDL text that the layout in the input becomes: capDL text stays as it is. The verdict is `Refused` where the layout has faults.
+#[derive(Clone, Copy)]
+pub struct LayoutText {
+    pub reading: Reading,
+}
+
+impl LayoutText {
+    /// What is written of the input.
+    fn made(self, alloc: Global, input: &[u8]) -> Result<Answer, AllocError>
+        ensures { IfOk result (λ made. IsLayoutText input.now made.text.items made.verdict) }
+    {
+        let read = read_any_layout(alloc, input, self.reading)?;
+        if read.places.is_none() {
+            return refused(alloc, &read.layout);
+        }
+        let text = capdl_text(alloc, input, self.reading)?;
+        Ok(Answer::new(alloc, text, Verdict::AllMet))
+    }
+}
+
+impl Engine for LayoutText {
+    ghost means = { λ maker input text verdict. IsLayoutText input text verdict };
 
     fn make(&self, alloc: Global, input: &[u8]) -> Result<Answer, RunFault> {
         self.made(alloc, input).map_err(|_| RunFault::Memory)

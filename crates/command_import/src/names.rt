@@ -24,20 +24,19 @@ pub fn add_whole_names(
     Ok(())
 }
 
-/// Adds the table of the names, which stand for addresses: of the loader, and of the objects in the order in which they are made. Before
-/// them stands the mark of a set-up in which each object counts.
+/// Adds the names, which stand for addresses: of the loader, and of the objects in the order in which they are made. Before them stands
+/// the mark of a set-up in which each object counts.
 pub fn add_names(out: &mut String, read: &ReadLayout, places: &Places) -> Result<(), AllocError> {
-    writeln!(out, "\n[names]")?;
     if read.layout.flows {
-        writeln!(out, "{IMPORT_FLOWS} = {IMPORT_FLOWS_WORD}")?;
+        writeln!(out, "names.{IMPORT_FLOWS} = {IMPORT_FLOWS_WORD}")?;
     }
-    writeln!(out, "{LOADER} = {}", places.loader)?;
+    writeln!(out, "names.{LOADER} = {}", places.loader)?;
     for number in places.order.as_slice() {
         if let (Some(object), Some(Some(name))) = (
             read.layout.objects.get(*number),
             read.names.list.get(*number),
         ) {
-            writeln!(out, "{} = {}", name.text, object.place)?;
+            writeln!(out, "names.{} = {}", name.text, object.place)?;
         }
     }
     Ok(())

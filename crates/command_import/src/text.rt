@@ -57,21 +57,27 @@ fn calls_of<'a>(
     Ok(calls)
 }
 
-/// The text of a set-up whose calls make a layout.
-pub fn setup_text(alloc: Global, read: &ReadLayout, places: &Places) -> Result<String, AllocError> {
+/// The text of a set-up whose calls make the layout in a file of this name. Its last line ends the list of the calls.
+pub fn setup_text(
+    alloc: Global,
+    read: &ReadLayout,
+    places: &Places,
+    name: &str,
+) -> Result<String, AllocError> {
     let layout = &read.layout;
     let calls = calls_of(alloc, layout, places)?;
     let mut out = String::new(alloc);
     let (objects, count) = (layout.objects.len(), calls.count);
     writeln!(
         &mut out,
-        "#\n# The layout has {objects} objects. The first {count} calls are the loader's, which makes it: above stands what its slots hold then."
+        "#\n# layout {name:?}\n# The layout has {objects} objects. The first {count} calls are the loader's, which makes it: above stands what its slots hold then."
     )?;
     add_notes(&mut out, &layout.gaps)?;
     add_notes(&mut out, &layout.notes)?;
     add_whole_names(&mut out, layout, read.names.list.as_slice())?;
     add_sizes(&mut out, layout.profile, places)?;
     add_names(&mut out, read, places)?;
-    out.push_str(calls.text.as_str())?;
+    let calls = calls.text.as_str();
+    writeln!(&mut out, "call = [\n{calls}]")?;
     Ok(out)
 }

@@ -20,7 +20,7 @@ use Rattle.clap.specs.declared.parser.matches.ArgMatches.{ArgMatches}
 use Rattle.clap.specs.declared.parser.matches.ArgMatches.TheViews.{out-ArgMatches, out-SubCommand}
 use Rattle.clap.proofs.OnLiterals.{clap_on_literals}
 use Rattle.clap.proofs.WalkLemmas.{both}
-use Rattle.command_line.specs.CommandLine.{IsCommand, command, file_of, files_of, job_named, job_of, lists_one, more_behind, more_given, several_of, takes_several, AsksForText, Explains, ExplainsMatches, StandsFor}
+use Rattle.command_line.specs.CommandLine.{IsCommand, command, file_of, files_of, is_set, job_named, job_of, lists_one, more_behind, more_given, several_of, takes_several, AsksForText, Explains, ExplainsMatches, StandsFor}
 use Rattle.command_line.proofs.NoHelp.{IsNoHelp, walk_stops}
 use Rattle.command_line.specs.declared.arguments.Job.{Job}
 use Rattle.command_line.specs.declared.arguments.Job.TheVariants.{Check, Marks}
@@ -169,6 +169,10 @@ named_takes name job is named = go (true_or_false (bytes_eq name (codes "check")
         let found : job_named name ≡ Some Marks = ap job_named same in
         subst (λ j. takes_several j ≡ true) (some_is Marks job (sym found ∙ named)) refl
 
+first : (a b : Bool) → a || b ≡ false → a ≡ false
+first true b e = absurd cc
+first false b e = refl
+
 second : (a b : Bool) → a || b ≡ false → b ≡ false
 second true b e = absurd cc
 second false b e = e
@@ -185,7 +189,8 @@ several_are_taken above (Some met) job some is = go (true_or_false (bytes_eq met
     go (inl takes) = named_takes met.0 job takes is
     go (inr other) =
         let none : more_behind met.0 met.1 ≡ [] = rw other refl in
-        let no_one : lists_one met.0 met.1 ≡ false = ap (λ is. is && is_some (first_of (codes "of") met.1)) (second _ _ other) in
+        let no_one : lists_one met.0 met.1 ≡ false =
+        ap₂ (λ check marks. (marks && is_some (first_of (codes "of") met.1)) || (check && is_set (first_of (codes "quiet") met.1))) (first _ _ other) (second _ _ other) in
         absurd (some (ap₂ (λ one more. several_of one (file_of above (Some met)) more) no_one none))
 
 pub on_ok : {V E : Type 0} (r : Result V E) (P : Type 0) → P → OnOk r P

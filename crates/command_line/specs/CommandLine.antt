@@ -112,7 +112,7 @@ audit_rules =
 -- the subcommands, in the order of the help
 abbrev pub subcommands : List App
 subcommands =
-    subcommand_with (codes "check") Several (flag_rule (codes "strict") ∷ names_rule ∷ [])
+    subcommand_with (codes "check") Several (flag_rule (codes "strict") ∷ flag_rule (codes "quiet") ∷ names_rule ∷ [])
     ∷ subcommand_with (codes "marks") Several (text_rule (codes "of") ∷ [])
     ∷ subcommand_with (codes "record") One []
     ∷ subcommand_with (codes "trace") One (names_rule ∷ [])
@@ -123,7 +123,7 @@ subcommands =
     ∷ subcommand_with (codes "explore") One (first_rule ∷ states_rule ∷ text_rule (codes "witness") ∷ flag_rule (codes "ends") ∷ names_rule ∷ [])
     ∷ subcommand_with (codes "tree") One (after_rule ∷ flag_rule (codes "dot") ∷ names_rule ∷ [])
     ∷ subcommand_with (codes "new") Zero (text_rule (codes "profile") ∷ number_rule (codes "threads") ∷ number_rule (codes "endpoints") ∷ text_rule (codes "untyped") ∷ [])
-    ∷ subcommand_with (codes "import") One (number_rule (codes "shrink") ∷ flag_rule (codes "listing") ∷ flag_rule (codes "flows") ∷ text_rule (codes "rights") ∷ flag_rule (codes "strict") ∷ [])
+    ∷ subcommand_with (codes "import") One (number_rule (codes "shrink") ∷ flag_rule (codes "listing") ∷ flag_rule (codes "cdl") ∷ flag_rule (codes "flows") ∷ flag_rule (codes "plain") ∷ text_rule (codes "rights") ∷ flag_rule (codes "strict") ∷ [])
     ∷ []
 
 -- `sel4sim`, with all its subcommands
@@ -199,9 +199,15 @@ more_given (Some names) = texts names
 abbrev pub more_behind : Text → List Row → List Text
 more_behind name rows = if bytes_eq name (codes "check") || bytes_eq name (codes "marks") then more_files_in rows else []
 
--- a subcommand of that name with these matches lists one file as it lists several: `marks` with `--of`
+-- an option that takes no value is there: clap's text of it is then `true`
+abbrev pub is_set : Option Text → Bool
+is_set None = false
+is_set (Some text) = bytes_eq text (codes "true")
+
+-- a subcommand of that name with these matches lists one file as it lists several: `marks` with `--of`, and `check` with `--quiet`
 abbrev pub lists_one : Text → List Row → Bool
-lists_one name rows = bytes_eq name (codes "marks") && is_some (first_of (codes "of") rows)
+lists_one name rows =
+    (bytes_eq name (codes "marks") && is_some (first_of (codes "of") rows)) || (bytes_eq name (codes "check") && is_set (first_of (codes "quiet") rows))
 
 -- the names of all files, where there is more than one; where one is listed too that of it, or a hyphen where none is named; else none
 abbrev pub several_of : Bool → Option Text → List Text → List Text
@@ -228,14 +234,10 @@ Says None number = number ≡ None
 Says (Some text) None = ¬ (IsNumber text)
 Says (Some text) (Some number) = IsNumber text × (number ≡ digits_value 10 (without_leading_plus text))
 
--- an option that takes no value is there: clap's text of it is then `true`
-abbrev pub is_set : Option Text → Bool
-is_set None = false
-is_set (Some text) = bytes_eq text (codes "true")
-
 -- what a subcommand's matches give to its options
 pub record HasOptions (rows : List Row) (options : Options) : Type 0 where
   pub strict : options.strict ≡ is_set (first_of (codes "strict") rows)
+  pub quiet : options.quiet ≡ is_set (first_of (codes "quiet") rows)
   pub call : Says (first_of (codes "call") rows) options.call
   pub after : Says (first_of (codes "after") rows) options.after
   pub slot : option_map (λ s. s.now) options.slot ≡ first_of (codes "slot") rows
@@ -264,8 +266,10 @@ pub record HasOptions (rows : List Row) (options : Options) : Type 0 where
   pub untyped : option_map (λ s. s.now) options.untyped ≡ first_of (codes "untyped") rows
   pub shrink : Says (first_of (codes "shrink") rows) options.shrink
   pub listing : options.listing ≡ is_set (first_of (codes "listing") rows)
+  pub cdl : options.cdl ≡ is_set (first_of (codes "cdl") rows)
   pub of : option_map (λ s. s.now) options.of ≡ first_of (codes "of") rows
   pub flows : options.flows ≡ is_set (first_of (codes "flows") rows)
+  pub plain : options.plain ≡ is_set (first_of (codes "plain") rows)
   pub rights : option_map (λ s. s.now) options.rights ≡ first_of (codes "rights") rows
 
 -- `--ever` and `--never` tell of all calls to come
@@ -316,14 +320,19 @@ takes_least options = says_least (option_map (λ s. s.now) options.rights)
 abbrev pub knows_rights : Options → Bool
 knows_rights options = is_rights (option_map (λ s. s.now) options.rights)
 
+-- of a `.system` file objects that a set-up lacks count or do not; and the text that a layout becomes is neither listed nor cut
+abbrev pub agrees_import : Options → Bool
+agrees_import options =
+    knows_rights options && (not (options.flows && options.plain) && not (options.cdl && (options.listing || is_some options.shrink)))
+
 -- `--ends` goes not with `--witness`
 abbrev pub agrees_orders : Options → Bool
-agrees_orders options = not (options.ends && is_some options.witness) && (names_files options && (knows_rights options && agrees_how options))
+agrees_orders options = not (options.ends && is_some options.witness) && (names_files options && (agrees_import options && agrees_how options))
 
 -- the options go together: `--ever` and `--never` not with each other, and not with `--slot`; `--slot` not with `--without`; `--names`
 -- not with `--how` or `--witness`; `--messages` needs one of the first two, and `--by` needs `--never` or a question of messages;
 -- `--draft` needs `--ever`, and goes not with `--names`; `--policy` goes with none of these; a file that an option names is no hyphen;
--- `--rights` takes `all` or `least`
+-- `--rights` takes `all` or `least`; `--flows` goes not with `--plain`, and `--cdl` neither with `--listing` nor with `--shrink`
 unfoldable pub agrees : Options → Bool
 agrees options =
     not (options.ever && is_some options.never)

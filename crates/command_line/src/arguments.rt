@@ -38,6 +38,8 @@ pub struct Options<'a> {
     /// Whether `--strict` is there: of `check`, a call that is refused and of which nothing is expected counts as not met; of `import`, a
     /// layout is refused if what may carry authority is left out of it or assumed.
     pub strict: bool,
+    /// Whether `--quiet` of `check` is there: of one file is told what is told of each of several.
+    pub quiet: bool,
     /// `--call` of `why`: the call that is told of, from 1.
     pub call: Option<u64>,
     /// `--after` of `audit` and `tree`: how many calls are made.
@@ -96,10 +98,14 @@ pub struct Options<'a> {
     pub shrink: Option<u64>,
     /// Whether `--listing` of `import` is there: the slots of the layout are asked for.
     pub listing: bool,
+    /// Whether `--cdl` of `import` is there: the capDL text is asked for that the layout becomes.
+    pub cdl: bool,
     /// `--of` of `marks`: the name of a file, whose set-up has the questions.
     pub of: Option<&'a str>,
     /// Whether `--flows` of `import` is there: each object that a kernel here lacks counts.
     pub flows: bool,
+    /// Whether `--plain` of `import` is there: such objects do not count in a `.system` file.
+    pub plain: bool,
     /// `--rights` of `import`: `all` or `least`.
     pub rights: Option<&'a str>,
 }

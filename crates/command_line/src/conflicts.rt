@@ -1,6 +1,6 @@
 //! Options that do not go together.
 ghost use Rattle.std.specs.Prelude.{◌≡◌, not, is_some, option_map};
-ghost use Rattle.command_line.specs.CommandLine.{agrees, agrees_orders, is_hyphen_given, is_rights};
+ghost use Rattle.command_line.specs.CommandLine.{agrees, agrees_import, agrees_orders, is_hyphen_given, is_rights};
 
 use crate::arguments::Options;
 use crate::how::{asks_message, conflict_of_how};
@@ -38,6 +38,10 @@ fn has_hyphen(name: Option<&str>) -> bool
 
 const RIGHTS: &str = "--rights: all or least is accepted";
 
+const FLOWS_WITH_PLAIN: &str = "--flows and --plain do not go together";
+
+const CDL_ALONE: &str = "--cdl goes neither with --listing nor with --shrink";
+
 /// Whether `--rights` takes its word.
 fn takes_rights(rights: Option<&str>) -> bool
     ensures { result ≡ is_rights (option_map (λ s. s.now) rights.entry) }
@@ -48,7 +52,22 @@ fn takes_rights(rights: Option<&str>) -> bool
     }
 }
 
-/// What is said of options of orders, of files, or of questions how, that do not go together.
+/// What is said of options of `import` that do not go together.
+fn conflict_of_import(options: &Options) -> Option<&'static str>
+    ensures { is_some result ≡ not (agrees_import options.now) }
+{
+    if !takes_rights(options.rights) {
+        Some(RIGHTS)
+    } else if options.flows && options.plain {
+        Some(FLOWS_WITH_PLAIN)
+    } else if options.cdl && (options.listing || options.shrink.is_some()) {
+        Some(CDL_ALONE)
+    } else {
+        None
+    }
+}
+
+/// What is said of options of orders, of files, of `import`, or of questions how, that do not go together.
 fn conflict_of_orders(options: &Options) -> Option<&'static str>
     ensures { is_some result ≡ not (agrees_orders options.now) }
 {
@@ -56,8 +75,8 @@ fn conflict_of_orders(options: &Options) -> Option<&'static str>
         Some(ENDS_WITH_WITNESS)
     } else if has_hyphen(options.policy) || has_hyphen(options.of) {
         Some(NO_HYPHEN)
-    } else if !takes_rights(options.rights) {
-        Some(RIGHTS)
+    } else if let Some(conflict) = conflict_of_import(options) {
+        Some(conflict)
     } else {
         conflict_of_how(options)
     }

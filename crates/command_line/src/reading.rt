@@ -211,6 +211,7 @@ fn options_in<'a>(matches: &ArgMatches<'a>) -> Options<'a>
 {
     Options {
         strict: flag_given(matches, "strict"),
+        quiet: flag_given(matches, "quiet"),
         call: number_given(matches, "call"),
         after: number_given(matches, "after"),
         slot: text_given(matches, "slot"),
@@ -239,8 +240,10 @@ fn options_in<'a>(matches: &ArgMatches<'a>) -> Options<'a>
         untyped: text_given(matches, "untyped"),
         shrink: number_given(matches, "shrink"),
         listing: flag_given(matches, "listing"),
+        cdl: flag_given(matches, "cdl"),
         of: text_given(matches, "of"),
         flows: flag_given(matches, "flows"),
+        plain: flag_given(matches, "plain"),
         rights: text_given(matches, "rights"),
     }
 }
@@ -291,11 +294,12 @@ fn several_in<'a>(
     }
 }
 
-/// Whether a subcommand of that name lists one file as it lists several: `marks` where `--of` is there.
+/// Whether a subcommand of that name lists one file as it lists several: `marks` where `--of` is there, and `check` where `--quiet` is.
 fn lists_one(name: &str, matches: &ArgMatches) -> bool
     ensures { result ≡ lists_one_definition name.now (rows_of (found_of matches.now)) }
 {
     name == "marks" && text_given(matches, "of").is_some()
+        || name == "check" && flag_given(matches, "quiet")
 }
 
 /// What the matches ask for where they name no subcommand.

@@ -69,6 +69,7 @@ const AUDIT: [OptionRow; 16] = [
 pub const COMMANDS: [CommandRow; 12] = [
     CommandRow { name: "check", files: Several, about: "Runs a set-up and prints its report", options: &[
         OptionRow("strict", Nothing, "End with status 1 also where a call is refused and has no expectation"),
+        OptionRow("quiet", Nothing, "Print one line and a summary, also of one file"),
         NAMES,
     ] },
     CommandRow { name: "marks", files: Several, about: "Runs a set-up and prints which of its expectations are met, and no reply", options: &[
@@ -104,7 +105,9 @@ pub const COMMANDS: [CommandRow; 12] = [
     CommandRow { name: "import", files: One, about: "Reads a layout as capDL text or a .system file and prints a set-up whose calls make it", options: &[
         OptionRow("shrink", Number, "Cut untyped regions that cover nothing to N bits"),
         OptionRow("listing", Nothing, "Print what was read of the layout"),
-        OptionRow("flows", Nothing, "Count each object that a set-up lacks, each answer and each Grant"),
+        OptionRow("cdl", Nothing, "Print the capDL text that the layout becomes"),
+        OptionRow("flows", Nothing, "Count each object that a set-up lacks, each answer and each Grant [the default of a .system file]"),
+        OptionRow("plain", Nothing, "Leave out of a .system file what a set-up lacks"),
         OptionRow("rights", Text("RIGHTS"), "Take these where a .system file says no rights: all, or least [default: all]"),
         OptionRow("strict", Nothing, "Refuse a layout if what may carry authority is left out of it or assumed"),
     ] },

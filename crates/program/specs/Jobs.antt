@@ -14,7 +14,9 @@ use Rattle.command_policy.specs.Policies.{IsPolicyOf}
 use Rattle.command_policy_draft.specs.Drafts.{IsDraft}
 use Rattle.command_policy_how.specs.Told.{IsBreachHow}
 use Rattle.command_line.specs.CommandLine.{takes_least}
-use Rattle.command_import.specs.Import.{IsImported}
+use Rattle.setup_layout.specs.declared.layout.Reading.{Reading}
+use Rattle.setup_layout.specs.Languages.{reading_of}
+use Rattle.command_import.specs.Import.{IsImported, IsLayoutText}
 use Rattle.command_never.specs.Question.{Asked, IsNever}
 use Rattle.command_explore.specs.Explorations.{IsExploration, IsGroupsExploration}
 use Rattle.command_how_witness.specs.declared.asked.Happening.{Happening}
@@ -153,6 +155,22 @@ IsCheck options input text verdict =
 abbrev pub form_of : Options → Form
 form_of options = cond options.dot Dot Lines
 
+-- how a layout is read, by the options
+abbrev pub reading_by : Options → Reading
+reading_by options = record {
+  shrink = options.shrink;
+  flows = options.flows;
+  plain = options.plain;
+  all_rights = not (takes_least options);
+  are_rights_asked = is_some options.rights;
+  strict = options.strict;
+}
+
+-- a set-up of a layout, or, with `--listing`, what was read of it; or, with `--cdl`, the capDL text that it becomes
+abbrev pub IsImport : Options → List ℕ → List ℕ → Verdict → Type 0
+IsImport options input text verdict =
+    MatchBool options.cdl (IsLayoutText input text verdict) (IsImported (reading_of (reading_by options) input) options.listing text verdict)
+
 -- what each command writes for an input, by the policy with these bytes where its options name one: its text and its verdict
 abbrev pub meaning : Job → Options → List ℕ → List ℕ → List ℕ → Verdict → Type 0
 meaning Check options policy = IsCheck options
@@ -166,4 +184,4 @@ meaning Tree options policy = IsAnswerTo (IsStateAnswer (IsTree (form_of options
 meaning New options policy = λ input text verdict. IsNewOf options text verdict
 meaning Marks options policy = IsAnswerTo IsMarks
 meaning Record options policy = IsAnswerTo IsRecord
-meaning Import options policy = λ input text verdict. IsImported (record { shrink = options.shrink; flows = options.flows; all_rights = not (takes_least options); are_rights_asked = is_some options.rights; strict = options.strict }) options.listing text verdict
+meaning Import options policy = IsImport options

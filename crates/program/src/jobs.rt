@@ -30,12 +30,13 @@ fn threads<R: Threads + Wait + Sync, S: Source, K: Sink>(
     threads_found_open(rt, alloc, options.names, first, source, sink)
 }
 
-/// Reads the source to its end, and writes to the sink what a job that starts no threads makes of it by the options.
+/// Reads the source, a file of this name, to its end, and writes to the sink what a job that starts no threads makes of it by the options.
 pub(crate) fn run_work<S: Source, K: Sink>(
     alloc: Global,
     job: Job,
     options: Options<'_>,
     policy: &[u8],
+    name: &str,
     source: &mut S,
     sink: &mut K,
 ) -> Result<Found, RunFault>
@@ -45,11 +46,12 @@ pub(crate) fn run_work<S: Source, K: Sink>(
     ensures run { IsRun (meaning job options.entry policy.now) S.Source K.Sink source.old source.new sink.old sink.new (verdict_of result) }
     ensures never_thread { result ≢ Err RunFault.Thread }
 {
-    run_engine(alloc, &Work::new(job, options, policy), source, sink)
+    let work = Work::new(job, options, policy, name);
+    run_engine(alloc, &work, source, sink)
 }
 
-/// Reads the source to its end, and writes to the sink what the job makes of it by the options, of which one may name a policy with
-/// these bytes. The job `Threads` waits until the
+/// Reads the source, a file of this name, to its end, and writes to the sink what the job makes of it by the options, of which one may
+/// name a policy with these bytes. The job `Threads` waits until the
 /// set-up's clients have ended.
 ///
 /// # Errors
@@ -62,6 +64,7 @@ pub fn run_job<R: Threads + Wait + Sync, S: Source, K: Sink>(
     job: Job,
     options: Options<'_>,
     policy: &[u8],
+    name: &str,
     source: &mut S,
     sink: &mut K,
 ) -> Result<Found, RunFault>
@@ -73,6 +76,6 @@ pub fn run_job<R: Threads + Wait + Sync, S: Source, K: Sink>(
 {
     match job {
         Job::Threads => threads(rt, alloc, options, source, sink),
-        other => run_work(alloc, other, options, policy, source, sink),
+        other => run_work(alloc, other, options, policy, name, source, sink),
     }
 }

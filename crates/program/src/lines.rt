@@ -18,6 +18,9 @@ use std::alloc::Global;
 use std::sync::Wait;
 use std::thread::Threads;
 
+/// The name that stands for standard input.
+const STANDARD: &str = "-";
+
 /// Does the job of a line with standard input.
 fn run_standard<'a, R: Threads + Wait + Sync, I: Inputs, K: Sink>(
     rt: &R,
@@ -33,7 +36,16 @@ fn run_standard<'a, R: Threads + Wait + Sync, I: Inputs, K: Sink>(
         I.Standard.Source I.File.Source K.Sink line.entry.job line.entry.options policy.now None result.input result.answer sink.old sink.new }
 {
     let mut source = inputs.standard();
-    let answer = run_job(rt, alloc, line.job, line.options, policy, &mut source, sink);
+    let answer = run_job(
+        rt,
+        alloc,
+        line.job,
+        line.options,
+        policy,
+        STANDARD,
+        &mut source,
+        sink,
+    );
     Done {
         line,
         input: Used::Standard(source),
@@ -61,7 +73,16 @@ fn run_file<'a, R: Threads + Wait + Sync, I: Inputs, K: Sink>(
         I.Standard.Source I.File.Source K.Sink line.entry.job line.entry.options policy.now (Some name.now) result.input result.answer sink.old sink.new }
 {
     let mut source = file;
-    let answer = run_job(rt, alloc, line.job, line.options, policy, &mut source, sink);
+    let answer = run_job(
+        rt,
+        alloc,
+        line.job,
+        line.options,
+        policy,
+        name,
+        &mut source,
+        sink,
+    );
     Done {
         line,
         input: Used::File(source),
@@ -78,7 +99,15 @@ fn run_new<'a, S, F, E, K: Sink>(alloc: Global, line: Line<'a>, sink: &mut K) ->
 {
     let nothing: &[u8] = &[];
     let mut source = ReaderSource::new(nothing);
-    let answer = run_work(alloc, Job::New, line.options, nothing, &mut source, sink);
+    let answer = run_work(
+        alloc,
+        Job::New,
+        line.options,
+        nothing,
+        STANDARD,
+        &mut source,
+        sink,
+    );
     Done {
         line,
         input: Used::Nothing,

@@ -2,7 +2,7 @@
 ghost use Rattle.std.specs.Prelude.{◌≡◌, ◌≢◌, IfErr, IfOk, map, option_map};
 ghost use Rattle.command_line.specs.declared.arguments.Job.TheVariants.{Threads};
 ghost use Rattle.command_check.specs.Commands.{IsAnswerTo, IsStateAnswer};
-ghost use Rattle.program.specs.Jobs.{IsAudit, IsAuditByHow, IsAuditNow, IsAuditOfEver, IsAuditOfParts, IsAuditOfState, IsCheck, IsExplorationBy, IsHeld, IsOrdersAnswer, by_of, form_of as form_of_options, happening_in, how_of, messages_of, question_of, trust_of, without_of};
+ghost use Rattle.program.specs.Jobs.{IsAudit, IsAuditByHow, IsAuditNow, IsAuditOfEver, IsAuditOfParts, IsAuditOfState, IsCheck, IsExplorationBy, IsHeld, IsImport, IsOrdersAnswer, by_of, form_of as form_of_options, happening_in, how_of, messages_of, question_of, trust_of, without_of};
 ghost use Rattle.program.specs.NewWords.{IsNewOf};
 ghost use Rattle.program.specs.WitnessWords.{IsNamedWitness};
 ghost use Rattle.command_never.specs.Question.{IsNever};
@@ -18,7 +18,7 @@ use command_core::{Answer, Engine, RunFault};
 use command_explore::{Explore, ExploreGroups, ExploreOptions, WriteWitness};
 use command_files::{FileCheck, NamedCheck};
 use command_how::{Happening, How};
-use command_import::{Importer, Reading};
+use command_import::{Importer, LayoutText, Reading};
 use command_line::{Job, Options};
 use command_marks::{Marks, Record};
 use command_never::Question;
@@ -369,18 +369,58 @@ fn make_new(alloc: Global, options: Options<'_>, input: &[u8]) -> Result<Answer,
     }
 }
 
+/// The set-up of the layout in a file of this name, or, by the options, the listing or the capDL text of that layout.
+fn make_import(
+    alloc: Global,
+    options: Options<'_>,
+    name: &str,
+    input: &[u8],
+) -> Result<Answer, RunFault>
+    ensures made { IfOk result (λ made. IsImport options.entry input.now made.text.items made.verdict) }
+    ensures memory { IfErr result (λ fault. fault ≡ RunFault.Memory) }
+{
+    let Options {
+        shrink,
+        listing,
+        flows,
+        plain,
+        strict,
+        ..
+    } = options;
+    let reading = Reading {
+        shrink,
+        flows,
+        plain,
+        all_rights: !options.takes_least(),
+        are_rights_asked: options.rights.is_some(),
+        strict,
+    };
+    if options.cdl {
+        LayoutText { reading }.make(alloc, input)
+    } else {
+        let importer = Importer {
+            reading,
+            listing,
+            name,
+        };
+        importer.make(alloc, input)
+    }
+}
+
 /// What a command line asks for, but the run by threads, which makes no text of an input alone.
 #[derive(Clone, Copy)]
 pub(crate) struct Work<'a> {
     job: Job,
     options: Options<'a>,
     policy: &'a [u8],
+    /// The name of the input's file, or a hyphen.
+    name: &'a str,
     ghost without_threads: { job ≢ Threads },
 }
 
 impl<'a> Work<'a> {
-    /// The job, with its options, and the bytes of the policy that they name.
-    pub(crate) fn new(job: Job, options: Options<'a>, policy: &'a [u8]) -> Work<'a>
+    /// The job, with its options, the bytes of the policy that they name, and the name of the input's file.
+    pub(crate) fn new(job: Job, options: Options<'a>, policy: &'a [u8], name: &'a str) -> Work<'a>
         requires { job ≢ Job.Threads }
         ensures job { result.job ≡ job }
         ensures options { result.options ≡ options.entry }
@@ -390,6 +430,7 @@ impl<'a> Work<'a> {
             job,
             options,
             policy,
+            name,
         }
     }
 }
@@ -423,23 +464,7 @@ impl Engine for Work<'_> {
             Job::New => make_new(alloc, options, input),
             Job::Marks => on_setup(alloc, Marks, input),
             Job::Record => on_setup(alloc, Record, input),
-            Job::Import => {
-                let Options {
-                    shrink,
-                    listing,
-                    flows,
-                    strict,
-                    ..
-                } = options;
-                let reading = Reading {
-                    shrink,
-                    flows,
-                    all_rights: !options.takes_least(),
-                    are_rights_asked: options.rights.is_some(),
-                    strict,
-                };
-                Importer { reading, listing }.make(alloc, input)
-            }
+            Job::Import => make_import(alloc, options, self.name, input),
         }
     }
 }

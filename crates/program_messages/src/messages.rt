@@ -11,10 +11,9 @@ use command_core::{
 };
 use command_files::Used;
 use command_line::{Job, Line, Options, refused_line_words};
-use setup_layout::Reading;
+use setup_layout::{Reading, layout_words};
 use setup_messages::{Formats, refusal_words};
 use setup_positions::NamedText;
-use setup_system::layout_words;
 use std::fmt::Display;
 use std::io::{self, Eprint};
 
@@ -239,12 +238,14 @@ fn note_on_layout<R: Eprint + AllocGlobal>(
     let Options {
         shrink,
         flows,
+        plain,
         strict,
         ..
     } = options;
     let reading = Reading {
         shrink,
         flows,
+        plain,
         all_rights: !options.takes_least(),
         are_rights_asked: options.rights.is_some(),
         strict,

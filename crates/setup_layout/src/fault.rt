@@ -93,6 +93,11 @@ impl Remarks {
         self.add(spot, Some(topic), 0, words);
     }
 
+    /// Counts remarks that are not told.
+    pub fn count(&mut self, more: usize) {
+        self.more = self.more.saturating_add(more);
+    }
+
     /// Says the same as another remark, of a part of this text.
     pub fn say_again(&mut self, spot: Spot, remark: &Remark) {
         self.add(spot, remark.topic, remark.others, remark.words.as_str());

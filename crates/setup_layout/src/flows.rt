@@ -3,10 +3,16 @@ use crate::layout::{Layout, OTHER_BITS, Object, Slot};
 use cap_core::{Guard, Kind, ProfileName, Rights};
 use std::alloc::{AllocError, Global};
 
-/// The rights by which capabilities are handed over, and by which a call can be answered.
+/// The rights to write and to read, those by which capabilities are handed over, and by which a call can be answered.
+const WRITE: u8 = 1;
+
+const READ: u8 = 2;
+
 const GRANT: u8 = 4;
 
 const GRANT_REPLY: u8 = 8;
+
+const ALL_RIGHTS: u8 = 15;
 
 /// The bits of an address that a CNode of one level takes.
 const WORD_BITS: u32 = 64;
@@ -23,6 +29,19 @@ struct Flows<'a> {
     /// The CNode with what the slots of a thread hold, or the endpoint of the answers to calls by an endpoint, by the place of the
     /// thread or the endpoint.
     beside: Vec<Option<usize>>,
+    /// The capabilities that lead to each object, by their places among those that are held.
+    leads: Vec<Vec<usize>>,
+}
+
+/// Marks an object that is reached, from which more is to be looked for where it was not reached yet.
+fn reach(reached: &mut [bool], next: &mut Vec<usize>, object: usize) -> Result<(), AllocError> {
+    if let Some(entry) = reached.get_mut(object) {
+        if !*entry {
+            *entry = true;
+            next.push(object)?;
+        }
+    }
+    Ok(())
 }
 
 /// Says that capabilities can be handed over by an endpoint.
@@ -97,98 +116,194 @@ impl<'a> Flows<'a> {
         Ok(())
     }
 
-    /// Gives those that receive by an endpoint what the answer to a call by a capability needs, and, where capabilities can be handed
-    /// over, the CNodes of the threads that reach that capability. So many of the capabilities are those of the layout.
-    fn answer(&mut self, call: Held, count: usize) -> Result<(), AllocError> {
-        let (caller, endpoint, allowed, _, line) = call;
-        let answers = self.beside(endpoint, Kind::Endpoint, "reply")?;
-        self.held.push((caller, answers, 2, 0, line))?;
-        for number in 0..count {
-            let Some((holder, object, rights, _, line)) = self.held.get(number).copied() else {
+    /// The object that is reached by a capability of an object: of a thread, the CNode with what its slots hold.
+    fn target(&self, object: usize) -> usize {
+        match self.kind_of(object) {
+            Some(Kind::Tcb) => {
+                let node = self.beside.get(object).copied().flatten();
+                node.unwrap_or(object)
+            }
+            _ => object,
+        }
+    }
+
+    /// Notes which capabilities lead to each object.
+    fn note_leads(&mut self) -> Result<(), AllocError> {
+        for _object in self.layout.objects.as_slice() {
+            self.leads.push(Vec::new(self.alloc))?;
+        }
+        for number in 0..self.held.len() {
+            let Some((_, object, _, _, _)) = self.held.get(number).copied() else {
                 continue;
             };
-            if object == endpoint && rights & 2 > 0 {
-                self.held.push((holder, answers, 1, 0, line))?;
-                if (allowed | rights) & GRANT > 0 {
-                    self.join(holder, call, count, line)?;
-                }
+            let target = self.target(object);
+            if let Some(leads) = self.leads.get_mut(target) {
+                leads.push(number)?;
             }
         }
         Ok(())
     }
 
-    /// Adds those to the CNodes from which an object is reached that hold a capability of one of them, or of a thread whose slots one of
-    /// them is; so many of the capabilities are looked at. Answers whether there were such.
-    fn spread(&self, count: usize, above: &mut [bool]) -> bool {
-        let mut is_more = false;
-        for (holder, object, _, _, _) in self.held.as_slice().iter().take(count) {
-            let target = match self.kind_of(*object) {
-                Some(Kind::Tcb) => self
-                    .beside
-                    .get(*object)
-                    .copied()
-                    .flatten()
-                    .unwrap_or(*object),
-                _ => *object,
-            };
-            if let (Some(true), Some(entry)) = (
-                above.get(target).copied(),
-                above.get_mut(*holder),
-            ) {
-                is_more |= !*entry;
-                *entry = true;
-            }
+    /// The capabilities that lead to an object.
+    fn leads_to(&self, object: usize) -> &[usize] {
+        match self.leads.get(object) {
+            Some(leads) => leads.as_slice(),
+            None => &[],
         }
-        is_more
     }
 
-    /// The objects from which an object is reached.
-    fn above(&self, object: usize, count: usize) -> Result<Vec<bool>, AllocError> {
-        let mut above = vec![in self.alloc; false; self.layout.objects.len()]?;
-        if let Some(entry) = above.get_mut(object) {
-            *entry = true;
+    /// The capabilities of an endpoint with all of the first rights, and, if there are second ones, with one of these.
+    fn with_rights(&self, endpoint: usize, all: u8, some: u8) -> Result<Vec<Held>, AllocError> {
+        let mut found = Vec::new(self.alloc);
+        for number in self.leads_to(endpoint) {
+            if let Some(held) = self.held.get(*number).copied() {
+                if held.2 & all == all && (some == 0 || held.2 & some > 0) {
+                    found.push(held)?;
+                }
+            }
         }
-        for _step in 0..count {
-            if !self.spread(count, above.as_mut_slice()) {
-                break;
+        Ok(found)
+    }
+
+    /// Marks the holders of the capabilities that lead to an object.
+    fn reach_holders(
+        &self,
+        object: usize,
+        above: &mut [bool],
+        next: &mut Vec<usize>,
+    ) -> Result<(), AllocError> {
+        for number in self.leads_to(object) {
+            if let Some(held) = self.held.get(*number) {
+                reach(above, next, held.0)?;
+            }
+        }
+        Ok(())
+    }
+
+    /// The objects from which the holder of one of these capabilities is reached.
+    fn above(&self, calls: &[Held]) -> Result<Vec<bool>, AllocError> {
+        let mut above = vec![in self.alloc; false; self.layout.objects.len()]?;
+        let mut next = Vec::new(self.alloc);
+        for call in calls {
+            reach(above.as_mut_slice(), &mut next, call.0)?;
+        }
+        for _object in 0..self.layout.objects.len() {
+            match next.pop() {
+                Some(object) => self.reach_holders(object, above.as_mut_slice(), &mut next)?,
+                None => break,
             }
         }
         Ok(above)
     }
 
-    /// Gives who receives by an endpoint capabilities of the CNodes of the threads that reach a capability to call by it.
-    fn join(
-        &mut self,
-        holder: usize,
-        call: Held,
-        count: usize,
-        line: usize,
-    ) -> Result<(), AllocError> {
-        let (caller, endpoint, _, _, _) = call;
-        say_joined(self.layout, endpoint, caller, holder);
-        let above = self.above(caller, count)?;
-        for number in 0..self.beside.len() {
-            let node = self.beside.get(number).copied().flatten();
-            if let (Some(Kind::Tcb), Some(node)) = (self.kind_of(number), node) {
+    /// The CNodes of the threads from which the holder of one of these capabilities is reached.
+    fn threads_above(&self, calls: &[Held]) -> Result<Vec<usize>, AllocError> {
+        let above = self.above(calls)?;
+        let mut nodes = Vec::new(self.alloc);
+        for (number, node) in self.beside.iter().enumerate() {
+            if let (Some(Kind::Tcb), Some(node)) = (self.kind_of(number), *node) {
                 if above.get(node).copied() == Some(true) {
-                    self.held.push((holder, node, 15, 0, line))?;
+                    nodes.push(node)?;
                 }
             }
+        }
+        Ok(nodes)
+    }
+
+    /// How many capabilities to receive by an endpoint there are, and how many of these have G.
+    fn count_receivers(&self, endpoint: usize) -> (usize, usize) {
+        let (mut all, mut granting) = (0usize, 0usize);
+        for number in self.leads_to(endpoint) {
+            let rights = self.held.get(*number).map_or(0, |held| held.2);
+            if rights & READ > 0 {
+                all = all.saturating_add(1);
+            }
+            if rights & (READ | GRANT) == READ | GRANT {
+                granting = granting.saturating_add(1);
+            }
+        }
+        (all, granting)
+    }
+
+    /// Says to whom capabilities can be handed over by a call: to so many that receive.
+    fn say_joined(&mut self, call: Held, count: usize) {
+        let (caller, endpoint, rights, _, _) = call;
+        let mut left = count;
+        for place in 0..self.leads_to(endpoint).len() {
+            if left == 0 || self.layout.notes.is_full() {
+                break;
+            }
+            let number = self.leads_to(endpoint).get(place).copied();
+            let Some(held) = self.held.get(number.unwrap_or(usize::MAX)).copied() else {
+                continue;
+            };
+            if held.2 & READ > 0 && (rights | held.2) & GRANT > 0 {
+                say_joined(self.layout, endpoint, caller, held.0);
+                left = left.saturating_sub(1);
+            }
+        }
+        self.layout.notes.count(left);
+    }
+
+    /// Gives who receives by an endpoint what an answer needs, and capabilities of these CNodes.
+    fn give(&mut self, receiver: Held, answers: usize, nodes: &[usize]) -> Result<(), AllocError> {
+        let (holder, _, _, _, line) = receiver;
+        self.held.push((holder, answers, WRITE, 0, line))?;
+        for node in nodes {
+            self.held.push((holder, *node, ALL_RIGHTS, 0, line))?;
+        }
+        Ok(())
+    }
+
+    /// Gives those that receive by an endpoint what the answers to calls by it need, and, where capabilities can be handed over, the
+    /// CNodes of the threads that reach a capability to call.
+    fn answer(&mut self, endpoint: usize, answers: usize) -> Result<(), AllocError> {
+        let calls = self.with_rights(endpoint, WRITE, GRANT | GRANT_REPLY)?;
+        let granting = self.with_rights(endpoint, WRITE | GRANT, 0)?;
+        let by_all = self.threads_above(calls.as_slice())?;
+        let by_granting = self.threads_above(granting.as_slice())?;
+        let receivers = self.with_rights(endpoint, READ, 0)?;
+        for (caller, _, _, _, line) in calls.as_slice() {
+            self.held.push((*caller, answers, READ, 0, *line))?;
+        }
+        for receiver in receivers.as_slice() {
+            let nodes = if receiver.2 & GRANT > 0 {
+                by_all.as_slice()
+            } else {
+                by_granting.as_slice()
+            };
+            self.give(*receiver, answers, nodes)?;
         }
         Ok(())
     }
 
     /// Adds what messages hand over: the answer to each call, and capabilities.
     fn add_messages(&mut self) -> Result<(), AllocError> {
-        let count = self.held.len();
-        for number in 0..count {
+        self.note_leads()?;
+        let mut receivers = vec![in self.alloc; None; self.beside.len()]?;
+        for number in 0..self.held.len() {
             let Some(call) = self.held.get(number).copied() else {
                 continue;
             };
-            let (_, object, rights, _, _) = call;
-            let is_call = rights & 1 > 0 && rights & (GRANT | GRANT_REPLY) > 0;
-            if is_call && self.kind_of(object) == Some(Kind::Endpoint) {
-                self.answer(call, count)?;
+            let (_, endpoint, rights, _, _) = call;
+            let is_call = rights & WRITE > 0 && rights & (GRANT | GRANT_REPLY) > 0;
+            if is_call && self.kind_of(endpoint) == Some(Kind::Endpoint) {
+                self.beside(endpoint, Kind::Endpoint, "reply")?;
+                let (all, granting) = match receivers.get(endpoint).copied().flatten() {
+                    Some(counts) => counts,
+                    None => self.count_receivers(endpoint),
+                };
+                if let Some(entry) = receivers.get_mut(endpoint) {
+                    *entry = Some((all, granting));
+                }
+                let count = if rights & GRANT > 0 { all } else { granting };
+                self.say_joined(call, count);
+            }
+        }
+        for endpoint in 0..self.beside.len() {
+            let answers = self.beside.get(endpoint).copied().flatten();
+            if let (Some(Kind::Endpoint), Some(answers)) = (self.kind_of(endpoint), answers) {
+                self.answer(endpoint, answers)?;
             }
         }
         Ok(())
@@ -276,6 +391,7 @@ pub fn add_flows(alloc: Global, layout: &mut Layout) -> Result<(), AllocError> {
         layout,
         held: Vec::new(alloc),
         beside,
+        leads: Vec::new(alloc),
     };
     flows.make_nodes()?;
     flows.add_messages()?;

@@ -48,6 +48,8 @@ pub struct Reading {
     pub shrink: Option<u64>,
     /// Whether each object counts that a kernel here lacks, as an endpoint or a CNode.
     pub flows: bool,
+    /// Whether such objects do not count in a `.system` file either; else they count there in any case.
+    pub plain: bool,
     /// Whether a capability has all rights where a `.system` file says nothing of them; else it has the least.
     pub all_rights: bool,
     /// Whether it is asked for that these are taken; else they are assumed.

@@ -1,5 +1,5 @@
-//! Layouts as capDL text: what is read of them, and where their objects stand in a set-up. What is read is tested, and no clause
-//! says what it is.
+//! Layouts as capDL text, and as `.system` files, which become such texts: what is read of them, and where their objects stand in a
+//! set-up. What is read is tested, and no clause says what it is but in which language a layout is.
 #![tactic(auto)]
 
 mod derived;
@@ -7,6 +7,7 @@ mod fault;
 mod flows;
 mod hardware;
 mod kinds;
+mod languages;
 mod layout;
 mod machine;
 mod names;
@@ -15,12 +16,14 @@ mod places;
 mod reading;
 mod scanner;
 mod slots;
+mod system;
 mod words;
 
 pub use fault::{Remark, Remarks};
+pub use languages::{Language, capdl_text, language_of, layout_words, read_any_layout};
 pub use layout::{AssumedRights, Layout, Object, Reading, Slot};
 pub use machine::Machine;
 pub use names::{LOADER, SetupName, SetupNames};
 pub use places::{FIRST_REGION_SLOT, Places, Region, Source};
-pub use reading::{ReadLayout, read_layout};
-pub use scanner::{Scanner, Spot, front_length, number_of, without_front};
+pub use reading::ReadLayout;
+pub use scanner::Spot;

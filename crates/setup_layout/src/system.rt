@@ -1,9 +1,16 @@
-//! The system that a `.system` file describes.
-use crate::elements::{Element, Elements};
-use crate::lines::Lines;
-use crate::machines::Machine;
-use crate::making::{Assumed, Domain, End, LARGE_BITS, cnode_bits, text_of};
-use setup_layout::{Reading, Remarks, Scanner, Spot, front_length, number_of};
+//! The system that a `.system` file describes: the file becomes capDL text, which is read as every layout.
+mod elements;
+pub(crate) mod lines;
+mod machines;
+mod making;
+
+use crate::fault::Remarks;
+use crate::layout::Reading;
+use crate::scanner::{Scanner, Spot, front_length, number_of};
+use crate::system::elements::{Element, Elements};
+use crate::system::lines::Lines;
+use crate::system::machines::Machine;
+use crate::system::making::{Assumed, Domain, End, LARGE_BITS, cnode_bits, text_of};
 use std::alloc::{AllocError, Global};
 use std::collections::HashMap;
 use std::fmt::Write;
@@ -28,6 +35,10 @@ const RIGHTS_ASSUMED: &str =
 const ALL_TAKEN: &str = "the file says no rights: all are taken, to notify, to call and to hear";
 
 const LEAST_TAKEN: &str = "the file says no rights: W is taken to notify, WP to call and R to hear";
+
+/// What is told where objects do not count that a kernel here lacks.
+const PLAIN: &str =
+    "--plain leaves out memory regions, notifications and interrupts: what passes by them is told by no audit of the set-up";
 
 /// The elements that are read.
 #[rattlefmt::skip]
@@ -259,6 +270,9 @@ impl<'a> System<'a> {
         if name != "system" {
             let told = format_args!("a .system file is one element system, and not {name}");
             self.faults.say(spot, told);
+        }
+        if !self.reading.flows {
+            self.notes.say(spot, PLAIN);
         }
         self.notes.say(spot, TOOL_ASSUMED);
         if !self.reading.are_rights_asked {

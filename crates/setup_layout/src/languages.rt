@@ -1,9 +1,77 @@
-//! The reading of a layout in either language.
+//! The languages of layouts, and the reading of a layout in any of them.
+ghost use Rattle.std.specs.Prelude.{◌≡◌, IfOk};
+ghost use Rattle.std.specs.List.{find};
+ghost use Rattle.setup_layout.specs.Languages as spec;
+
+use crate::fault::Remarks;
+use crate::layout::{AssumedRights, Layout, Reading};
+use crate::reading::{ReadLayout, read_layout};
+use crate::scanner::{Scanner, Spot};
 use crate::system::System;
-use setup_layout::{
-    AssumedRights, Layout, ReadLayout, Reading, Remarks, Scanner, Spot, read_layout, without_front,
-};
 use std::alloc::{AllocError, Global};
+
+/// A language in which a layout is written.
+#[derive(Clone, Copy)]
+pub enum Language {
+    /// capDL text.
+    Capdl,
+    /// A `.system` file of Microkit.
+    SystemFile,
+}
+
+/// Whether a byte says nothing at the front of a layout: it is a blank, or one of those of the mark by which some programs know UTF-8.
+fn is_front(byte: u8) -> bool
+    ensures { result ≡ spec.is_front byte }
+{
+    byte.is_ascii_whitespace() || byte == 0xEF || byte == 0xBB || byte == 0xBF
+}
+
+/// The first byte that says something.
+fn first_of(bytes: &[u8]) -> Option<u8>
+    ensures { result ≡ find spec.is_inside bytes.now }
+{
+    bytes.iter().copied().find(|byte| !is_front(*byte))
+}
+
+/// The language of a layout with these bytes: a `.system` file begins with `<`.
+pub fn language_of(bytes: &[u8]) -> Language
+    ensures { result ≡ spec.language_of bytes.now }
+{
+    match first_of(bytes) {
+        Some(b'<') => Language::SystemFile,
+        _ => Language::Capdl,
+    }
+}
+
+impl Reading {
+    /// How a layout with these bytes is read: each object counts in a `.system` file, if that is not to be read without those that a
+    /// kernel here lacks.
+    pub fn of_layout(self, bytes: &[u8]) -> Reading
+        ensures { result ≡ spec.reading_of self bytes.now }
+    {
+        let counts = match language_of(bytes) {
+            Language::SystemFile => !self.plain,
+            Language::Capdl => false,
+        };
+        Reading {
+            flows: self.flows || counts,
+            ..self
+        }
+    }
+}
+
+/// The capDL text that a layout becomes: a `.system` file that has no fault becomes such a text, and capDL text stays as it is.
+pub fn capdl_text(alloc: Global, bytes: &[u8], reading: Reading) -> Result<Vec<u8>, AllocError>
+    ensures { spec.language_of bytes.now ≡ Language.Capdl → IfOk result (λ text. text.items ≡ bytes.now) }
+{
+    match language_of(bytes) {
+        Language::Capdl => bytes.to_vec(alloc),
+        Language::SystemFile => {
+            let system = System::read(alloc, std::str::from_utf8(bytes).unwrap_or(""), reading)?;
+            Ok(system.text()?.text.into_bytes())
+        }
+    }
+}
 
 /// The part of the file of which a line of the text was made.
 fn source_of(spots: &[Spot], line: usize) -> Spot {
@@ -89,15 +157,15 @@ fn refuse_gaps(layout: &mut Layout) -> Result<(), AllocError> {
     Ok(())
 }
 
-/// Reads a layout: a `.system` file where the first letter is `<`, and else capDL text. What is wrong with it is in its faults, and a
-/// layout with faults has no places.
+/// Reads a layout: capDL text, or a `.system` file. What is wrong with it is in its faults, and a layout with faults has no places.
 pub fn read_any_layout(
     alloc: Global,
     bytes: &[u8],
     reading: Reading,
 ) -> Result<ReadLayout, AllocError> {
-    let mut read = match std::str::from_utf8(bytes) {
-        Ok(text) if without_front(text).starts_with('<') => read_system(alloc, text, reading)?,
+    let reading = reading.of_layout(bytes);
+    let mut read = match (language_of(bytes), std::str::from_utf8(bytes)) {
+        (Language::SystemFile, Ok(text)) => read_system(alloc, text, reading)?,
         _ => read_layout(alloc, bytes, reading)?,
     };
     if reading.strict {

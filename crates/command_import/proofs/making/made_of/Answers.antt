@@ -2,10 +2,10 @@
 use Rattle.std.proofs.Common.{rules}
 use Rattle.command_import.specs.Asked.{IsReadAs}
 use Rattle.command_import.proofs.Made.{as_imported}
-use Rattle.command_import.proofs.making.Importer.made_of.Goals as goal
+use Rattle.command_import.proofs.making.made_of.Goals as goal
 
 pub returns : goal.returns
 returns g =
     let layout = g.args.read.now.layout in
-    let so : IsReadAs g.args.self.reading layout = search rules in
-    as_imported g.args.self.reading g.args.self.listing layout g.written.result so g.written.ensures.listed g.written.ensures.tested
+    let so : IsReadAs g.args.reading layout = search rules in
+    as_imported g.args.reading g.args.listing layout g.written.result so g.written.ensures.listed g.written.ensures.tested

@@ -1,6 +1,6 @@
 //! The capDL text of a system. The places of slots are those that Microkit's tool gives them, as far as its description says so.
-use crate::lines::Lines;
-use setup_layout::Spot;
+use crate::scanner::Spot;
+use crate::system::lines::Lines;
 use std::alloc::{AllocError, Global};
 
 /// The first slots of a domain's CNode for what it may notify, for what it may call, for interrupts, and for the threads of the domains

@@ -1,5 +1,5 @@
 //! The lines of a text that is made of a file.
-use setup_layout::Spot;
+use crate::scanner::Spot;
 use std::alloc::{AllocError, Global};
 use std::fmt::{Display, Write};
 

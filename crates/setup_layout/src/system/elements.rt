@@ -1,5 +1,6 @@
 //! The elements of a text that is XML, as far as `.system` files use it.
-use setup_layout::{Remarks, Scanner, Spot, front_length};
+use crate::fault::Remarks;
+use crate::scanner::{Scanner, Spot, front_length};
 use std::alloc::{AllocError, Global};
 use std::fmt::Display;
 

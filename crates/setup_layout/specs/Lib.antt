@@ -1,0 +1,2 @@
+-- The languages of layouts.
+pub mod Languages
