@@ -1,5 +1,5 @@
 -- Which parts Grant joins: one can hand capabilities to another, by a message or by its answer.
-use Rattle.std.specs.Prelude.{ℕ, ◌==◌, ◌&&◌, ◌||◌, Bool, not, cond, min, max, List, [], ◌∷◌, ◌++◌, map, filter, find, Option, Some, None}
+use Rattle.std.specs.Prelude.{ℕ, ◌==◌, ◌&&◌, ◌||◌, Bool, not, cond, min, max, List, [], ◌∷◌, map, filter, find, Option, Some, None}
 use Rattle.std.specs.List.{list_any, flat_map}
 use Rattle.command_policy_breaches.specs.declared.joining.Join.{Join}
 use Rattle.command_policy_breaches.specs.declared.held.Block.{Block}
@@ -7,40 +7,39 @@ use Rattle.command_policy_breaches.specs.declared.held.Home.{Home}
 use Rattle.command_policy_breaches.specs.declared.held.Layout.{Layout}
 use Rattle.setup_policy.specs.declared.policy.Policy.{Policy}
 use Rattle.command_policy_breaches.specs.Layouts.{homes_at}
-use Rattle.command_policy_breaches.specs.declared.sides.Right.{Right}
-use Rattle.command_policy_breaches.specs.Sides.{may, may_give, may_hear, may_answer, may_part_call, is_at_home}
+use Rattle.command_policy_breaches.specs.declared.sides.Right.TheVariants.{Give, Call, Answer, Receive}
+use Rattle.command_policy_breaches.specs.Sides.{may, is_at_home}
+
+-- ---- what one part can hand to another
+
+-- part j takes what is handed by an endpoint: what is sent there, where it may receive, or what is answered, where it may call
+abbrev pub takes_of : Bool → Bool → Layout → ℕ → ℕ → Bool
+takes_of sent answered l j endpoint = (sent && may Receive l j endpoint) || (answered && may Call l j endpoint)
+
+-- by the endpoint part i can hand capabilities to part j: in a message, where it may send with Grant, or in its answer, where it may
+-- receive with Grant
+abbrev pub hands_by : Layout → ℕ → ℕ → ℕ → Bool
+hands_by l i j endpoint = takes_of (may Give l i endpoint) (may Answer l i endpoint) l j endpoint
+
+-- so it can by some endpoint
+abbrev pub are_given : Layout → ℕ → ℕ → Bool
+are_given l i j = list_any (hands_by l i j) l.endpoints.items
+
+-- ---- a join for each two parts and each endpoint by which the one can hand capabilities to the other
 
 abbrev pub join_from : ℕ → ℕ → ℕ → Join
 join_from from endpoint to = record { from = from; endpoint = endpoint; to = to }
 
-abbrev pub is_other_hearer : Layout → ℕ → ℕ → ℕ → Bool
-is_other_hearer l from endpoint to = not (to == from) && may_hear l to endpoint
-
-abbrev pub is_other_caller : Layout → ℕ → ℕ → ℕ → Bool
-is_other_caller l from endpoint to = not (to == from) && may_part_call l to endpoint
-
--- to all others that may receive where the part may send with Grant
-abbrev pub given : Layout → ℕ → ℕ → List Join
-given l endpoint from = cond (may_give l from endpoint) (map (join_from from endpoint) (filter (is_other_hearer l from endpoint) l.parts.items)) []
-
--- to all others that may call where the part may receive with Grant
-abbrev pub answer_joins : Layout → ℕ → ℕ → List Join
-answer_joins l endpoint from = cond (may_answer l from endpoint) (map (join_from from endpoint) (filter (is_other_caller l from endpoint) l.parts.items)) []
-
--- a part with the one right hands capabilities to all others that have the other
-abbrev pub is_other : Right → Layout → ℕ → ℕ → ℕ → Bool
-is_other takes l from endpoint to = not (to == from) && may takes l to endpoint
-
-abbrev pub handed : Right → Right → Layout → ℕ → ℕ → List Join
-handed hands takes l endpoint from = cond (may hands l from endpoint) (map (join_from from endpoint) (filter (is_other takes l from endpoint) l.parts.items)) []
+abbrev pub is_joined_by : Layout → ℕ → ℕ → ℕ → Bool
+is_joined_by l endpoint from to = not (to == from) && hands_by l from to endpoint
 
 abbrev pub joins_from : Layout → ℕ → ℕ → List Join
-joins_from l endpoint from = given l endpoint from ++ answer_joins l endpoint from
+joins_from l endpoint from = map (join_from from endpoint) (filter (is_joined_by l endpoint from) l.parts.items)
 
 abbrev pub joins_on : Layout → ℕ → List Join
 joins_on l endpoint = flat_map (joins_from l endpoint) l.parts.items
 
--- by which endpoints a part can hand capabilities to another, by a message or by an answer; none where Grant hands over nothing
+-- the joins of all parts, by all endpoints; none where Grant hands over nothing
 abbrev pub joins : Policy → Layout → List Join
 joins c l = cond c.grant (flat_map (joins_on l) l.endpoints.items) []
 

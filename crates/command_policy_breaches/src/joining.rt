@@ -1,5 +1,5 @@
 //! Which parts Grant joins: one can hand capabilities to another, by a message or by its answer.
-ghost use Rattle.std.specs.Prelude.{◌≡◌, ◌++◌, ◌&&◌, ◌==◌, not, IfOk, OnOk, map};
+ghost use Rattle.std.specs.Prelude.{◌≡◌, ◌&&◌, ◌==◌, not, IfOk, map};
 ghost use Rattle.command_policy_breaches.specs.Joins as spec;
 
 use crate::held::{Block, Home, Layout, OfGroup, OfPart};
@@ -17,20 +17,29 @@ pub struct Join {
     pub to: u64,
 }
 
-/// Whether another part has a right to an endpoint.
+/// Whether a part can hand capabilities to another one by an endpoint. `sends` says that it may send there with Grant, and `answers`
+/// that it may receive with Grant.
 #[derive(Clone, Copy)]
-struct OtherWith<'a> {
+struct HandsTo<'a> {
     layout: &'a Layout,
     from: u64,
     endpoint: u64,
-    right: Right,
+    sends: bool,
+    answers: bool,
 }
 
-impl Asks<u64> for OtherWith<'_> {
-    ghost holds = { λ q to. spec.is_other q.right q.layout.now q.from q.endpoint to };
+impl Asks<u64> for HandsTo<'_> {
+    ghost holds = { λ q to. not (to == q.from) && spec.takes_of q.sends q.answers q.layout.now to q.endpoint };
 
     fn holds(&self, to: &u64) -> bool {
-        *to != self.from && may(self.layout, self.right, *to, self.endpoint)
+        let HandsTo {
+            layout,
+            endpoint,
+            ..
+        } = *self;
+        *to != self.from
+            && (self.sends && may(layout, Right::Receive, *to, endpoint)
+                || self.answers && may(layout, Right::Call, *to, endpoint))
     }
 }
 
@@ -53,32 +62,6 @@ impl Makes<u64, Join> for HandedTo {
     }
 }
 
-/// Adds that a part hands capabilities to each other one that has the right to take them, if it has the right to hand them over.
-fn add_handed(
-    alloc: Global,
-    joins: &mut Vec<Join>,
-    layout: &Layout,
-    from: u64,
-    endpoint: u64,
-    hands: Right,
-    takes: Right,
-) -> Result<(), AllocError>
-    ensures { OnOk result (joins.new.items ≡ joins.old.items ++ spec.handed hands takes layout.now endpoint from) }
-{
-    if may(layout, hands, from, endpoint) {
-        let other = OtherWith {
-            layout,
-            from,
-            endpoint,
-            right: takes,
-        };
-        let others = those(alloc, layout.parts.as_slice(), &other)?;
-        let handed = each(alloc, others.as_slice(), &HandedTo { from, endpoint })?;
-        joins.extend_from_slice(handed.as_slice())?;
-    }
-    Ok(())
-}
-
 /// What a part can hand over by an endpoint, by messages and by its answers.
 #[derive(Clone, Copy)]
 struct HandedBy<'a> {
@@ -91,24 +74,18 @@ impl Adds<u64, Join> for HandedBy<'_> {
 
     fn add(&self, alloc: Global, joins: &mut Vec<Join>, from: &u64) -> Result<(), AllocError> {
         let HandedBy { layout, endpoint } = *self;
-        add_handed(
-            alloc,
-            joins,
+        let from = *from;
+        let question = HandsTo {
             layout,
-            *from,
+            from,
             endpoint,
-            Right::Give,
-            Right::Receive,
-        )?;
-        add_handed(
-            alloc,
-            joins,
-            layout,
-            *from,
-            endpoint,
-            Right::Answer,
-            Right::Call,
-        )
+            sends: may(layout, Right::Give, from, endpoint),
+            answers: may(layout, Right::Answer, from, endpoint),
+        };
+        let others = those(alloc, layout.parts.as_slice(), &question)?;
+        let handed = each(alloc, others.as_slice(), &HandedTo { from, endpoint })?;
+        joins.extend_from_slice(handed.as_slice())?;
+        Ok(())
     }
 }
 

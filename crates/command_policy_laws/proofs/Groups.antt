@@ -21,9 +21,9 @@ use Rattle.command_policy_breaches.specs.declared.held.Home.{Home}
 use Rattle.command_policy_breaches.specs.declared.held.Layout.{Layout}
 use Rattle.setup_policy.specs.declared.policy.Member.{Member}
 use Rattle.setup_policy.specs.declared.policy.Policy.{Policy}
-use Rattle.command_policy_breaches.specs.Joins.{single_block, all_joined, block_of_part, blocks, given, answer_joins, has_another, have_one_group, have_two_groups, homes_joined, homes_joined_of, is_in_either, is_other_caller, is_other_hearer, is_theirs, join_from, joined, joins, joins_from, joins_on, number_at, block_number, renumbered}
+use Rattle.command_policy_breaches.specs.Joins.{single_block, all_joined, block_of_part, blocks, has_another, have_one_group, have_two_groups, homes_joined, homes_joined_of, is_in_either, is_joined_by, is_theirs, join_from, joined, joins, joins_from, joins_on, number_at, block_number, renumbered}
 use Rattle.command_policy_breaches.specs.Layouts.{IsLayoutOf, home, homes_of, part_of_member}
-use Rattle.command_policy_breaches.specs.Sides.{is_at_home, is_home, may_answer, may_give}
+use Rattle.command_policy_breaches.specs.Sides.{is_at_home, is_home}
 use Rattle.command_policy_laws.specs.Unbroken.{AreNamed, group_in, group_of}
 use Rattle.command_policy_laws.proofs.Untold.{fails}
 
@@ -217,7 +217,7 @@ module _ (homes : List Home) where
 
 -- ---- parts that Grant joins
 
-larger : (f t : ℕ) → ((max f t ≡ t) × (min f t ≡ f)) ⊎ ((max f t ≡ f) × (min f t ≡ t))
+pub larger : (f t : ℕ) → ((max f t ≡ t) × (min f t ≡ f)) ⊎ ((max f t ≡ f) × (min f t ≡ t))
 larger f t = elim (tells (nat_le f t)) [
   | inl le ↦ inl (grind (arith, nat_tests, le), grind (arith, nat_tests, le))
   | inr gt ↦ inr (grind (arith, nat_tests, gt), grind (arith, nat_tests, gt))
@@ -376,10 +376,7 @@ module _ (p : ProfileName) (c : Policy) (v : Shown) (l : Layout) (is : IsLayoutO
       }
 
   joined_from : (e from : ℕ) (j : Join) → In from l.parts.items → In j (joins_from l e from) → AreParts j
-  joined_from e from j own there = elim (in_append j (given l e from) (answer_joins l e from) there) [
-    | inl here ↦ mapped_join e from (is_other_hearer l from e) j own (from_cond (may_give l from e) _ j here)
-    | inr here ↦ mapped_join e from (is_other_caller l from e) j own (from_cond (may_answer l from e) _ j here)
-  ]
+  joined_from e from j own there = mapped_join e from (is_joined_by l e from) j own there
 
   are_parts : (j : Join) → In j (joins c l) → AreParts j
   are_parts j there =

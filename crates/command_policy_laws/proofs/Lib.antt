@@ -1,10 +1,11 @@
 pub mod Held
 pub mod Larger
 pub mod Keeps
-pub mod Grants
 pub mod Rights
 pub mod Untold
 pub mod Groups
+pub mod Joined
+pub mod Grants
 pub mod Waiting
 pub mod Unbroken
 pub mod Regions

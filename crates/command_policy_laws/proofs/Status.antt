@@ -18,6 +18,7 @@ use Rattle.command_policy_breaches.specs.Joins.{blocks, homes_joined, joins}
 use Rattle.command_policy_breaches.specs.Ways.{passages}
 use Rattle.command_policy_text.specs.Texts.{breaches, breach_count, calls_breached, text_and_verdict, verdict_by_count}
 use Rattle.command_policy_laws.specs.Unbroken.{any_endpoint, group_of, IsPromised, may_hold, may_group_pass}
+use Rattle.command_policy_laws.proofs.Grants.{handed_out}
 use Rattle.command_policy_laws.proofs.Keeps.{kept_held}
 use Rattle.command_policy_laws.proofs.Regions.{regions_theirs}
 use Rattle.command_policy_laws.proofs.Theirs.{names_theirs, objects_theirs}
@@ -46,13 +47,15 @@ module _ (c : Policy) (l : Layout) (n : Labels) (homes : List Home) (js : List J
 pub promised : (p : ProfileName) (c : Policy) (l : Layout) (n : Labels) (setup : SetupView) (replies : List Reply) (text : List ℕ) → IsPromised p c l n setup replies text
 promised p c l n setup replies text A reached is told =
     let none = none_told c l n (homes_joined c l (blocks c l)) (joins c l) (passages c l (blocks c l)) setup replies text told in
-    let kept = kept_where_untold p c l n A is none in (
+    let kept = kept_where_untold p c l n A is none in
+    let untold = unbroken c l n (homes_joined c l (blocks c l)) (joins c l) (passages c l (blocks c l)) none in (
       kept.0,
       λ calls of.
           let closed = (is.right.ever A reached refl calls of).closed in (
             kept_held p l.memory.items l.uses.items (shown A) (group_of l) any_endpoint (may_hold c l) (may_group_pass c) is.right.ever kept.1 A reached refl calls of,
-            regions_theirs p c l A is (unbroken c l n (homes_joined c l (blocks c l)) (joins c l) (passages c l (blocks c l)) none) calls reached of,
+            regions_theirs p c l A is untold calls reached of,
             objects_theirs p l (state_after p A calls).derivations closed,
             names_theirs p l (state_after p A calls).derivations closed,
+            handed_out p c l A reached is untold.joined untold.grants calls of,
           ),
     )

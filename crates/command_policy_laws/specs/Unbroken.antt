@@ -35,6 +35,7 @@ use Rattle.command_policy_breaches.specs.Layouts.{IsLayoutOf}
 use Rattle.command_policy_breaches.specs.Sides.{is_found_home}
 use Rattle.command_policy_breaches.specs.Ways.{passages}
 use Rattle.command_policy_text.specs.Texts.{breaches, text_and_verdict}
+use Rattle.command_policy_laws.specs.Grants.{HandsNothing}
 use Rattle.command_policy_laws.specs.Keeps.{AreSlotsHeld, KeepPolicy}
 
 -- ---- whose an address is
@@ -140,13 +141,22 @@ AreObjectsTheirs p l f = (slot group : ℕ) → group_of l slot ≡ Some group �
 abbrev pub AreNamesTheirs : ProfileName → Layout → Forest Entry → Type 0
 AreNamesTheirs p l f = (thread slot group : ℕ) → group_of l thread ≡ Some group → Names p f thread slot → group_of l slot ≡ Some group
 
--- what is so after some calls: what groups hold and what passes, their untyped regions, their objects, and what their threads name
+-- where Grant hands over capabilities: by nothing in a slot of a group's part can one be handed to the part of a thread of another group
+abbrev pub HandNothingOut : Policy → Layout → Forest Entry → Type 0
+HandNothingOut c l f =
+    c.grant ≡ true →
+    (slot thread j g h : ℕ) → group_of l slot ≡ Some g → group_of l thread ≡ Some h → part_at l.memory.items thread ≡ Some j → g ≢ h →
+    HandsNothing l j (cap_at f slot)
+
+-- what is so after some calls: what groups hold and what passes, their untyped regions, their objects, what their threads name, and what
+-- they can hand over
 abbrev pub AreKept : ProfileName → Policy → Layout → State → List Call → Type 0
 AreKept p c l A calls =
     AreSlotsHeld p (group_of l) any_endpoint (may_hold c l) (may_group_pass c) l.memory.items A calls
     × AreRegionsTheirs c l (state_after p A calls).derivations
     × AreObjectsTheirs p l (state_after p A calls).derivations
     × AreNamesTheirs p l (state_after p A calls).derivations
+    × HandNothingOut c l (state_after p A calls).derivations
 
 -- what is promised where the verdict on a layout is `AllMet`, which is status 0: the threads that the policy names are of the groups that
 -- name them, and, whatever calls the threads of the parts make, and whatever messages other threads send and receive, the layout is held

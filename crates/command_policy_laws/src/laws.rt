@@ -17,7 +17,7 @@ ghost use Rattle.std.specs.Prelude.{Option};
 ghost use Rattle.setup_format.specs.Views.{ReadView};
 ghost use Rattle.command_policy_laws.specs.Audits.{WhatAuditPolicyPromises};
 ghost use Rattle.command_policy_laws.specs.Broken.{WhatIsToldIsBroken};
-ghost use Rattle.command_policy_laws.specs.Grants.{are_answered, are_given, AreAnswersKeptEver, AreGrantsKeptEver};
+ghost use Rattle.command_policy_laws.specs.Grants.{WhatIsJoinedIsClosed};
 ghost use Rattle.command_policy_laws.specs.Held.{are_passages_let, AreWaysHeldEver};
 ghost use Rattle.command_policy_laws.specs.Keeps.{LeastKeepMost, WhatIsKeptIsHeld};
 ghost use Rattle.command_policy_laws.specs.Larger.{HoldNoLess};
@@ -32,19 +32,12 @@ pub fn what_ways_let_is_delivered()
         AreWaysHeldEver p memory uses v ways i j }
 {}
 
-/// Where parts are confined, and the one part could hand nothing to the other by an endpoint with Grant, then, whatever calls the
-/// threads of the parts make: no slot of the one ever holds a capability with Write and Grant to an endpoint on which the other
-/// may receive.
-pub fn no_grant_leads_out()
-    ensures { (p : ProfileName) (memory : List PartMemory) (uses : List PartUse) (v : Shown) (i j : ℕ) →
-        are_given p memory uses v i j ≡ false → AreConfinedEver p memory uses v → AreGrantsKeptEver p memory uses v i j }
-{}
-
-/// Where parts are confined, and the one part could hand nothing to the other by an answer with Grant, then, whatever calls the threads
-/// of the parts make: no slot of the one ever holds a capability with Read and Grant to an endpoint by which the other may call.
-pub fn no_answer_leads_out()
-    ensures { (p : ProfileName) (memory : List PartMemory) (uses : List PartUse) (v : Shown) (i j : ℕ) →
-        are_answered p memory uses v i j ≡ false → AreConfinedEver p memory uses v → AreAnswersKeptEver p memory uses v i j }
+/// Where Grant hands over capabilities, what it joins is closed: a part that can be given some by another one, by a message or by an
+/// answer, has its number, also by way of third parts. So, whatever calls the threads of the parts make, and whatever messages other
+/// threads send and receive: no slot of a part ever holds a capability with Grant by which something could be handed to a part with
+/// another number.
+pub fn what_is_joined_is_closed()
+    ensures { (p : ProfileName) (c : Policy) (l : Layout) (v : Shown) → WhatIsJoinedIsClosed p c l v }
 {}
 
 /// What may stand in a part may stand in each part in which it lies, and by what endpoint and badge it may send or receive, that part
@@ -86,7 +79,8 @@ pub fn what_is_not_told_is_kept()
 /// the group's entries allow, with its badge and all its rights, or is to an endpoint in a region of the group or in its part's memory;
 /// each message that is delivered between threads of two groups passes by an endpoint and with a badge that a way allows; and each
 /// untyped region in a slot of a group's part lies in one of the group's regions. The threads that the policy names are of the groups that
-/// name them; threads, CNodes and regions in a group's slots are its own, and its threads name no slot of another group.
+/// name them; threads, CNodes and regions in a group's slots are its own, and its threads name no slot of another group. Where Grant
+/// hands over capabilities, by no slot of a group's part can one be handed to the part of a thread of another group.
 pub fn what_status_0_promises()
     ensures { (p : ProfileName) (c : Policy) (l : Layout) (n : Labels) (setup : SetupView) (replies : List Reply) (text : List ℕ) →
         IsPromised p c l n setup replies text }
