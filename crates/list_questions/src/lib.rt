@@ -1,8 +1,8 @@
 //! Questions about the items of a list. Each loop over a list is here once, for items of any type, and so it is proved once: who asks
-//! only says what holds of one item, what is made of it, or what it adds.
+//! only says what holds of one item, what is made of it, what it adds, or what is written of it.
 #![tactic(auto)]
 
-ghost use Rattle.std.specs.Prelude.{◌≡◌, ◌++◌, ℕ, List, Bool, Option, IfOk, OnOk, count_by, filter, find, map, option_copied};
+ghost use Rattle.std.specs.Prelude.{◌≡◌, ◌++◌, ℕ, List, Bool, Option, IfOk, OnOk, count_by, filter, find, map, option_copied, string_bytes};
 ghost use Rattle.std.specs.List.{filter_map, flat_map, list_any};
 
 use std::alloc::{AllocError, Global};
@@ -160,6 +160,33 @@ pub fn add_all<T, R, A: Adds<T, R>>(
 {
     for item in items {
         adder.add(alloc, out, item)?;
+    }
+    Ok(())
+}
+
+/// What is written of an item.
+pub trait Line<T> {
+    ghost line: { Self → T → List ℕ };
+
+    /// Writes it.
+    ///
+    /// # Errors
+    ///
+    /// Memory was refused.
+    fn add(&self, out: &mut String, item: &T) -> Result<(), AllocError>
+        ensures { OnOk result (string_bytes out.new ≡ string_bytes out.old ++ line self.now item.now) };
+}
+
+/// Writes what is written of each item, in their order.
+///
+/// # Errors
+///
+/// Memory was refused.
+pub fn add_each<T, L: Line<T>>(out: &mut String, items: &[T], line: &L) -> Result<(), AllocError>
+    ensures { OnOk result (string_bytes out.new ≡ string_bytes out.old ++ flat_map (L.line line.now) items.now) }
+{
+    for item in items {
+        line.add(out, item)?;
     }
     Ok(())
 }
