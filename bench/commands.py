@@ -6,7 +6,7 @@ import tempfile
 import directions
 from measures import least_run
 
-DRAFT, POLICY = "audit --ever --draft", "audit --policy"
+DRAFT, POLICY = "draft", "policy"
 
 # The words of each command. The loader makes no more calls, and the policy is the draft's.
 COMMANDS = {
@@ -15,10 +15,10 @@ COMMANDS = {
     "why": "why",
     "trace": "trace",
     "audit": "audit",
-    "audit --ever": "audit --ever --without {loader}",
-    DRAFT: "audit --ever --draft --without {loader}",
-    POLICY: "audit --policy {policy}",
-    "audit --never": "audit --never {asked} --without {loader}",
+    "ever": "ever --without {loader}",
+    DRAFT: "draft --without {loader}",
+    POLICY: "policy {policy}",
+    "never": "never {asked} --without {loader}",
     "explore --first": "explore --first {calls}",
 }
 

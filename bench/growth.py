@@ -69,7 +69,7 @@ def audit_rows(proved, path, size):
     parts["reporting"] -= revoking
     yield {"subject": "audits", "size": size, "program": "proved", **parts}
     yield {"subject": "audits, revokes", "size": size, "program": "proved", "reporting": revoking}
-    ever = text_parts(counts_of_functions([proved, "audit", "--ever", path]), calls)
+    ever = text_parts(counts_of_functions([proved, "ever", path]), calls)
     yield {"subject": "audits, ever", "size": size, "program": "proved", **ever}
 
 

@@ -149,7 +149,7 @@ def explored(figures):
 AUDITS = {
     "audits": "what threads name, and who can send to whom",
     "audits, revokes": "what each revoke would do",
-    "audits, ever": "what threads can never get, by `--ever`",
+    "audits, ever": "what threads can never get, by `ever`",
 }
 
 

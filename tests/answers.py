@@ -38,12 +38,12 @@ FORMS = {
     ".tree": ("tree", told),
     ".dot": ("tree --dot", told),
     ".audit": ("audit", told),
-    ".ever": ("audit --ever", told),
-    ".never": ("audit", told),
-    ".out": ("audit --policy {name}.policy.toml", noted),
+    ".ever": ("ever", told),
+    ".never": ("never", told),
+    ".out": ("policy {name}.policy.toml", noted),
     ".explore": ("explore", told),
 }
-# What stands beside these texts; the answers to --how are for hows.py.
+# What stands beside these texts; the answers of `how` are for hows.py.
 BESIDE = (".toml", ".status", ".args", ".err", ".how")
 # Of a policy that is no TOML document the words on standard error are those of the reader: their place alone is compared.
 NO_TOML = b"policy refused 600 at text\n"

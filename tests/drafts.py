@@ -2,9 +2,9 @@
 """drafts.py PROGRAM SEED COUNT FOLDER..: the policy that a layout keeps now, and the same with one entry cut.
 
 The layouts are those of the FOLDERs, as random_policies.py has them or with the trust of NAME.policy.toml, and COUNT random ones,
-drawn from SEED. Of each `audit --ever --draft` is asked for behind all calls and behind half of them. The layout has to keep the
+drawn from SEED. Of each `draft` is asked for behind all calls and behind half of them. The layout has to keep the
 draft, and nothing of it may be unused; of a trusted thread whose control block a part has, the draft has a comment, and the line
-`breach thread` is the only one. The draft has the parts that `audit --ever` tells, or joins some of them. Then each way, each use
+`breach thread` is the only one. The draft has the parts that `ever` tells, or joins some of them. Then each way, each use
 and each region in turn is taken out, MOST of them at the most: a line of a breach has to be told."""
 import pathlib
 import random
@@ -23,7 +23,7 @@ NOTE = "# No policy allows "
 
 
 def trust_of(policy):
-    """The options of `audit --ever` that trust whom a policy trusts."""
+    """The options of `ever` that trust whom a policy trusts."""
     said = tomllib.loads(policy)
     for option, key in (("--without", "silent"), ("--messages", "messages")):
         if said.get(key):
@@ -60,14 +60,14 @@ class Drafts:
 
     def held(self, policy, text):
         self.file.write_text(policy)
-        return answer(self.program, "audit", "--policy", str(self.file), "-", text=text)
+        return answer(self.program, "policy", str(self.file), "-", text=text)
 
     def faults(self, name, text, trust):
         """What is wrong with the draft of a layout."""
-        status, ever, _ = answer(self.program, "audit", "--ever", *trust, "-", text=text)
-        drafted, draft, err = answer(self.program, "audit", "--ever", "--draft", *trust, "-", text=text)
+        status, ever, _ = answer(self.program, "ever", *trust, "-", text=text)
+        drafted, draft, err = answer(self.program, "draft", *trust, "-", text=text)
         if drafted != status:
-            yield f"{name}: --ever ends with {status}, and --draft with {drafted}\n{err}"
+            yield f"{name}: ever ends with {status}, and draft with {drafted}\n{err}"
         if status or drafted:
             return
         policy = tomllib.loads(draft)

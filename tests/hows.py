@@ -1,13 +1,13 @@
 #!/usr/bin/env python3
-"""hows.py PROGRAM FOLDER PARTS POLICIES: what `audit --how` finds on the set-ups of FOLDER, and that it finds nothing that is excluded.
+"""hows.py PROGRAM FOLDER PARTS POLICIES: what `how` finds on the set-ups of FOLDER, and that it finds nothing that is excluded.
 
-NAME.toml is a set-up, NAME.args has the words behind `--how`, one a line, and NAME.status the wanted status. Where that is 1, NAME.how
+NAME.toml is a set-up, NAME.args has the words behind `how`, one a line, and NAME.status the wanted status. Where that is 1, NAME.how
 is the wanted line, byte for byte. Where it is 0, NAME.how is a witness, and another one is as good: the program's own has to be met
 by `check` in all that it expects, with as many calls found, each of which expects the whole of its answer, and its last call has to be
 answered as that of NAME.how.
 
-In PARTS each NAME.PAIR.never is asked with `--how` in place of `--never`: where that says `excluded`, so has this; and
-`check` has to meet each witness. Where it says that it is possible, a comment of NAME.toml says what `--how` finds.
+In PARTS each NAME.PAIR.never is asked with `how` in place of `never`: where that says `excluded`, so has this; and
+`check` has to meet each witness. Where it says that it is possible, a comment of NAME.toml says what `how` finds.
 
 In POLICIES each breach of each policy is asked with `--how N`. Of what is held nothing is written, and standard error has its line.
 Of the others `check` meets each witness, and the last call is the delivery that the breach names, by its endpoint and with its badge;
@@ -40,7 +40,7 @@ def found(text):
 def faults(program, setup, wanted):
     """What is wrong with the answer for a set-up, where that of `wanted` is the wanted one."""
     words = setup.with_suffix(".args").read_text().split()
-    status, text = run(program, "audit", "--how", *words, setup)
+    status, text = run(program, "how", *words, setup)
     want_status = int(wanted.with_suffix(".status").read_text())
     want = wanted.with_suffix(".how").read_text()
     if status != want_status:
@@ -58,7 +58,7 @@ def faults(program, setup, wanted):
 
 
 def answer_of(never):
-    """The answer to a question that can be asked with `--how`: that takes no `--messages`; else nothing."""
+    """The answer to a question that `how` can be asked: that takes no `--messages`; else nothing."""
     answers = [line for line in never.read_text().splitlines() if line.startswith("never ") and " -> " in line]
     words = never.with_suffix(".args").read_text().split()
     return re.search(r" part \w+ ([a-z ]+)$", answers[0])[1] if len(answers) == 1 and "--messages" not in words else ""
@@ -66,15 +66,16 @@ def answer_of(never):
 
 def question(words):
     """The two threads of a question, with the endpoints of `--by`."""
-    given = dict(zip(words[::2], words[1::2]))
-    return given["--never"] + (f" --by {given['--by']}" if "--by" in given else "")
+    pair, *options = words
+    given = dict(zip(options[::2], options[1::2]))
+    return pair + (f" --by {given['--by']}" if "--by" in given else "")
 
 
 def asked_faults(program, never):
-    """What is wrong where `--how` is asked in place of `--never`."""
+    """What is wrong where `how` is asked in place of `never`."""
     words = never.with_suffix(".args").read_text().split()
     setup = never.with_name(never.name.split(".")[0] + ".toml")
-    status, text = run(program, "audit", *("--how" if word == "--never" else word for word in words), setup)
+    status, text = run(program, "how", *words, setup)
     first = text.split("\n")[0]
     if status == 0:
         met, report = run(program, "check", "-", text=text)
@@ -120,7 +121,7 @@ def still_groups(program, policy, setup):
     names = tomllib.loads(setup.read_text())["names"]
     trusted = [str(it) for it in [*words.get("silent", []), *words.get("messages", [])]]
     after = ["--after", str(words["after"])] if "after" in words else []
-    _, text = run(program, "audit", "--ever", "--without", ",".join(trusted), *after, setup)
+    _, text = run(program, "ever", "--without", ",".join(trusted), *after, setup)
     alone = {str(names[it]): it for it in words.get("alone", []) if it in names}
     still, members = set(), []
     for line in text.splitlines():
@@ -152,10 +153,10 @@ def delivery_faults(program, setup, line, text):
 
 def breach_faults(program, policy, setup, number, line, still):
     """What is wrong with the answer for the breach with a number."""
-    status, text, error = answer(program, "audit", "--policy", policy, "--how", str(number), setup)
+    status, text, error = answer(program, "policy", policy, "--how", str(number), setup)
     passing = PASSING.fullmatch(line)
     if not passing:
-        if status != 4 or text or line not in error or "audit --never" not in error:
+        if status != 4 or text or line not in error or "sel4sim never" not in error:
             yield f"{line}: status {status}, {error}"
         return
     if status == 0:
@@ -170,13 +171,13 @@ def breach_faults(program, policy, setup, number, line, still):
 def policy_faults(program, policy, counted):
     """What is wrong with the answers for each breach of a policy, and for the one behind the last."""
     setup = policy.with_name(policy.name.replace(".policy.toml", ".toml"))
-    _, text = run(program, "audit", "--policy", policy, setup)
+    _, text = run(program, "policy", policy, setup)
     lines = [line for line in text.splitlines() if line.startswith("breach ")]
     still = still_groups(program, policy, setup)
     for number, line in enumerate(lines, 1):
         counted.append(line)
         yield from breach_faults(program, policy, setup, number, line, still)
-    status, text, error = answer(program, "audit", "--policy", policy, "--how", str(len(lines) + 1), setup)
+    status, text, error = answer(program, "policy", policy, "--how", str(len(lines) + 1), setup)
     if status != 4 or text or f"count of breaches: {len(lines)}\n" not in error:
         yield f"behind the last breach: status {status}, {error}"
 
@@ -193,7 +194,7 @@ ONE_POLICY = """policy = 1
 group = [{ name = "g", threads = ["thread_0"], regions = [] }]
 use = [{ group = "g", of = "ep_0", badge = 5, rights = "wrgp" }]
 """
-FLOWS = "sel4sim: --how: made by import --flows: no calls are looked for; audit --never has the chain\n"
+FLOWS = "sel4sim: made by import --flows: no calls are looked for; sel4sim never has the chain\n"
 
 
 def one_thread_faults(program, folder):
@@ -201,7 +202,7 @@ def one_thread_faults(program, folder):
     setup, policy = folder / "one.toml", folder / "one.policy.toml"
     setup.write_text(ONE_THREAD)
     policy.write_text(ONE_POLICY)
-    words = ["audit", "--policy", str(policy)]
+    words = ["policy", str(policy)]
     breaches = [line for line in run(program, *words, setup)[1].splitlines() if line.startswith("breach ")]
     if len(breaches) != 2 or not breaches[0].startswith("breach badge ") or not breaches[1].startswith("breach waiting "):
         yield f"the breaches are {breaches}"
@@ -213,13 +214,13 @@ def one_thread_faults(program, folder):
 def flows_faults(program, folder, setup, policy):
     """What is wrong with the answers for set-ups that say that `import --flows` made them."""
     marked = folder / "marked.toml"
-    asked = [(setup, ["--how", *setup.with_suffix(".args").read_text().split()]),
-             (policy.with_name(policy.name.replace(".policy.toml", ".toml")), ["--policy", str(policy), "--how", "1"])]
+    asked = [(setup, ["how", *setup.with_suffix(".args").read_text().split()]),
+             (policy.with_name(policy.name.replace(".policy.toml", ".toml")), ["policy", str(policy), "--how", "1"])]
     for unmarked, words in asked:
         text = unmarked.read_text()
         with_mark = re.sub(r"^names = \{", "names = { import_flows = 1048576,", text, count=1, flags=re.M)
         marked.write_text(re.sub(r"^\[names\]\n", "[names]\nimport_flows = 1048576\n", with_mark, count=1, flags=re.M))
-        status, text, error = answer(program, "audit", *words, marked)
+        status, text, error = answer(program, *words, marked)
         if status != 4 or text or FLOWS not in error:
             yield f"{unmarked} with the mark of import --flows: status {status}, {error}"
 
@@ -237,7 +238,7 @@ def main():
         wrong += [("flows", fault) for fault in flows_faults(program, pathlib.Path(place), setups[0], policies[0])]
     for it, fault in wrong:
         print(f"{it}: {fault}")
-    print(f"{len(setups)} set-ups asked how, {len(nevers)} questions of --never asked, {len(breaches)} breaches, {len(wrong)} faults")
+    print(f"{len(setups)} set-ups asked how, {len(nevers)} questions of never asked, {len(breaches)} breaches, {len(wrong)} faults")
     differs = any(faults(program, setups[0], setups[1]))
     if not differs:
         print(f"{setups[0]}: no fault where {setups[1]} is wanted")

@@ -169,7 +169,7 @@ def held(line):
 
 
 def flows_of(program, folder):
-    """Yields which layouts of a folder are not imported with `--flows`, or answer `--never` as without it where two share a frame."""
+    """Yields which layouts of a folder are not imported with `--flows`, or answer `never` as without it where two share a frame."""
     for path in sorted(folder.glob("*.cdl")):
         made = run(program, ["import", "--flows", str(path)], "")
         checked = run(program, ["check", "-"], made.stdout)
@@ -183,7 +183,7 @@ def flows_of(program, folder):
             yield f"{path.name}: with --flows a slot has two lines"
     for flows, answer in (([], "excluded"), (["--flows"], "possible")):
         made = run(program, ["import", *flows, str(folder / "microkit_hello.cdl")], "").stdout
-        words = ["audit", "--never", "hello_tcb,serial_tcb", "--without", "loader,monitor_tcb", "-"]
+        words = ["never", "hello_tcb,serial_tcb", "--without", "loader,monitor_tcb", "-"]
         if f" {answer}\n" not in run(program, words, made).stdout:
             yield f"microkit_hello.cdl: it is not {answer} that hello leads to serial, with {flows}"
 
@@ -218,15 +218,15 @@ def names_of(program, folder):
                 yield f"alike.cdl: no warning says with {flows} that {name} is {tail}"
     one, other = [run(program, ["import", str(folder / f"{name}.cdl")], "").stdout for name in ("long", "long_swapped")]
     with tempfile.NamedTemporaryFile("w", suffix=".toml") as policy:
-        policy.write(run(program, ["audit", "--ever", "--draft", "--without", "loader", "-"], one).stdout)
+        policy.write(run(program, ["draft", "--without", "loader", "-"], one).stdout)
         policy.flush()
-        status = [run(program, ["audit", "--policy", policy.name, "-"], made).returncode for made in (one, other)]
+        status = [run(program, ["policy", policy.name, "-"], made).returncode for made in (one, other)]
     if status != [0, 1]:
         yield f"long.cdl: a policy of it has the statuses {status} of it and of a layout in which the names are exchanged"
     made = run(program, ["import", "--flows", str(folder / "threads.cdl")], "")
     both = ",".join(tail_of(f"camera_driver_component_instance_{side}_control_tcb") for side in ("left", "right"))
-    for words, status, said in ((["--never", both], 1, " possible\n"), (["--how", both], 4, "")):
-        asked = run(program, ["audit", *words, "--without", "loader", "-"], made.stdout)
+    for words, status, said in ((["never", both], 1, " possible\n"), (["how", both], 4, "")):
+        asked = run(program, [*words, "--without", "loader", "-"], made.stdout)
         if asked.returncode != status or said not in asked.stdout or "excluded" in asked.stdout:
             yield f"threads.cdl: {words[0]} of two threads that share a page: {asked.returncode} {asked.stdout[:200]!r}"
 
@@ -248,7 +248,7 @@ def shared_of(program, folder):
             yield f"{name}: status {made.returncode} {made.stderr[-200:]}"
         trusted = "loader,monitor_tcb" if name.endswith(".system") else "loader"
         for both, possible in asked:
-            told = run(program, ["audit", "--never", both, "--without", trusted, "-"], made.stdout)
+            told = run(program, ["never", both, "--without", trusted, "-"], made.stdout)
             if told.returncode != possible or ("excluded" in told.stdout) == possible:
                 yield f"{name}: {both}: status {told.returncode} {told.stdout[-200:]!r}"
     listed = run(program, ["import", "--plain", "--listing", *LEAST, str(folder / "guests.system")], "").stdout
@@ -286,7 +286,7 @@ def shares_of(program, seed, count):
     for number in range(count):
         text, one, other, common = shares(f"{seed} shares {number}")
         made = run(program, ["import", "--flows"], text)
-        told = run(program, ["audit", "--never", f"{called(one)},{called(other)}", "--without", "loader", "-"], made.stdout)
+        told = run(program, ["never", f"{called(one)},{called(other)}", "--without", "loader", "-"], made.stdout)
         if made.returncode or told.returncode != common:
             yield f"shares {number} of {seed}: {common}, but status {told.returncode} {told.stdout[-120:]!r}"
 

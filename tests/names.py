@@ -1,7 +1,7 @@
 #!/usr/bin/env python3
 """names.py audits|reports PROGRAM FOLDER..: texts with `--names` are the texts without it, with names in place of numbers.
 
-Of `audits` each set-up NAME.toml in the FOLDERs is asked for `tree`, `tree --dot`, `audit --ever`, and `audit --never` of its first two
+Of `audits` each set-up NAME.toml in the FOLDERs is asked for `tree`, `tree --dot`, `ever`, and `never` of its first two
 threads, either way, with the options of NAME.args where that is there. Of `reports` each set-up below the FOLDERs is asked for `check`,
 `trace`, `why`, `explore`, `audit --slot` of its first slot with children, and `threads` where it has one client, so that its history is
 the same each time. What has which name is worked out here: by the table of names of the set-up, and by what its derivation forest has
@@ -25,7 +25,7 @@ FIELDS = {
     "end": r"(sending \d+|receiving \d+|inactive|gone|ready)", "rest": "(.*)", "none": "((?: none)?)", "word": r"(\w+)",
     "call": r"(\d+(?: client \d+ number \d+:)?)", "client": r"(\d+ client \d+:)", "answer": r"(\d+\.\d+)",
 }
-# The lines of `audit --ever` and `audit --never`.
+# The lines of `ever` and `never`.
 PARTS = (
     "without {thread}{none}", "messages {thread}{none}", "by {endpoint}{none}", "part {part}", "  thread {thread} {word}",
     "  use {endpoint} badge {rest}", "way {part} -> {endpoint} badge {word} -> {part}", "grant {part} -> {endpoint} -> {part}",
@@ -187,7 +187,7 @@ class Names:
         return [self.line(line, REPORT) or (self.reason(line) if line.startswith("  ") else line) for line in text.splitlines()]
 
     def parts(self, text):
-        """The lines of `--ever` or `--never`. A chain within one part leads to a control block, and else to an endpoint."""
+        """The lines of `ever` or `never`. A chain within one part leads to a control block, and else to an endpoint."""
         told = re.search(r"^never \d+.* part (\w+) -> .* part (\w+) [\w ]+$", text, re.M)
         self.target = self.thread if told and told[1] == told[2] else self.endpoint
         return [self.line(line, PARTS) or line for line in text.splitlines()]
@@ -227,14 +227,14 @@ def audits(program, setup):
     args = setup.with_suffix(".args")
     trust = args.read_text().split() if args.exists() else []
     after = trust[trust.index("--after"):][:2] if "--after" in trust else []
-    names, ever = Names(program, setup, after), run(program, "audit", "--ever", *trust, setup)[1]
+    names, ever = Names(program, setup, after), run(program, "ever", *trust, setup)[1]
     names.label_parts(ever)
     yield ["tree", *after], names.tree
     yield ["tree", "--dot", *after], names.graph
-    yield ["audit", "--ever", *trust], names.parts
+    yield ["ever", *trust], names.parts
     threads = re.findall(rf"^  thread {THREAD} ", ever, re.M)[:2]
     for pair in (threads, threads[::-1]) if len(threads) == 2 else ():
-        yield ["audit", "--never", ",".join(pair), *trust], names.parts
+        yield ["never", ",".join(pair), *trust], names.parts
 
 
 def reports(program, setup):

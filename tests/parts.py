@@ -1,5 +1,5 @@
 #!/usr/bin/env python3
-"""parts.py PROGRAM FOLDER [COUNT]: random calls break nothing that `audit --never` calls excluded.
+"""parts.py PROGRAM FOLDER [COUNT]: random calls break nothing that `never` calls excluded.
 
 Each layout NAME.toml of the FOLDER is asked, for each two of its threads, whether the one's part is kept from the other's, once with the
 threads that its NAME.args trusts as `--without`, and once with the same threads as `--messages`. Then COUNT lists of random calls (20 where
@@ -7,7 +7,7 @@ no number is given) are made behind it: of threads in parts by any operation, an
 threads. By the report of `check` no message of an excluded pair may have been delivered, and no slot of the one's part may hold a
 capability to an object that has a byte in the other's. The first list is also looked at with a pair's answer turned round: somewhere that
 has to show. Of threads that flows keep apart the first's messages may not be delivered to the second, and of threads of which it is decided
-that a message passes `audit --how` has to find the calls. A part that is told with `only messages` may get no capability. In every second
+that a message passes `how` has to find the calls. A part that is told with `only messages` may get no capability. In every second
 list one part makes no calls, and where no line says that another may take slots from it, each of its slots holds what it held.
 """
 import itertools
@@ -131,7 +131,7 @@ def tried(program, layout, how, who, count):
     """Looks at one layout with its trusted threads, and yields what is broken; also how much there was to look at."""
     text = layout.read_text()
     trust = [f"--{how}", who] if who else []
-    ever = run(program, "audit", "--ever", *trust, "-", text=text)[1]
+    ever = run(program, "ever", *trust, "-", text=text)[1]
     if not ever.startswith("ever "):
         return
     threads, memory = parts_of(ever)
@@ -140,13 +140,13 @@ def tried(program, layout, how, who, count):
     free = [int(word) for word in re.findall(rf"^{how} (\d+)", ever, re.M) if int(word) not in threads]
     answers, apart = {}, []
     for one, other in itertools.permutations(threads, 2):
-        told = run(program, "audit", "--never", f"{one},{other}", *trust, "-", text=text)[1]
+        told = run(program, "never", f"{one},{other}", *trust, "-", text=text)[1]
         answers[threads[one], threads[other]] = " excluded\n" in told
         if " excluded by flow\n" in told:
             apart.append((one, other))
         if " possible decided\n" in told and how == "without":
-            found = run(program, "audit", "--how", f"{one},{other}", *trust, "-", text=text)[1]
-            yield True, [] if "expect = " in found else [f"{layout.name}: {one} -> {other} is decided, and --how says {found.strip()}"]
+            found = run(program, "how", f"{one},{other}", *trust, "-", text=text)[1]
+            yield True, [] if "expect = " in found else [f"{layout.name}: {one} -> {other} is decided, and how says {found.strip()}"]
     alone, takes = only_messages(ever), {(int(one), int(other)) for one, other in TAKE.findall(ever)}
     before = held(run(program, "check", "-", text=text)[1])
     for seed in range(count):

@@ -3,7 +3,7 @@
 
 The layouts are those of the FOLDERs (NAME.toml with NAME.args) in which no thread waits and no part has hold of a
 trusted thread, and COUNT random ones, drawn from SEED by
-imports.py and brought in by `import`. Of each a policy is made from what `audit --ever` and `check` tell: a group for each part with the regions that its slots hold, a
+imports.py and brought in by `import`. Of each a policy is made from what `ever` and `check` tell: a group for each part with the regions that its slots hold, a
 use for each use, a way for each way. The layout has to keep it. Then one entry is taken out, or its badge or a right of it: a line of that
 group and of that endpoint or region has to be a breach. Behind the layout random calls of its threads are made: no slot of a part may hold what
 the policy does not allow, and no message may pass without a way."""
@@ -40,7 +40,7 @@ class Layout:
 
     def __init__(self, program, name, text, trust):
         self.name, self.text, self.trust = name, text, trust
-        _, ever = run(program, "audit", "--ever", *trust, "-", text=text)
+        _, ever = run(program, "ever", *trust, "-", text=text)
         self.is_read = ever.startswith("ever ")
         self.threads, self.memory = parts.parts_of(ever)
         # A trusted thread whose control block a part has is a thread of that part: no policy allows that.
@@ -152,7 +152,7 @@ def layouts(program, seed, count, folders):
 def held(program, policy, layout, folder):
     file = pathlib.Path(folder) / "policy.toml"
     file.write_text(policy)
-    return run(program, "audit", "--policy", str(file), "-", text=layout.text)
+    return run(program, "policy", str(file), "-", text=layout.text)
 
 
 def with_calls(text, calls):

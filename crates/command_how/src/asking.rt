@@ -41,7 +41,7 @@ pub fn flows_absent(alloc: Global) -> Result<Answer, AllocError>
 {
     let absent = String::from_str(
         alloc,
-        "--how: made by import --flows: no calls are looked for; audit --never has the chain",
+        "made by import --flows: no calls are looked for; sel4sim never has the chain",
     )?;
     Ok(Answer::absent(alloc, absent))
 }
@@ -141,11 +141,11 @@ impl How<'_> {
     ) -> Result<String, AllocError> {
         if from == to {
             let (from, to) = (self.from, self.to);
-            return format!(in alloc; "--how {from},{to}: both are one thread");
+            return format!(in alloc; "FROM,TO {from},{to}: both are one thread");
         }
         let is_first = kernel.thread_state(from).is_none();
         let word = if is_first { self.from } else { self.to };
-        format!(in alloc; "--how {word}: no thread is live there")
+        format!(in alloc; "FROM,TO {word}: no thread is live there")
     }
 
     /// The answer of two threads.
@@ -212,7 +212,7 @@ impl How<'_> {
         let asked = [
             ObjectWords::threads("--without", self.without),
             ObjectWords::endpoints("--by", self.by),
-            ObjectWords::two_threads("--how", ends),
+            ObjectWords::threads("FROM,TO", ends),
         ];
         absent_answer::<P, S, W>(alloc, behind, kernel, &asked)
     }

@@ -59,14 +59,14 @@ pub record IsExcluded (p : ProfileName) (q : Asking) (uses : List PartUse) (v : 
 
 -- ---- where the line says so, and where it does not
 
--- what `--never` answers of the two threads, by parts that may be told
+-- what `never` answers of the two threads, by parts that may be told
 pub record IsNeverSaid (p : ProfileName) (q : Asking) (v : Shown) (answer : Never) : Type 0 where
   pub memory : List PartMemory
   pub uses : List PartUse
   pub right : AreRightParts p v q.without memory uses
   pub answered : answer ≡ never p memory uses (waits p v) q.by q.from q.to
 
--- it is ruled out: of a message where `--never` says so; of a hold and of a loss as above
+-- it is ruled out: of a message where `never` says so; of a hold and of a loss as above
 abbrev pub IsRuledOut : ProfileName → Asking → List PartUse → Shown → Happening → Type 0
 IsRuledOut p q uses v Message = IsNeverSaid p q v Excluded
 IsRuledOut p q uses v Hold = IsOutside p q uses v Hold
@@ -97,7 +97,7 @@ pub record TakesFrom (memory : List PartMemory) (v : Shown) (from to : ℕ) : Ty
   pub from_in : part_at memory from ≡ Some part
   pub lost : MayLose memory v part (part_at memory to)
 
--- it is not ruled out: of a message if `--never` says that it is possible; of a hold if both lie in one part; of a loss if the one lies in a part, and the
+-- it is not ruled out: of a message if `never` says that it is possible; of a hold if both lie in one part; of a loss if the one lies in a part, and the
 -- other in none, in this one, or in one of which a full slot is below one of this one's
 abbrev pub IsInside : ProfileName → Asking → Shown → Happening → Type 0
 IsInside p q v Message = IsNeverSaid p q v Possible

@@ -51,7 +51,7 @@ pub fn still_parts_are_decided_with_badge()
     ensures { (p : ProfileName) (q : Asking) (uses : List PartUse) (A : State) → IsDecidedWithBadge p q uses A }
 {}
 
-/// Where `--never` answers `possible decided`, such a message happens: sends of the one thread and receives of the other alone show it.
+/// Where `never` answers `possible decided`, such a message happens: sends of the one thread and receives of the other alone show it.
 pub fn what_is_told_decided_is_shown()
     ensures { (p : ProfileName) (q : Asking) (uses : List PartUse) (A : State) → IsToldDecided p q uses A }
 {}

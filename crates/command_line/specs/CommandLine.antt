@@ -1,5 +1,5 @@
 -- The program's command as clap's definition, and what clap's matches for the words say.
-use Rattle.std.specs.Prelude.{◌≡◌, ◌≢◌, ◌⊎◌, ◌<◌, ◌^◌, ◌&&◌, ◌||◌, ⊤, Bool, nat_le, count_by, unwrap_or, true, false, not, codes, ℕ, List, [], ◌∷◌, Option, Some, None, is_some, option_map, if◌then◌else◌}
+use Rattle.std.specs.Prelude.{◌≡◌, ◌≢◌, ◌==◌, ◌⊎◌, ◌<◌, ◌^◌, ◌&&◌, ◌||◌, ⊤, Bool, nat_le, count_by, unwrap_or, true, false, not, codes, ℕ, List, [], ◌∷◌, Option, Some, None, is_some, option_map, if◌then◌else◌}
 use Rattle.std.specs.Str.Parse.{IsNumeral, digits_value, without_leading_plus}
 use Rattle.std.specs.Borrow.{Bor}
 use Rattle.std.specs.List.{fold}
@@ -16,14 +16,14 @@ use Rattle.clap.specs.declared.builder.value_parser.ValueParser.TheVariants.{Uns
 use Rattle.clap.specs.declared.error.kind.ErrorKind.{ErrorKind}
 use Rattle.clap.specs.declared.error.kind.ErrorKind.TheVariants.{DisplayHelp, DisplayVersion, OutOfMemory}
 use Rattle.command_line.specs.declared.arguments.Job.{Job}
-use Rattle.command_line.specs.declared.arguments.Job.TheVariants.{Check, Trace, Threads, Migrate, Why, Audit, Explore, Tree, New, Marks, Record, Import}
+use Rattle.command_line.specs.declared.arguments.Job.TheVariants.{Check, Trace, Threads, Migrate, Why, Audit, Ever, Never, Draft, How, Policy, Explore, Tree, New, Marks, Record, Import}
 use Rattle.command_line.specs.declared.arguments.LineFault.{LineFault}
 use Rattle.command_line.specs.declared.arguments.LineFault.TheVariants.{Help, Refused, Conflict, Memory}
 use Rattle.command_line.specs.declared.arguments.Options.{Options}
 use Rattle.command_line.specs.declared.table.CommandRow.{CommandRow}
 use Rattle.command_line.specs.declared.table.OptionRow.{OptionRow}
 use Rattle.command_line.specs.declared.table.Files.{Files}
-use Rattle.command_line.specs.declared.table.Files.TheVariants.{One, Several, Zero}
+use Rattle.command_line.specs.declared.table.Files.TheVariants.{AfterPolicy, AfterThreads, One, Several, Zero}
 use Rattle.command_line.specs.declared.table.Takes.{Takes}
 use Rattle.command_line.specs.declared.table.Takes.TheVariants.{Nothing, Number, Text as TakesText}
 
@@ -47,11 +47,17 @@ with_version = on_top (λ s. record s { has_version = true })
 abbrev pub more_files_rule : Rule
 more_files_rule = record (new_rule (codes "FILES")) { action = Some action.Append }
 
--- a command with the arguments for its files
+-- an argument that is needed, by its name
+abbrev pub needed_rule : Text → Rule
+needed_rule name = record (new_rule name) { required = true }
+
+-- a command with the arguments for its files, and for what stands before them
 abbrev pub with_file_rules : Files → App → App
 with_file_rules Zero app = app
 with_file_rules One app = with_rule app file_rule
 with_file_rules Several app = with_rule (with_rule app file_rule) more_files_rule
+with_file_rules AfterThreads app = with_rule (with_rule app (needed_rule (codes "FROM,TO"))) file_rule
+with_file_rules AfterPolicy app = with_rule (with_rule app (needed_rule (codes "POLICY"))) file_rule
 
 -- `sel4sim` with FILE, FILES and a version; clap adds its own subcommand `help`, which no line that is taken has
 abbrev pub bare_command : App
@@ -100,14 +106,14 @@ after_rule = number_rule (codes "after")
 abbrev pub states_rule : Rule
 states_rule = number_rule (codes "states")
 
--- the options of `audit`
-abbrev pub audit_rules : List Rule
-audit_rules =
-    after_rule ∷ text_rule (codes "slot") ∷ flag_rule (codes "ever") ∷ text_rule (codes "without") ∷ names_rule
-    ∷ text_rule (codes "messages") ∷ text_rule (codes "never") ∷ text_rule (codes "by")
-    ∷ text_rule (codes "policy") ∷ flag_rule (codes "draft")
-    ∷ text_rule (codes "how") ∷ flag_rule (codes "message") ∷ flag_rule (codes "hold") ∷ flag_rule (codes "loss") ∷ number_rule (codes "badge") ∷ states_rule
-    ∷ []
+abbrev pub without_rule : Rule
+without_rule = text_rule (codes "without")
+
+abbrev pub messages_rule : Rule
+messages_rule = text_rule (codes "messages")
+
+abbrev pub by_rule : Rule
+by_rule = text_rule (codes "by")
 
 -- the subcommands, in the order of the help
 abbrev pub subcommands : List App
@@ -119,7 +125,12 @@ subcommands =
     ∷ subcommand_with (codes "migrate") One []
     ∷ subcommand_with (codes "threads") One (first_rule ∷ names_rule ∷ [])
     ∷ subcommand_with (codes "why") One (number_rule (codes "call") ∷ names_rule ∷ [])
-    ∷ subcommand_with (codes "audit") One audit_rules
+    ∷ subcommand_with (codes "audit") One (after_rule ∷ text_rule (codes "slot") ∷ without_rule ∷ names_rule ∷ [])
+    ∷ subcommand_with (codes "ever") One (after_rule ∷ without_rule ∷ messages_rule ∷ names_rule ∷ [])
+    ∷ subcommand_with (codes "never") AfterThreads (after_rule ∷ without_rule ∷ messages_rule ∷ by_rule ∷ names_rule ∷ [])
+    ∷ subcommand_with (codes "draft") One (after_rule ∷ without_rule ∷ messages_rule ∷ [])
+    ∷ subcommand_with (codes "how") AfterThreads (after_rule ∷ without_rule ∷ by_rule ∷ flag_rule (codes "message") ∷ flag_rule (codes "hold") ∷ flag_rule (codes "loss") ∷ number_rule (codes "badge") ∷ states_rule ∷ [])
+    ∷ subcommand_with (codes "policy") AfterPolicy (after_rule ∷ number_rule (codes "how") ∷ states_rule ∷ [])
     ∷ subcommand_with (codes "explore") One (first_rule ∷ states_rule ∷ text_rule (codes "witness") ∷ flag_rule (codes "ends") ∷ names_rule ∷ [])
     ∷ subcommand_with (codes "tree") One (after_rule ∷ flag_rule (codes "dot") ∷ names_rule ∷ [])
     ∷ subcommand_with (codes "new") Zero (text_rule (codes "profile") ∷ number_rule (codes "threads") ∷ number_rule (codes "endpoints") ∷ text_rule (codes "untyped") ∷ [])
@@ -163,6 +174,11 @@ job_named name =
     else if bytes_eq name (codes "migrate") then Some Migrate
     else if bytes_eq name (codes "why") then Some Why
     else if bytes_eq name (codes "audit") then Some Audit
+    else if bytes_eq name (codes "ever") then Some Ever
+    else if bytes_eq name (codes "never") then Some Never
+    else if bytes_eq name (codes "draft") then Some Draft
+    else if bytes_eq name (codes "how") then Some How
+    else if bytes_eq name (codes "policy") then Some Policy
     else if bytes_eq name (codes "explore") then Some Explore
     else if bytes_eq name (codes "tree") then Some Tree
     else if bytes_eq name (codes "new") then Some New
@@ -241,10 +257,7 @@ pub record HasOptions (rows : List Row) (options : Options) : Type 0 where
   pub call : Says (first_of (codes "call") rows) options.call
   pub after : Says (first_of (codes "after") rows) options.after
   pub slot : option_map (λ s. s.now) options.slot ≡ first_of (codes "slot") rows
-  pub ever : options.ever ≡ is_set (first_of (codes "ever") rows)
-  pub draft : options.draft ≡ is_set (first_of (codes "draft") rows)
-  pub never : option_map (λ s. s.now) options.never ≡ first_of (codes "never") rows
-  pub how : option_map (λ s. s.now) options.how ≡ first_of (codes "how") rows
+  pub from_to : option_map (λ s. s.now) options.from_to ≡ first_of (codes "FROM,TO") rows
   pub breach : Says (first_of (codes "how") rows) options.breach
   pub message : options.message ≡ is_set (first_of (codes "message") rows)
   pub hold : options.hold ≡ is_set (first_of (codes "hold") rows)
@@ -253,7 +266,7 @@ pub record HasOptions (rows : List Row) (options : Options) : Type 0 where
   pub by : option_map (λ s. s.now) options.by ≡ first_of (codes "by") rows
   pub without : option_map (λ s. s.now) options.without ≡ first_of (codes "without") rows
   pub messages : option_map (λ s. s.now) options.messages ≡ first_of (codes "messages") rows
-  pub policy : option_map (λ s. s.now) options.policy ≡ first_of (codes "policy") rows
+  pub policy : option_map (λ s. s.now) options.policy ≡ first_of (codes "POLICY") rows
   pub names : options.names ≡ is_set (first_of (codes "names") rows)
   pub first : Says (first_of (codes "first") rows) options.first
   pub states : Says (first_of (codes "states") rows) options.states
@@ -272,34 +285,19 @@ pub record HasOptions (rows : List Row) (options : Options) : Type 0 where
   pub plain : options.plain ≡ is_set (first_of (codes "plain") rows)
   pub rights : option_map (λ s. s.now) options.rights ≡ first_of (codes "rights") rows
 
--- `--ever` and `--never` tell of all calls to come
-abbrev pub is_of_parts : Options → Bool
-is_of_parts options = options.ever || is_some options.never
-
--- calls are asked for after which it has happened between two threads; with `--policy` they are asked for by the number of a breach
-abbrev pub asks_threads : Options → Bool
-asks_threads options = is_some options.how && not (is_some options.policy)
-
--- calls are asked for after which a message was delivered
-abbrev pub asks_message : Options → Bool
-asks_message options = asks_threads options && (not options.hold && not options.loss)
-
--- `--how` goes with none of the others, and with `--policy` only where it has a number; at most one thing is to happen, and with `--how`
--- of two threads alone; and so does a badge of a message
+-- at most one of `--message`, `--hold` and `--loss` is there, and neither `--by` nor `--badge`, which speak of messages, with one of the
+-- last two
 abbrev pub agrees_how : Options → Bool
 agrees_how options =
-    not (is_some options.how && (is_of_parts options || is_some options.slot))
-    && (not (is_some options.how && (is_some options.policy && not (is_some options.breach)))
-    && (not ((options.message && options.hold) || ((options.message && options.loss) || (options.hold && options.loss)))
-    && ((asks_threads options || not (options.message || (options.hold || options.loss)))
-    && (asks_message options || not (is_some options.badge)))))
+    not ((options.message && (options.hold || options.loss)) || (options.hold && options.loss))
+    && not ((options.hold || options.loss) && (is_some options.by || is_some options.badge))
 
 -- an option's text is a hyphen
 abbrev pub is_hyphen_given : Option Text → Bool
 is_hyphen_given None = false
 is_hyphen_given (Some text) = bytes_eq text (codes "-")
 
--- `--policy` and `--of` name files: none of them has a hyphen
+-- POLICY and `--of` name files: none of them is a hyphen
 abbrev pub names_files : Options → Bool
 names_files options = not (is_hyphen_given (option_map (λ s. s.now) options.policy) || is_hyphen_given (option_map (λ s. s.now) options.of))
 
@@ -325,25 +323,24 @@ abbrev pub agrees_import : Options → Bool
 agrees_import options =
     knows_rights options && (not (options.flows && options.plain) && not (options.cdl && (options.listing || is_some options.shrink)))
 
--- `--ends` goes not with `--witness`
-abbrev pub agrees_orders : Options → Bool
-agrees_orders options = not (options.ends && is_some options.witness) && (names_files options && (agrees_import options && agrees_how options))
+-- FROM,TO has one comma (44)
+abbrev pub are_two_threads : Option Text → Bool
+are_two_threads None = true
+are_two_threads (Some text) = count_by (λ c. c == 44) text == 1
 
--- the options go together: `--ever` and `--never` not with each other, and not with `--slot`; `--slot` not with `--without`; `--names`
--- not with `--how` or `--witness`; `--messages` needs one of the first two, and `--by` needs `--never` or a question of messages;
--- `--draft` needs `--ever`, and goes not with `--names`; `--policy` goes with none of these; a file that an option names is no hyphen;
--- `--rights` takes `all` or `least`; `--flows` goes not with `--plain`, and `--cdl` neither with `--listing` nor with `--shrink`
+abbrev pub names_two_threads : Options → Bool
+names_two_threads options = are_two_threads (option_map (λ s. s.now) options.from_to)
+
+-- the options go together, and words name what they may: `--slot` goes not with `--without`, and `--witness` neither with `--names` nor with
+-- `--ends`; a file that a word names is no hyphen; what `import` takes agrees; FROM,TO are two threads
 unfoldable pub agrees : Options → Bool
 agrees options =
-    not (options.ever && is_some options.never)
-    && (not (is_of_parts options && is_some options.slot)
-    && (not (is_some options.slot && is_some options.without)
-    && (not ((is_some options.how || is_some options.witness) && options.names)
-    && ((is_of_parts options || not (is_some options.messages))
-    && (((is_some options.never || asks_message options) || not (is_some options.by))
-    && (not (options.draft && (not options.ever || options.names))
-    && (not (is_some options.policy && (is_of_parts options || (is_some options.slot || (is_some options.without || options.names))))
-    && agrees_orders options)))))))
+    not (is_some options.slot && is_some options.without)
+    && (not (is_some options.witness && options.names)
+    && (not (is_some options.witness && options.ends)
+    && (names_files options
+    && (agrees_import options
+    && (names_two_threads options && agrees_how options)))))
 
 -- the matches of the subcommand that is met
 abbrev pub own_rows : Option (Text × List Row) → List Row

@@ -18,6 +18,16 @@ pub enum Job {
     Why,
     /// Run a set-up and tell who reaches what, who can send to whom, and what a revoke would destroy.
     Audit,
+    /// Run a set-up and tell what its threads can never get.
+    Ever,
+    /// Run a set-up and tell whether the part of one thread is kept from that of another.
+    Never,
+    /// Run a set-up and write a policy that its layout keeps.
+    Draft,
+    /// Run a set-up and write calls after which it has happened between two threads.
+    How,
+    /// Run a set-up and hold its layout to a policy.
+    Policy,
     /// Run a set-up's clients in every order of their calls.
     Explore,
     /// Run a set-up and tell what is derived from what.
@@ -42,42 +52,35 @@ pub struct Options<'a> {
     pub quiet: bool,
     /// `--call` of `why`: the call that is told of, from 1.
     pub call: Option<u64>,
-    /// `--after` of `audit` and `tree`: how many calls are made.
+    /// `--after` of `tree`, the audits and what tells of all calls to come: how many calls are made.
     pub after: Option<u64>,
     /// `--slot` of `audit`: a slot, by its address or by a name.
     pub slot: Option<&'a str>,
-    /// Whether `--ever` of `audit` is there: what threads can never get is asked for.
-    pub ever: bool,
-    /// Whether `--draft` of `audit --ever` is there: a policy that the layout keeps now is asked for.
-    pub draft: bool,
-    /// `--never` of `audit`: two threads, with a comma between them. Whether the first one's part is kept from the other's is asked
-    /// for.
-    pub never: Option<&'a str>,
-    /// `--how` of `audit`: two threads, with a comma between them. Calls are asked for after which it has happened.
-    pub how: Option<&'a str>,
-    /// The same of `audit --policy`: the number of a breach, from 1. Calls are asked for by which it happens.
+    /// FROM,TO of `never` and `how`: two threads, with a comma between them.
+    pub from_to: Option<&'a str>,
+    /// `--how` of `policy`: the number of a breach, from 1. Calls are asked for by which it happens.
     pub breach: Option<u64>,
-    /// Whether `--message`, `--hold` and `--loss` of `audit --how` are there: what is to happen.
+    /// Whether `--message`, `--hold` and `--loss` of `how` are there: what is to happen.
     pub message: bool,
     pub hold: bool,
     pub loss: bool,
-    /// `--badge` of `audit --how`: the badge of the message.
+    /// `--badge` of `how`: the badge of the message.
     pub badge: Option<u64>,
-    /// `--by` of `audit --never` and `audit --how`: the endpoints by which the parts may have to do with each other, with commas
-    /// between them.
+    /// `--by` of `never` and `how`: the endpoints by which the parts may have to do with each other, with commas between them.
     pub by: Option<&'a str>,
-    /// `--without` of `audit`: the threads that are trusted to make no more calls, with commas between them.
+    /// `--without` of `audit`, `ever`, `never`, `draft` and `how`: the threads that are trusted to make no more calls, with commas
+    /// between them.
     pub without: Option<&'a str>,
-    /// `--messages` of `audit --ever` and `audit --never`: the threads that are trusted to go on to send and receive, and to do
-    /// nothing else, with commas between them.
+    /// `--messages` of `ever`, `never` and `draft`: the threads that are trusted to go on to send and receive, and to do nothing
+    /// else, with commas between them.
     pub messages: Option<&'a str>,
-    /// `--policy` of `audit`: the name of a file, to whose policy the layout is held.
+    /// POLICY of `policy`: the name of a file, to whose policy the layout is held.
     pub policy: Option<&'a str>,
     /// Whether `--names` is there: objects are told by their names, in place of their addresses.
     pub names: bool,
     /// `--first` of `explore` and `threads`: how many calls are made before the clients begin.
     pub first: Option<u64>,
-    /// `--states` of `explore`: the most states that are kept; of `audit --how`: the most copies of the kernel that are tried.
+    /// `--states` of `explore`: the most states that are kept; of `how` and `policy`: the most copies of the kernel that are tried.
     pub states: Option<u64>,
     /// `--witness` of `explore`: the order whose set-up is written, by the report's name of what it tells.
     pub witness: Option<&'a str>,
@@ -192,6 +195,16 @@ impl Job {
             Some(Job::Why)
         } else if name == "audit" {
             Some(Job::Audit)
+        } else if name == "ever" {
+            Some(Job::Ever)
+        } else if name == "never" {
+            Some(Job::Never)
+        } else if name == "draft" {
+            Some(Job::Draft)
+        } else if name == "how" {
+            Some(Job::How)
+        } else if name == "policy" {
+            Some(Job::Policy)
         } else if name == "explore" {
             Some(Job::Explore)
         } else if name == "tree" {

@@ -4,7 +4,6 @@
 mod arguments;
 mod built;
 mod conflicts;
-mod how;
 mod reading;
 mod table;
 

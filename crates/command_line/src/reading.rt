@@ -4,7 +4,7 @@ ghost use Rattle.std.specs.Str.{bytes_eq};
 ghost use Rattle.clap.specs.Words.{App, Rule, app_of, fault_of, first_of, found_of, rows_of, subcommand_of, subcommand_rows_of, with_rule};
 ghost use Rattle.clap.specs.Values.{kind_of};
 ghost use Rattle.clap.specs.Walk.{texts};
-ghost use Rattle.command_line.specs.CommandLine.{Explains, ExplainsMatches, HasOptions, IsArgument, IsCommand, Says, StandsFor, agrees, and_subcommand as and_command, bare_command, command as definition, file_asked, file_of, file_rule, files_of, is_set, job_asked, job_named, job_of, lists_one as lists_one_definition, more_behind as more_behind_definition, more_files_in, more_files_rule, more_given, names_command, option_rule, own_rows, reads_once, row_command, several_asked, several_of, with_file_rules, with_option_rules, with_row_commands};
+ghost use Rattle.command_line.specs.CommandLine.{Explains, ExplainsMatches, HasOptions, IsArgument, IsCommand, Says, StandsFor, agrees, and_subcommand as and_command, bare_command, command as definition, file_asked, file_of, file_rule, files_of, is_set, job_asked, job_named, job_of, lists_one as lists_one_definition, more_behind as more_behind_definition, more_files_in, more_files_rule, more_given, names_command, needed_rule, option_rule, own_rows, reads_once, row_command, several_asked, several_of, with_file_rules, with_option_rules, with_row_commands};
 
 use crate::arguments::{Job, Line, LineFault, Options};
 use crate::built::{ABOUT, VERSION};
@@ -29,13 +29,15 @@ Examples:
   sel4sim why layout.toml        why its calls are refused
   sel4sim tree layout.toml       which slot is derived from which
   sel4sim audit layout.toml      who reaches what, and who can send to whom
-  sel4sim audit --ever --without loader layout.toml
+  sel4sim ever --without loader layout.toml
                                  what the clients can never get
-  sel4sim audit --never client,server --by endpoint layout.toml
+  sel4sim never --by endpoint client,server layout.toml
                                  whether one of them is kept from the other
-  sel4sim audit --ever --draft --without loader layout.toml
-                                 a policy that the layout keeps now
-  sel4sim audit --policy policy.toml layout.toml
+  sel4sim how client,server layout.toml
+                                 calls by which one of them reaches the other
+  sel4sim draft --without loader layout.toml
+                                 a policy that the layout keeps
+  sel4sim policy policy.toml layout.toml
                                  whether it keeps to a policy, for all calls to come
   sel4sim explore layout.toml    what every order of its calls comes to
   sel4sim check - < layout.toml  the set-up on standard input
@@ -44,10 +46,10 @@ Examples:
 
 Exit status:
   0  every expectation is met, or there is none; the policy is kept; it is
-     excluded (--never); the calls are found (--how)
+     excluded (never); the calls are found (how)
   1  an expectation is not met, or with --strict a call is refused that has
-     none; the policy is broken; it is possible (--never); no calls are found,
-     or it is excluded (--how); clients end stuck, or not every order was
+     none; the policy is broken; it is possible (never); no calls are found,
+     or it is excluded (how); clients end stuck, or not every order was
      explored (explore); not every call is made (threads)
   2  the set-up, the policy or the layout is refused
   3  reading or writing failed, memory ran out, or a thread was not started
@@ -59,6 +61,11 @@ Pages: docs/first-set-up.md, and below the installation share/doc/sel4sim";
 /// What is said where standard input is named twice.
 const TWO_HYPHENS: &str = "- stands for standard input, which can be read once";
 
+/// What the help says of what stands before FILE.
+const TWO_THREADS: &str = "Two threads, with a comma between them; each is an address or a name";
+
+const A_POLICY: &str = "The file of the policy";
+
 /// The base in which the numbers of options are written.
 const DECIMAL: u32 = 10;
 
@@ -66,7 +73,7 @@ const DECIMAL: u32 = 10;
 fn file<'a>(alloc: Global) -> Arg<'a>
     ensures { IsArgument file_rule result }
 {
-    Arg::new(alloc, "FILE").help("The set-up; without it, or where it is -, standard input is read")
+    Arg::new(alloc, "FILE").help("The set-up; without it, or if it is -, standard input is read")
 }
 
 /// The argument FILES, behind FILE.
@@ -78,6 +85,13 @@ fn more_files<'a>(alloc: Global) -> Arg<'a>
     )
 }
 
+/// An argument that is needed.
+fn needed<'a>(alloc: Global, name: &'a str, help: &'a str) -> Arg<'a>
+    ensures { IsArgument (needed_rule name.entry.now) result }
+{
+    Arg::new(alloc, name).required(true).help(help)
+}
+
 /// A command with one more argument.
 fn and_argument<'a>(command: Command<'a>, argument: Arg<'a>) -> Result<Command<'a>, AllocError>
     ensures { (app : App) (rule : Rule) → IsCommand app command.entry → IsArgument rule argument.entry → IfOk result (IsCommand (with_rule app rule)) }
@@ -85,7 +99,7 @@ fn and_argument<'a>(command: Command<'a>, argument: Arg<'a>) -> Result<Command<'
     command.arg(argument)
 }
 
-/// A command with the arguments for its files.
+/// A command with the arguments for its files, and for what stands before them.
 fn with_files<'a>(
     alloc: Global,
     command: Command<'a>,
@@ -97,6 +111,14 @@ fn with_files<'a>(
         Files::Zero => Ok(command),
         Files::One => and_argument(command, file(alloc)),
         Files::Several => and_argument(and_argument(command, file(alloc))?, more_files(alloc)),
+        Files::AfterThreads => {
+            let threads = needed(alloc, "FROM,TO", TWO_THREADS);
+            and_argument(and_argument(command, threads)?, file(alloc))
+        }
+        Files::AfterPolicy => {
+            let policy = needed(alloc, "POLICY", A_POLICY);
+            and_argument(and_argument(command, policy)?, file(alloc))
+        }
     }
 }
 
@@ -215,10 +237,7 @@ fn options_in<'a>(matches: &ArgMatches<'a>) -> Options<'a>
         call: number_given(matches, "call"),
         after: number_given(matches, "after"),
         slot: text_given(matches, "slot"),
-        ever: flag_given(matches, "ever"),
-        draft: flag_given(matches, "draft"),
-        never: text_given(matches, "never"),
-        how: text_given(matches, "how"),
+        from_to: text_given(matches, "FROM,TO"),
         breach: number_given(matches, "how"),
         message: flag_given(matches, "message"),
         hold: flag_given(matches, "hold"),
@@ -227,7 +246,7 @@ fn options_in<'a>(matches: &ArgMatches<'a>) -> Options<'a>
         by: text_given(matches, "by"),
         without: text_given(matches, "without"),
         messages: text_given(matches, "messages"),
-        policy: text_given(matches, "policy"),
+        policy: text_given(matches, "POLICY"),
         names: flag_given(matches, "names"),
         first: number_given(matches, "first"),
         states: number_given(matches, "states"),

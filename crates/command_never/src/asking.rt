@@ -136,7 +136,7 @@ impl Question<'_> {
     ) -> Result<String, AllocError> {
         let is_first = kernel.thread_state(from).is_none();
         let word = if is_first { self.from } else { self.to };
-        format!(in alloc; "--never {word}: no thread is live there")
+        format!(in alloc; "FROM,TO {word}: no thread is live there")
     }
 
     /// The same, where each of the words for the two threads stands for one.
@@ -206,7 +206,7 @@ impl Question<'_> {
             ObjectWords::threads("--without", self.trust.without),
             ObjectWords::threads("--messages", self.trust.messages),
             ObjectWords::endpoints("--by", self.by),
-            ObjectWords::two_threads("--never", ends),
+            ObjectWords::threads("FROM,TO", ends),
         ];
         absent_answer::<P, S, W>(alloc, behind, kernel, &asked)
     }

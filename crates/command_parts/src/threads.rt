@@ -45,13 +45,6 @@ impl<'a> ObjectWords<'a> {
             words,
         }
     }
-
-    /// The words `FROM,TO` for two threads; none where they are not two.
-    pub fn two_threads(option: &'a str, ends: &'a [&'a str; 2]) -> ObjectWords<'a> {
-        let to = ends[1];
-        let are_two = !to.is_empty() && !to.contains(',');
-        ObjectWords::threads(option, if are_two { ends } else { &[] })
-    }
 }
 
 /// The answer where not all words stand for an object: nothing is written, and the first that stands for none is told.

@@ -35,7 +35,7 @@ pub record IsReadOf (p : ProfileName) (names : Names) (setup : SetupView) (made 
   pub says : IsPolicyText text file
   pub meant : IsPolicyMeantBehind p names setup made file judged
 
--- it is held to the state behind the first calls, as by `audit --policy`
+-- it is held to the state behind the first calls, as by `policy`
 pub record IsKept (p : ProfileName) (names : Names) (setup : SetupView) (made : ℕ) (silent messages text : List ℕ) : Type 0 where
   pub judged : Judged
   pub is_read : IsReadOf p names setup made text judged

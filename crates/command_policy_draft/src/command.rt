@@ -20,7 +20,7 @@ use std::alloc::{AllocError, Global};
 
 /// What is said where what was made of a layout is no policy that it keeps.
 const NOT_KEPT: &str =
-    "--draft: the layout does not keep the policy that was made of it, so it is not written";
+    "the layout does not keep the policy that was made of it, so it is not written";
 
 /// The policy that a layout keeps now, whatever its threads call, behind its first `after` calls, or behind all: groups of what is
 /// one part, the ways between them, and what else they hold. Some threads are trusted. The verdict is `AllMet`, or `Absent` with

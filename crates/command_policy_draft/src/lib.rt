@@ -1,4 +1,4 @@
-//! The policy that a layout keeps now, as the text of a policy file. It is read and judged as `audit --policy` does it before it is
+//! The policy that a layout keeps now, as the text of a policy file. It is read and judged as `policy` does it before it is
 //! written.
 #![tactic(auto)]
 

@@ -1,4 +1,4 @@
--- Which question of `--how` a breach stands for, and of which threads it is asked.
+-- Which question of `how` a breach stands for, and of which threads it is asked.
 use Rattle.std.specs.Prelude.{◌≡◌, ℕ, ◌==◌, ◌&&◌, ◌||◌, Bool, true, false, not, cond, List, ◌++◌, filter, Option, Some, None}
 use Rattle.query_parts.specs.declared.listed.PartMemory.{PartMemory}
 use Rattle.query_parts.specs.Listed.{part_at}

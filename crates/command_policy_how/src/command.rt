@@ -73,7 +73,7 @@ impl BreachHow<'_> {
                 format!(in alloc; "--how {number}: count of breaches: {count}")
             }
             Some(line) => format!(in alloc;
-                "--how {number}: {line}: this is there already, and no calls to come are asked for; audit --never has the chain of slots"
+                "--how {number}: {line}: this is there already, and no calls to come are asked for; sel4sim never has the chain of slots"
             ),
         }
     }

@@ -1,4 +1,4 @@
-//! Which question of `--how` a breach stands for, and of which threads it is asked.
+//! Which question of `how` a breach stands for, and of which threads it is asked.
 ghost use Rattle.std.specs.Prelude.{◌≡◌, ◌++◌, ◌==◌, not, IfOk, filter};
 ghost use Rattle.command_policy_how.specs.Question as spec;
 

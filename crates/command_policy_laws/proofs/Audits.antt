@@ -1,4 +1,4 @@
--- What `audit --policy` promises with status 0.
+-- What `policy` promises with status 0.
 use Rattle.std.proofs.Common.{◌≡◌, ℕ, List, Option, inl, inr, refl, ap, ◌∙◌}
 use Rattle.cap_core.specs.declared.profile.ProfileName.{ProfileName}
 use Rattle.setup_format.specs.Views.{ReadView}

@@ -74,7 +74,7 @@ pub fn what_is_not_told_is_kept()
     ensures { (p : ProfileName) (c : Policy) (l : Layout) (n : Labels) (A : State) → WhatIsNotToldIsKept p c l n A }
 {}
 
-/// Status 0 of `audit --policy`. Where the verdict on a layout and a policy is `AllMet`, then, whatever calls the threads of the parts
+/// Status 0 of `policy`. Where the verdict on a layout and a policy is `AllMet`, then, whatever calls the threads of the parts
 /// make, and whatever messages other threads send and receive: each capability to an endpoint in a slot of a group's part is one that
 /// the group's entries allow, with its badge and all its rights, or is to an endpoint in a region of the group or in its part's memory;
 /// each message that is delivered between threads of two groups passes by an endpoint and with a badge that a way allows; and each
@@ -86,7 +86,7 @@ pub fn what_status_0_promises()
         IsPromised p c l n setup replies text }
 {}
 
-/// `audit --policy` with the verdict `AllMet`, which is status 0: the text is held to the policy that its bytes say, by the state behind as
+/// `policy` with the verdict `AllMet`, which is status 0: the text is held to the policy that its bytes say, by the state behind as
 /// many calls as are asked for, and what `what_status_0_promises` says is so of that state.
 pub fn what_audit_policy_promises()
     ensures { (policy : List ℕ) (after : Option ℕ) (p : ProfileName) (read : ReadView) (text : List ℕ) →

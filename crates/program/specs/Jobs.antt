@@ -1,7 +1,7 @@
 -- Which text and which verdict each job has, by its options, for the bytes of an input.
-use Rattle.std.specs.Prelude.{◌≡◌, ℕ, Bool, not, List, Option, Some, None, option_map, is_some, unwrap_or, cond, MatchBool}
+use Rattle.std.specs.Prelude.{◌≡◌, ℕ, Bool, not, List, [], Option, Some, None, option_map, is_some, unwrap_or, cond, MatchBool}
 use Rattle.command_line.specs.declared.arguments.Job.{Job}
-use Rattle.command_line.specs.declared.arguments.Job.TheVariants.{Check, Trace, Threads, Migrate, Why, Audit, Explore, Tree, New, Marks, Record, Import}
+use Rattle.command_line.specs.declared.arguments.Job.TheVariants.{Check, Trace, Threads, Migrate, Why, Audit, Ever, Never, Draft, How, Policy, Explore, Tree, New, Marks, Record, Import}
 use Rattle.command_line.specs.declared.arguments.Options.{Options}
 use Rattle.command_core.specs.declared.fault.Verdict.{Verdict}
 use Rattle.command_files.specs.Strict.{IsNamedCheck, checked}
@@ -49,12 +49,16 @@ trust_of options = record { without = without_of options; messages = messages_of
 abbrev pub by_of : Options → List (List ℕ)
 by_of options = words_in (option_map (λ s. s.now) options.by)
 
--- what is asked of the threads before and behind the comma (44)
-abbrev pub question_of : Options → List ℕ → Asked
-question_of options threads = record {
+-- the word for two threads
+abbrev pub threads_of : Options → List ℕ
+threads_of options = unwrap_or (option_map (λ s. s.now) options.from_to) []
+
+-- what `never` asks of the threads before and behind the comma (44)
+abbrev pub question_of : Options → Asked
+question_of options = record {
   trust = trust_of options;
-  from = before_mark 44 threads;
-  to = behind_mark 44 threads;
+  from = before_mark 44 (threads_of options);
+  to = behind_mark 44 (threads_of options);
   by = by_of options;
   by_name = options.names;
 }
@@ -65,62 +69,29 @@ IsAuditAt options None input text verdict =
     IsAnswerTo (IsStateAnswer (IsStateAudited (without_of options) options.names) options.after) input text verdict
 IsAuditAt options (Some slot) input text verdict = IsAnswerTo (IsSlotAudited slot options.names options.after) input text verdict
 
-abbrev pub IsAuditNow : Options → List ℕ → List ℕ → Verdict → Type 0
-IsAuditNow options input text verdict = IsAuditAt options (option_map (λ s. s.now) options.slot) input text verdict
-
--- what threads can never get, or, with `--draft`, a policy that the layout keeps now
-abbrev pub IsAuditOfEver : Options → List ℕ → List ℕ → Verdict → Type 0
-IsAuditOfEver options input text verdict =
-    MatchBool options.draft
-    (IsAnswerTo (IsStateAnswer (IsDraft (trust_of options)) options.after) input text verdict)
-    (IsAnswerTo (IsStateAnswer (IsEver (trust_of options) options.names) options.after) input text verdict)
-
--- such an audit, or, with `--ever`, what is told of all calls to come
-abbrev pub IsAuditOfState : Options → List ℕ → List ℕ → Verdict → Type 0
-IsAuditOfState options input text verdict =
-    MatchBool options.ever
-    (IsAuditOfEver options input text verdict)
-    (IsAuditNow options input text verdict)
+abbrev pub IsAudit : Options → List ℕ → List ℕ → Verdict → Type 0
+IsAudit options input text verdict = IsAuditAt options (option_map (λ s. s.now) options.slot) input text verdict
 
 -- what is to happen: a message, where nothing else is named
 abbrev pub happening_in : Options → Happening
 happening_in options = cond options.hold Hold (cond options.loss Loss Message)
 
--- what is asked of the threads before and behind the comma (44) with `--how`
-abbrev pub how_of : Options → List ℕ → Words
-how_of options threads = record {
+-- what `how` asks of the threads before and behind the comma (44)
+abbrev pub how_of : Options → Words
+how_of options = record {
   what = happening_in options;
-  from = before_mark 44 threads;
-  to = behind_mark 44 threads;
+  from = before_mark 44 (threads_of options);
+  to = behind_mark 44 (threads_of options);
   by = by_of options;
   badge = options.badge;
   without = without_of options;
   states = options.states;
 }
 
--- or, with `--how`, calls after which it has happened
-abbrev pub IsAuditByHow : Options → Option (List ℕ) → List ℕ → List ℕ → Verdict → Type 0
-IsAuditByHow options None input text verdict = IsAuditOfState options input text verdict
-IsAuditByHow options (Some threads) input text verdict = IsAnswerTo (IsStateAnswer (IsHow (how_of options threads)) options.after) input text verdict
-
--- or, with `--never`, whether the first thread's part is kept from the other's
-abbrev pub IsAuditBy : Options → Option (List ℕ) → List ℕ → List ℕ → Verdict → Type 0
-IsAuditBy options None input text verdict = IsAuditByHow options (option_map (λ s. s.now) options.how) input text verdict
-IsAuditBy options (Some threads) input text verdict =
-    IsAnswerTo (IsStateAnswer (IsNever (question_of options threads)) options.after) input text verdict
-
-abbrev pub IsAuditOfParts : Options → List ℕ → List ℕ → Verdict → Type 0
-IsAuditOfParts options input text verdict = IsAuditBy options (option_map (λ s. s.now) options.never) input text verdict
-
 -- what is told of the layout by a policy, or, with `--how`, how a breach of it happens
 abbrev pub IsHeld : Options → List ℕ → Option ℕ → List ℕ → List ℕ → Verdict → Type 0
 IsHeld options policy None input text verdict = IsAnswerTo (IsPolicyOf policy options.after) input text verdict
 IsHeld options policy (Some breach) input text verdict = IsAnswerTo (IsBreachHow breach policy options.after options.states) input text verdict
-
--- or, with `--policy`, this, by the policy with these bytes
-abbrev pub IsAudit : Options → List ℕ → List ℕ → List ℕ → Verdict → Type 0
-IsAudit options policy input text verdict =
-    MatchBool (is_some options.policy) (IsHeld options policy options.breach input text verdict) (IsAuditOfParts options input text verdict)
 
 -- the calls that are made before the clients begin, and the states that are kept at the most
 abbrev pub first_calls_of : Options → ℕ
@@ -171,14 +142,19 @@ abbrev pub IsImport : Options → List ℕ → List ℕ → Verdict → Type 0
 IsImport options input text verdict =
     MatchBool options.cdl (IsLayoutText input text verdict) (IsImported (reading_of (reading_by options) input) options.listing text verdict)
 
--- what each command writes for an input, by the policy with these bytes where its options name one: its text and its verdict
+-- what each command writes for an input, by the policy with these bytes if its words name one: its text and its verdict
 abbrev pub meaning : Job → Options → List ℕ → List ℕ → List ℕ → Verdict → Type 0
 meaning Check options policy = IsCheck options
 meaning Trace options policy = IsAnswerTo (IsTrace options.names)
 meaning Threads options policy = IsShared options
 meaning Migrate options policy = IsMigration
 meaning Why options policy = IsAnswerTo (IsWhy options.names options.call)
-meaning Audit options policy = IsAudit options policy
+meaning Audit options policy = IsAudit options
+meaning Ever options policy = IsAnswerTo (IsStateAnswer (IsEver (trust_of options) options.names) options.after)
+meaning Never options policy = IsAnswerTo (IsStateAnswer (IsNever (question_of options)) options.after)
+meaning Draft options policy = IsAnswerTo (IsStateAnswer (IsDraft (trust_of options)) options.after)
+meaning How options policy = IsAnswerTo (IsStateAnswer (IsHow (how_of options)) options.after)
+meaning Policy options policy = IsHeld options policy options.breach
 meaning Explore options policy = IsExplorationBy options
 meaning Tree options policy = IsAnswerTo (IsStateAnswer (IsTree (form_of options) options.names) options.after)
 meaning New options policy = λ input text verdict. IsNewOf options text verdict

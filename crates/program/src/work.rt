@@ -1,12 +1,15 @@
 //! The job of a command line as an engine: what it makes of an input, by the options.
-ghost use Rattle.std.specs.Prelude.{◌≡◌, ◌≢◌, IfErr, IfOk, map, option_map};
+ghost use Rattle.std.specs.Prelude.{◌≡◌, ◌≢◌, IfErr, IfOk, map};
 ghost use Rattle.command_line.specs.declared.arguments.Job.TheVariants.{Threads};
 ghost use Rattle.command_check.specs.Commands.{IsAnswerTo, IsStateAnswer};
-ghost use Rattle.program.specs.Jobs.{IsAudit, IsAuditByHow, IsAuditNow, IsAuditOfEver, IsAuditOfParts, IsAuditOfState, IsCheck, IsExplorationBy, IsHeld, IsImport, IsOrdersAnswer, by_of, form_of as form_of_options, happening_in, how_of, messages_of, question_of, trust_of, without_of};
+ghost use Rattle.program.specs.Jobs.{IsAudit, IsCheck, IsExplorationBy, IsHeld, IsImport, IsOrdersAnswer, by_of, form_of as form_of_options, happening_in, how_of, messages_of, question_of, threads_of, trust_of, without_of};
 ghost use Rattle.program.specs.NewWords.{IsNewOf};
 ghost use Rattle.program.specs.WitnessWords.{IsNamedWitness};
 ghost use Rattle.command_never.specs.Question.{IsNever};
 ghost use Rattle.command_how.specs.How.{IsHow};
+ghost use Rattle.command_parts.specs.Told.{IsEver};
+ghost use Rattle.command_policy_draft.specs.Drafts.{IsDraft};
+ghost use Rattle.program.specs.Texts.{before_mark, behind_mark};
 
 use crate::commas::words_in;
 use crate::marks::around;
@@ -89,27 +92,35 @@ impl<'a> Words<'a> {
     }
 }
 
-/// What threads can never get, or, with `--draft`, a policy that the layout keeps, where the threads of `--without` and of
-/// `--messages` are trusted.
+/// What threads can never get, where some are trusted.
 fn make_ever(alloc: Global, options: Options<'_>, input: &[u8]) -> Result<Answer, RunFault>
-    ensures made { IfOk result (λ made. IsAuditOfEver options.entry input.now made.text.items made.verdict) }
+    ensures made { IfOk result (λ made. IsAnswerTo (IsStateAnswer (IsEver (trust_of options.entry) options.entry.names) options.entry.after) input.now made.text.items made.verdict) }
+    ensures memory { IfErr result (λ fault. fault ≡ RunFault.Memory) }
+{
+    let Ok(words) = Words::of(alloc, options) else {
+        return Err(RunFault::Memory);
+    };
+    let Options { names, after, .. } = options;
+    let trust = words.trust();
+    on_state(alloc, Ever { trust, names }, after, input)
+}
+
+/// A policy that the layout keeps, where some threads are trusted.
+fn make_draft(alloc: Global, options: Options<'_>, input: &[u8]) -> Result<Answer, RunFault>
+    ensures made { IfOk result (λ made. IsAnswerTo (IsStateAnswer (IsDraft (trust_of options.entry)) options.entry.after) input.now made.text.items made.verdict) }
     ensures memory { IfErr result (λ fault. fault ≡ RunFault.Memory) }
 {
     let Ok(words) = Words::of(alloc, options) else {
         return Err(RunFault::Memory);
     };
     let trust = words.trust();
-    let Options { names, after, .. } = options;
-    if options.draft {
-        on_state(alloc, Draft { trust, after }, after, input)
-    } else {
-        on_state(alloc, Ever { trust, names }, after, input)
-    }
+    let after = options.after;
+    on_state(alloc, Draft { trust, after }, after, input)
 }
 
 /// The audit of a state without the threads of `--without`, or of one slot.
-fn make_audit_now(alloc: Global, options: Options<'_>, input: &[u8]) -> Result<Answer, RunFault>
-    ensures made { IfOk result (λ made. IsAuditNow options.entry input.now made.text.items made.verdict) }
+fn make_audit(alloc: Global, options: Options<'_>, input: &[u8]) -> Result<Answer, RunFault>
+    ensures made { IfOk result (λ made. IsAudit options.entry input.now made.text.items made.verdict) }
     ensures memory { IfErr result (λ fault. fault ≡ RunFault.Memory) }
 {
     let Options { names, after, .. } = options;
@@ -123,68 +134,35 @@ fn make_audit_now(alloc: Global, options: Options<'_>, input: &[u8]) -> Result<A
     on_state(alloc, StateAudit { without, names }, after, input)
 }
 
-/// The audit of a state or of one slot, or, with `--ever`, what threads can never get.
-fn make_state_audit(alloc: Global, options: Options<'_>, input: &[u8]) -> Result<Answer, RunFault>
-    ensures made { IfOk result (λ made. IsAuditOfState options.entry input.now made.text.items made.verdict) }
-    ensures memory { IfErr result (λ fault. fault ≡ RunFault.Memory) }
+/// The threads that are asked about, before and behind the comma; without the word for them, two empty ones.
+fn two_threads<'a>(options: &Options<'a>) -> (&'a str, &'a str)
+    ensures from { result.0.now ≡ before_mark 44 (threads_of options.now) }
+    ensures to { result.1.now ≡ behind_mark 44 (threads_of options.now) }
 {
-    if options.ever {
-        make_ever(alloc, options, input)
-    } else {
-        make_audit_now(alloc, options, input)
+    match options.from_to {
+        Some(threads) => around(threads, ','),
+        None => ("", ""),
     }
 }
 
-/// Whether the part of the first of two threads is kept from that of the other, but by the endpoints `by`, where some threads are
+/// Whether the part of the first of two threads is kept from that of the other, but by the endpoints of `--by`, where some threads are
 /// trusted.
-fn make_never_between(
-    alloc: Global,
-    options: Options<'_>,
-    threads: &str,
-    without: &[&str],
-    messages: &[&str],
-    by: &[&str],
-    input: &[u8],
-) -> Result<Answer, RunFault>
-    requires without { map (λ w. w.now) without.now ≡ without_of options }
-    requires messages { map (λ w. w.now) messages.now ≡ messages_of options }
-    requires by { map (λ w. w.now) by.now ≡ by_of options }
-    ensures made { IfOk result (λ made. IsAnswerTo (IsStateAnswer (IsNever (question_of options.entry threads.now)) options.entry.after) input.now made.text.items made.verdict) }
-    ensures memory { IfErr result (λ fault. fault ≡ RunFault.Memory) }
-{
-    let (from, to) = around(threads, ',');
-    let question = Question {
-        trust: Trust { without, messages },
-        from,
-        to,
-        by,
-        names: options.names,
-    };
-    on_state(alloc, question, options.after, input)
-}
-
-/// The same, by the options.
-fn make_never(
-    alloc: Global,
-    options: Options<'_>,
-    threads: &str,
-    input: &[u8],
-) -> Result<Answer, RunFault>
-    ensures made { IfOk result (λ made. IsAnswerTo (IsStateAnswer (IsNever (question_of options.entry threads.now)) options.entry.after) input.now made.text.items made.verdict) }
+fn make_never(alloc: Global, options: Options<'_>, input: &[u8]) -> Result<Answer, RunFault>
+    ensures made { IfOk result (λ made. IsAnswerTo (IsStateAnswer (IsNever (question_of options.entry)) options.entry.after) input.now made.text.items made.verdict) }
     ensures memory { IfErr result (λ fault. fault ≡ RunFault.Memory) }
 {
     let Ok(words) = Words::of(alloc, options) else {
         return Err(RunFault::Memory);
     };
-    make_never_between(
-        alloc,
-        options,
-        threads,
-        words.without.as_slice(),
-        words.messages.as_slice(),
-        words.by.as_slice(),
-        input,
-    )
+    let ends = two_threads(&options);
+    let question = Question {
+        trust: words.trust(),
+        from: ends.0,
+        to: ends.1,
+        by: words.by.as_slice(),
+        names: options.names,
+    };
+    on_state(alloc, question, options.after, input)
 }
 
 /// What is to happen: a message, where nothing else is named.
@@ -201,19 +179,14 @@ fn happening_of(options: &Options<'_>) -> Happening
 }
 
 /// How it could happen between two threads, but by the endpoints of `--by`, where those of `--without` make no more calls.
-fn make_how(
-    alloc: Global,
-    options: Options<'_>,
-    threads: &str,
-    input: &[u8],
-) -> Result<Answer, RunFault>
-    ensures made { IfOk result (λ made. IsAnswerTo (IsStateAnswer (IsHow (how_of options.entry threads.now)) options.entry.after) input.now made.text.items made.verdict) }
+fn make_how(alloc: Global, options: Options<'_>, input: &[u8]) -> Result<Answer, RunFault>
+    ensures made { IfOk result (λ made. IsAnswerTo (IsStateAnswer (IsHow (how_of options.entry)) options.entry.after) input.now made.text.items made.verdict) }
     ensures memory { IfErr result (λ fault. fault ≡ RunFault.Memory) }
 {
     let Ok(words) = Words::of(alloc, options) else {
         return Err(RunFault::Memory);
     };
-    let ends = around(threads, ',');
+    let ends = two_threads(&options);
     let how = How {
         what: happening_of(&options),
         from: ends.0,
@@ -224,27 +197,6 @@ fn make_how(
         states: options.states,
     };
     on_state(alloc, how, options.after, input)
-}
-
-/// The audit where nothing is asked with `--never`.
-fn make_other_audit(alloc: Global, options: Options<'_>, input: &[u8]) -> Result<Answer, RunFault>
-    ensures made { IfOk result (λ made. IsAuditByHow options.entry (option_map (λ s. s.now) options.entry.how) input.now made.text.items made.verdict) }
-    ensures memory { IfErr result (λ fault. fault ≡ RunFault.Memory) }
-{
-    match options.how {
-        Some(threads) => make_how(alloc, options, threads, input),
-        None => make_state_audit(alloc, options, input),
-    }
-}
-
-fn make_parts_audit(alloc: Global, options: Options<'_>, input: &[u8]) -> Result<Answer, RunFault>
-    ensures made { IfOk result (λ made. IsAuditOfParts options.entry input.now made.text.items made.verdict) }
-    ensures memory { IfErr result (λ fault. fault ≡ RunFault.Memory) }
-{
-    match options.never {
-        Some(threads) => make_never(alloc, options, threads, input),
-        None => make_other_audit(alloc, options, input),
-    }
 }
 
 /// The layout held to the policy whose bytes these are; with the number of a breach, how it happens.
@@ -269,23 +221,6 @@ fn make_held(
             };
             on_setup(alloc, how, input)
         }
-    }
-}
-
-/// An audit by the options; with `--policy`, the layout held to the policy whose bytes these are.
-fn make_audit(
-    alloc: Global,
-    options: Options<'_>,
-    policy: &[u8],
-    input: &[u8],
-) -> Result<Answer, RunFault>
-    ensures made { IfOk result (λ made. IsAudit options.entry policy.now input.now made.text.items made.verdict) }
-    ensures memory { IfErr result (λ fault. fault ≡ RunFault.Memory) }
-{
-    if options.policy.is_some() {
-        make_held(alloc, options, policy, input)
-    } else {
-        make_parts_audit(alloc, options, input)
     }
 }
 
@@ -454,7 +389,12 @@ impl Engine for Work<'_> {
                 let Options { call, names, .. } = options;
                 on_setup(alloc, Why { call, names }, input)
             }
-            Job::Audit => make_audit(alloc, options, self.policy, input),
+            Job::Audit => make_audit(alloc, options, input),
+            Job::Ever => make_ever(alloc, options, input),
+            Job::Never => make_never(alloc, options, input),
+            Job::Draft => make_draft(alloc, options, input),
+            Job::How => make_how(alloc, options, input),
+            Job::Policy => make_held(alloc, options, self.policy, input),
             Job::Explore => make_exploration(alloc, options, input),
             Job::Tree => {
                 let form = form_of(options);

@@ -18,7 +18,7 @@ impl Kind {
     fn words(self) -> (&'static str, &'static str) {
         match self {
             Kind::Setup => ("a set-up", "check"),
-            Kind::Policy => ("a policy", "audit --policy"),
+            Kind::Policy => ("a policy", "policy"),
             Kind::System => ("a .system file", "import"),
             Kind::Layout => ("capDL text", "import"),
         }

@@ -195,12 +195,12 @@ fn formats_of(job: Job) -> Formats {
 }
 
 /// Says what the options name and the set-up does not have.
-fn note_on_absence<R: Eprint + AllocGlobal>(rt: &R, line: &Line<'_>, found: &Found, bytes: &[u8]) {
+fn note_on_absence<R: Eprint + AllocGlobal>(rt: &R, line: &Line<'_>, found: &Found) {
     if let Some(text) = &found.notes.absent {
         note(rt, ERROR, None, text.as_str());
         return;
     }
-    if let Ok(Some(text)) = absence(rt.alloc(), line, bytes) {
+    if let Ok(Some(text)) = absence(rt.alloc(), line) {
         note(rt, ERROR, None, text.as_str());
     }
 }
@@ -274,7 +274,7 @@ fn note_on_verdict<R: Eprint + AllocGlobal>(rt: &R, line: &Line<'_>, found: &Fou
             }
             note_on_kind(rt, None, bytes, false);
         }
-        (_, Verdict::Absent) => note_on_absence(rt, line, found, bytes),
+        (_, Verdict::Absent) => note_on_absence(rt, line, found),
         _ => {}
     }
 }

@@ -3,9 +3,9 @@ use std::alloc::{AllocError, Global};
 use strsim::osa_distance;
 
 /// The commands.
-const COMMANDS: [&str; 13] = [
-    "check", "marks", "record", "trace", "threads", "migrate", "why", "audit", "explore", "tree",
-    "new", "import", "help",
+const COMMANDS: [&str; 18] = [
+    "check", "marks", "record", "trace", "threads", "migrate", "why", "audit", "ever", "never",
+    "draft", "how", "policy", "explore", "tree", "new", "import", "help",
 ];
 
 /// The most edits that lead from a command to a word that looks like it, and how many bytes a word has for each of them.

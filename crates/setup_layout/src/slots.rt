@@ -722,7 +722,7 @@ fn check_endpoint(words: &mut Words<'_>, machine: Machine, slot: SlotText<'_>, i
             Topic::HandsOver,
             spot,
             format_args!(
-                "{name}: with G capabilities can be handed over in messages, which is not simulated; audit --ever tells it by lines grant"
+                "{name}: with G capabilities can be handed over in messages, which is not simulated; sel4sim ever tells it by lines grant"
             ),
         );
     }

@@ -14,6 +14,11 @@ fn name_of(job: Job) -> &'static str {
         Job::Migrate => "migrate",
         Job::Why => "why",
         Job::Audit => "audit",
+        Job::Ever => "ever",
+        Job::Never => "never",
+        Job::Draft => "draft",
+        Job::How => "how",
+        Job::Policy => "policy",
         Job::Explore => "explore",
         Job::Tree => "tree",
         Job::New => "new",
@@ -36,8 +41,12 @@ enum Told<'a> {
     Why(Option<u64>),
     /// They ask for an audit, behind so many calls, and of this slot.
     Audit(Option<u64>, Option<&'static str>),
-    /// They ask for parts or not, without these threads.
-    Parts(bool, Option<&'a str>),
+    /// They ask for this command, without these threads.
+    Without(&'a str, Option<&'a str>),
+    /// They ask for this command, of these two threads.
+    Between(&'a str, &'a str),
+    /// They ask for this policy, and for a breach of it or none.
+    Policy(&'a str, Option<u64>),
     /// They ask for an exploration, of the first so many calls, with so many states.
     Explore(Option<u64>, Option<u64>),
     /// They ask for this order as a set-up, or for none.
@@ -98,8 +107,17 @@ const JOBS: &[(&[&str], Told)] = &[
     ),
     (&["sel4sim", "audit", "-"], Told::Job("audit", Some("-"))),
     (
-        &["sel4sim", "audit", "--ever", "rows.toml"],
-        Told::Job("audit", Some("rows.toml")),
+        &["sel4sim", "ever", "rows.toml"],
+        Told::Job("ever", Some("rows.toml")),
+    ),
+    (
+        &["sel4sim", "never", "a,b", "rows.toml"],
+        Told::Job("never", Some("rows.toml")),
+    ),
+    (&["sel4sim", "never", "a,b"], Told::Job("never", None)),
+    (
+        &["sel4sim", "rows.toml", "policy", "p.toml"],
+        Told::Job("policy", Some("rows.toml")),
     ),
     (
         &["sel4sim", "rows.toml", "audit", "--after", "1"],
@@ -179,35 +197,46 @@ const OPTIONS: &[(&[&str], Told)] = &[
         Told::Audit(Some(0), Some("160")),
     ),
     // parts, and who is trusted
-    (&["sel4sim", "audit"], Told::Parts(false, None)),
-    (&["sel4sim", "audit", "--ever"], Told::Parts(true, None)),
+    (&["sel4sim", "audit"], Told::Without("audit", None)),
+    (&["sel4sim", "ever"], Told::Without("ever", None)),
     (
-        &["sel4sim", "audit", "--ever", "--without", "loader"],
-        Told::Parts(true, Some("loader")),
+        &["sel4sim", "ever", "--without", "loader"],
+        Told::Without("ever", Some("loader")),
     ),
     (
         &["sel4sim", "audit", "--without", "loader"],
-        Told::Parts(false, Some("loader")),
+        Told::Without("audit", Some("loader")),
     ),
     (
         &["sel4sim", "audit", "--names", "--without", ""],
-        Told::Parts(false, Some("")),
+        Told::Without("audit", Some("")),
+    ),
+    (&["sel4sim", "ever", "--names"], Told::Without("ever", None)),
+    (
+        &["sel4sim", "draft", "--without=@a,2048"],
+        Told::Without("draft", Some("@a,2048")),
     ),
     (
-        &["sel4sim", "audit", "--ever", "--names"],
-        Told::Parts(true, None),
+        &["sel4sim", "never", "--without", "", "a,b"],
+        Told::Without("never", Some("")),
     ),
     (
-        &["sel4sim", "audit", "--without=@a,2048", "--ever"],
-        Told::Parts(true, Some("@a,2048")),
+        &["sel4sim", "ever", "--after", "3"],
+        Told::Without("ever", None),
+    ),
+    // two threads, and a policy
+    (&["sel4sim", "never", "a,b"], Told::Between("never", "a,b")),
+    (
+        &["sel4sim", "how", "--hold", "2048,@b", "-"],
+        Told::Between("how", "2048,@b"),
     ),
     (
-        &["sel4sim", "audit", "--without", "", "--ever"],
-        Told::Parts(true, Some("")),
+        &["sel4sim", "policy", "p.toml"],
+        Told::Policy("p.toml", None),
     ),
     (
-        &["sel4sim", "audit", "--ever", "--after", "3"],
-        Told::Parts(true, None),
+        &["sel4sim", "policy", "p.toml", "rows.toml", "--how", "2"],
+        Told::Policy("p.toml", Some(2)),
     ),
     // the bounds of an exploration
     (&["sel4sim", "explore"], Told::Explore(None, None)),
@@ -244,28 +273,34 @@ const FAULTS_OF_LINES: &[(&[&str], Told)] = &[
     ),
     (&["sel4sim", "-", "-"], Told::Conflict("standard input")),
     (
-        &["sel4sim", "audit", "--ever", "--slot", "160"],
-        Told::Conflict("--slot"),
-    ),
-    (
-        &["sel4sim", "audit", "--slot", "160", "--ever", "rows.toml"],
-        Told::Conflict("--ever"),
-    ),
-    (
         &["sel4sim", "audit", "--without", "loader", "--slot", "160"],
         Told::Conflict("--without"),
     ),
     (
-        &["sel4sim", "audit", "--how", "1,2", "--names"],
-        Told::Conflict("--how"),
+        &["sel4sim", "how", "--hold", "--loss", "1,2"],
+        Told::Conflict("--loss"),
     ),
+    (
+        &["sel4sim", "how", "--message", "--loss", "1,2"],
+        Told::Conflict("--message"),
+    ),
+    (
+        &["sel4sim", "how", "--loss", "--by", "3", "1,2"],
+        Told::Conflict("--by"),
+    ),
+    (
+        &["sel4sim", "how", "--hold", "--badge", "3", "1,2"],
+        Told::Conflict("--badge"),
+    ),
+    (&["sel4sim", "never", "1"], Told::Conflict("FROM,TO")),
+    (&["sel4sim", "how", "1,2,3"], Told::Conflict("FROM,TO")),
     (
         &["sel4sim", "explore", "--names", "--witness", "stuck.1"],
         Told::Conflict("--witness"),
     ),
     (
-        &["sel4sim", "audit", "--policy", "-", "rows.toml"],
-        Told::Conflict("--policy"),
+        &["sel4sim", "policy", "-", "rows.toml"],
+        Told::Conflict("POLICY"),
     ),
     (
         &["sel4sim", "marks", "--of", "-", "rows.toml"],
@@ -282,9 +317,10 @@ const FAULTS_OF_LINES: &[(&[&str], Told)] = &[
     (&["sel4sim", "why", "--help"], Told::Help),
     (&["sel4sim", "audit", "--help"], Told::Help),
     (
-        &["sel4sim", "audit", "--without", "loader", "--help"],
+        &["sel4sim", "ever", "--without", "loader", "--help"],
         Told::Help,
     ),
+    (&["sel4sim", "never", "--help"], Told::Help),
     (&["sel4sim", "explore", "--help"], Told::Help),
     // what is none of these
     (
@@ -318,9 +354,28 @@ const FAULTS_OF_LINES: &[(&[&str], Told)] = &[
     (&["sel4sim", "check", "--call", "1"], Told::Refused),
     (&["sel4sim", "audit", "--after", "x"], Told::Refused),
     (&["sel4sim", "audit", "--slot"], Told::Refused),
-    (&["sel4sim", "audit", "--ever=1"], Told::Refused),
-    (&["sel4sim", "audit", "--ever", "--ever"], Told::Refused),
-    (&["sel4sim", "audit", "--ever", "--without"], Told::Refused),
+    (&["sel4sim", "audit", "--names=1"], Told::Refused),
+    (&["sel4sim", "audit", "--names", "--names"], Told::Refused),
+    (&["sel4sim", "ever", "--without"], Told::Refused),
+    (&["sel4sim", "audit", "--ever"], Told::Refused),
+    (&["sel4sim", "audit", "--never", "a,b"], Told::Refused),
+    (&["sel4sim", "audit", "--messages", "a"], Told::Refused),
+    (&["sel4sim", "ever", "--slot", "160"], Told::Refused),
+    (&["sel4sim", "ever", "--by", "160"], Told::Refused),
+    (&["sel4sim", "draft", "--names"], Told::Refused),
+    (&["sel4sim", "how", "--names", "a,b"], Told::Refused),
+    (&["sel4sim", "never"], Told::Refused),
+    (&["sel4sim", "how", "--hold"], Told::Refused),
+    (&["sel4sim", "never", "--hold", "a,b"], Told::Refused),
+    (&["sel4sim", "policy"], Told::Refused),
+    (
+        &["sel4sim", "policy", "--how", "x", "p.toml"],
+        Told::Refused,
+    ),
+    (
+        &["sel4sim", "policy", "--without", "a", "p.toml"],
+        Told::Refused,
+    ),
     (&["sel4sim", "audit", "--first", "1"], Told::Refused),
     (&["sel4sim", "explore", "--first", "-1"], Told::Refused),
     (&["sel4sim", "explore", "--states", ""], Told::Refused),
@@ -340,7 +395,11 @@ fn asks_for(taken: &Line, wanted: Told) -> bool {
         Told::Audit(after, slot) => {
             name == "audit" && options.after == after && options.slot == slot
         }
-        Told::Parts(ever, without) => options.ever == ever && options.without == without,
+        Told::Without(command, without) => name == command && options.without == without,
+        Told::Between(command, threads) => name == command && options.from_to == Some(threads),
+        Told::Policy(policy, breach) => {
+            name == "policy" && options.policy == Some(policy) && options.breach == breach
+        }
         Told::Explore(first, states) => {
             name == "explore" && options.first == first && options.states == states
         }

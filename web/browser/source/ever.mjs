@@ -11,7 +11,7 @@ const WAY = /^way (\d+) -> (\d+) (badge \w+) -> (\d+)$/u;
 /** So many parts are told at first. */
 const PARTS_SHOWN = 100;
 
-/** What a text of `audit --ever` tells: its parts, each with its threads and its lines, the ways, the threads that are
+/** What a text of `ever` tells: its parts, each with its threads and its lines, the ways, the threads that are
     trusted, and the other lines, of which the first is the head. */
 function partsOf(text) {
   const told = { parts: [], ways: [], trusted: [], rest: [] };
@@ -49,7 +49,7 @@ const drawParts = (parts) => element("div", { class: "parts" }, parts.map(drawPa
 const drawBoxed = (drawing, save) => savable(element("div", { class: "drawing", tabindex: "0", role: "region", "aria-label": "Parts and ways" },
   drawing), () => save(drawing, "parts"));
 
-/** Draws a text of `audit --ever` into an element; `save` is told the drawing that is to be saved, and its name. */
+/** Draws a text of `ever` into an element; `save` is told the drawing that is to be saved, and its name. */
 export function drawEver(into, text, save) {
   const { parts, ways, trusted, rest } = partsOf(text);
   const boxes = parts.map(({ id, threads }) => ({ id, title: `part ${id}`, lines: threads.map(([thread]) => thread) }));

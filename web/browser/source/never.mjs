@@ -5,14 +5,14 @@ import { drawOpeners } from "./opener.mjs";
 const ANSWER = /^never (\d+(?: @\S+)?) part (\w+) -> (\d+(?: @\S+)?) part (\w+) (excluded|excluded by flow|possible|possible decided)$/u;
 const OPEN = /^open (\d+)$/u;
 const NO_PART = "none";
-/** What may happen, each with the options of `audit --how` that ask for it. */
+/** What may happen, each with the options of `how` that ask for it. */
 const HAPPENINGS = [
   { words: "a message", title: "A message of the first thread is delivered to the second", options: [] },
   { words: "a hold", title: "The first thread has a word for the control block of the second", options: ["--hold"] },
   { words: "a loss", title: "A delete or a revoke of the first thread takes something of the second", options: ["--loss"] },
 ];
 
-/** Whether a text is one of `audit --never`. */
+/** Whether a text is one of `never`. */
 export const isNever = (text) => text.startsWith("never ");
 
 /** Why it is not excluded, in words. */
@@ -44,7 +44,7 @@ function drawHow(open) {
     drawOpeners(HAPPENINGS.map(({ words, title, options }) => ({ words, title, open: () => open(options) }))));
 }
 
-/** Draws a text of `audit --never` into an element; where it is not excluded, with buttons that have calls looked for (drawHow). */
+/** Draws a text of `never` into an element; where it is not excluded, with buttons that have calls looked for (drawHow). */
 export function drawNever(into, text, open) {
   const lines = text.split("\n");
   const [, from, fromPart, to, toPart, answer] = lines.map((line) => ANSWER.exec(line)).find(Boolean) ?? [];

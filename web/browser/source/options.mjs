@@ -15,7 +15,7 @@ export function threadWord(told) {
 const ticked = (value) => value.split(",").filter(Boolean);
 
 /** Draws two lists of threads for an option that takes a pair. */
-function drawPair({ name, about, between, value, threads, give }) {
+function drawPair({ name, about, between, command, value, threads, give }) {
   const chosen = value.split(",");
   const lists = between.map((words, at) => {
     const made = element("select", { id: `option-${name}-${at}`, title: about, "aria-label": words }, element("option", { value: "" }, words),
@@ -27,7 +27,7 @@ function drawPair({ name, about, between, value, threads, give }) {
     });
     return made;
   });
-  return element("fieldset", { title: about }, element("legend", {}, `--${name}`), lists);
+  return element("fieldset", { title: about }, element("legend", {}, command), lists);
 }
 
 /** Draws a text field. */
@@ -75,11 +75,13 @@ export class Options {
     return between ? value.split(",").filter(Boolean).length === 2 : value !== "";
   }
 
-  /** The words of the command line for a tab, which may name a policy. An option may stand in place of one of the tab's own words. */
+  /** The words of the command line for a tab, which may name a policy. An option may have a command of its own, in place of the tab's. */
   words(tab, policy) {
     const given = (tab.options ?? []).filter((option) => this.isGiven(tab, option));
-    const own = [...tab.words, ...(tab.hasPolicy ? [policy] : [])].filter((word) => !given.some(({ replaces }) => replaces === word));
-    return [...own, ...given.flatMap(({ name, isAlone }) => [`--${name}`, ...(isAlone ? [] : [this.value(tab, name)])])];
+    const asked = given.find(({ command }) => command);
+    const own = asked ? [asked.command, this.value(tab, asked.name)] : [...tab.words, ...(tab.hasPolicy ? [policy] : [])];
+    const options = given.filter((option) => option !== asked);
+    return [...own, ...options.flatMap(({ name, isAlone }) => [`--${name}`, ...(isAlone ? [] : [this.value(tab, name)])])];
   }
 
   /** Gives an option of a tab, or takes it back by an empty value. */

@@ -32,7 +32,7 @@ export function toldOf(errors, name) {
 const drawBreach = (line, open) => element("div", { class: "line" }, line, drawOpeners([{ words: "by which calls?",
   title: "Look for calls by which this breach happens, and open them as a set-up", open }]));
 
-/** Draws a text of `audit --policy` into an element; `open` is told the number of a breach of which it is asked how it happens. */
+/** Draws a text of `policy` into an element; `open` is told the number of a breach of which it is asked how it happens. */
 export function drawHeld(into, text, open) {
   const lines = text.split("\n").slice(0, -1);
   const numbers = new Map(lines.filter((line) => BREACH.test(line)).map((line, at) => [line, at + 1]));

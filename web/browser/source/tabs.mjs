@@ -27,15 +27,15 @@ function showAudit(page, panel, text) {
   drawAudit(panel, text, { choose: (slot) => page.give(AUDIT, "slot", slot), save: (...drawing) => page.saveDrawing(...drawing) });
 }
 
-/** Opens the set-up that `audit --how` writes, at its last call. */
+/** Opens the set-up that `how` or `policy --how` writes, at its last call. */
 const openHow = (page, words, ending) => page.openWitness(words, ending, STEPS,
   `The last call shows that it happens. ${page.commandLine(words)} wrote this set-up.`);
 
-/** Has calls looked for by which it happens between the two threads of `audit --never`. For `--hold` and `--loss` there is no `--by`. */
+/** Has calls looked for by which it happens between the two threads of `never`. For `--hold` and `--loss` there is no `--by`. */
 function openHowOf(page, happening) {
   const options = EVER.options.filter(({ name }) => happening.length === 0 || name !== "by");
-  const words = page.options.words({ ...EVER, options }).map((word) => (word === "--never" ? "--how" : word));
-  return openHow(page, [...words, ...happening], "how");
+  const [, ...words] = page.options.words({ ...EVER, options });
+  return openHow(page, ["how", ...words, ...happening], "how");
 }
 
 /** The parts of a layout, where each thread that is told gets a box to tick; or the answer whether two are kept apart. */
@@ -85,24 +85,25 @@ const AUDIT = {
   show: showAudit,
 };
 const EVER = {
-  name: "ever", words: ["audit", "--ever"], about: "What each thread can never get, whatever calls are made",
+  name: "ever", words: ["ever"], about: "What each thread can never get, whatever calls are made",
   missed: "it is not excluded",
   options: [AFTER, { name: "without", about: "Threads that are trusted to make no more calls", ticks: true },
     { name: "messages", about: "Threads that are trusted to go on to send and receive, and to do nothing else", ticks: true },
     { name: "never", about: "Two threads: is the part of the first kept from the part of the second?", between: ["can this thread", "ever reach this one?"],
-      replaces: "--ever" },
+      command: "never" },
     { name: "by", about: "Endpoints that are allowed between these two", least: "none", inputmode: "text" }],
   show: showEver,
 };
 
 /** The layout held to the policy in the second editor. */
 export const POLICY = {
-  name: "policy", words: ["audit", "--policy"], about: "Whether the layout keeps to a policy, whatever calls are made",
+  name: "policy", words: ["policy"], about: "Whether the layout keeps to a policy, whatever calls are made",
   missed: "the policy is broken", options: [AFTER], hasPolicy: true, show: showHeld,
 };
 
 /** A tab: its name, the program's words, what the tab is for, and how to show what the program writes. It may have options
-    of its command line (options.mjs), and say what status 1 means. A tab without `show` says why the program cannot do it
+    of its command line (options.mjs), and say what status 1 means. An option may have a command of its own, which is asked in place of
+    the tab's words where it is given: its value stands behind it. A tab without `show` says why the program cannot do it
     in a browser. A rare one is in sight where it is chosen, or behind "more". The words of one with a
     policy end with the name of its file. */
 export const TABS = [

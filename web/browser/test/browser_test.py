@@ -39,7 +39,7 @@ import teacher  # noqa: E402
 import what_if  # noqa: E402
 from tester import SITE, Tester, as_answer, choose_pair, native, opened_at_last_call, option, pick, picked, type_option  # noqa: E402
 
-SUBCOMMANDS = (["check"], ["marks"], ["trace"], ["migrate"], ["why"], ["audit"], ["audit", "--ever"], ["audit", "--never", "2048,4096"], ["explore"],
+SUBCOMMANDS = (["check"], ["marks"], ["trace"], ["migrate"], ["why"], ["audit"], ["ever"], ["never", "2048,4096"], ["explore"],
                ["tree"])
 SEED = 7
 TEXTS = 400
@@ -75,7 +75,7 @@ def same_answers(test, setups):
                         f"{path.stem}, threads: status {status}, {output[:100]}, {errors[:100]}")
         count += 1
     for words in ([], ["--help"], ["help"], ["--version"], ["check", "--no-such"], ["chekc"], ["check", "another.toml"],
-                  ["audit", "--ever", "--slot", "1"], ["audit", "--without", "a"], ["explore", "--first", "9"]):
+                  ["ever", "--slot", "1"], ["audit", "--ever"], ["never"], ["audit", "--without", "a"], ["explore", "--first", "9"]):
         given = test.run_bytes([words], "a set-up.toml", b"format = 2\n")
         test.compare("a command line", words, "a set-up.toml", b"format = 2\n", given[0])
         count += 1
@@ -87,9 +87,9 @@ def words_asked(path):
     `NAME.first_2.states_60.explore`), or by a file NAME.args."""
     for file in sorted(path.parent.glob(f"{path.stem}.*")):
         if file.suffix == ".never":
-            yield ["audit", *file.with_suffix(".args").read_text().split()]
+            yield ["never", *file.with_suffix(".args").read_text().split()]
         if file.suffix == ".how":
-            yield ["audit", "--how", *file.with_suffix(".args").read_text().split()]
+            yield ["how", *file.with_suffix(".args").read_text().split()]
         options = {}
         for option, value in re.findall(r"\.([a-z]+)[-_]([^.]+)", file.name):
             options[option] = f"{options[option]},{value}" if option in options else value
@@ -98,7 +98,7 @@ def words_asked(path):
             yield ["audit", *words]
         elif file.suffix == ".ever":
             args = path.with_suffix(".args")
-            yield ["audit", "--ever", *(args.read_text().split() if args.exists() else words)]
+            yield ["ever", *(args.read_text().split() if args.exists() else words)]
         elif file.suffix == ".explore":
             yield ["explore", *words]
 
@@ -411,7 +411,7 @@ def parts(test, _):
     browser.value("document.getElementById('option-without-loader').click()")
     browser.value("document.getElementById('option-without-client_c').click()")
     test.settle(0.6)
-    test.wanted(test.text("command-line") == "sel4sim audit --ever two_clients.toml", test.text("command-line"))
+    test.wanted(test.text("command-line") == "sel4sim ever two_clients.toml", test.text("command-line"))
     test.wanted(browser.value(drawn) == 1, "without a tick it is not all one part")
 
 
@@ -423,13 +423,13 @@ def kept_apart(test, _):
     for at in (0, 1):
         offered = test.browser.value(f"[...document.getElementById('option-never-{at}').options].map((it) => it.value)")
         test.wanted(offered == ["", "loader", "client_a", "client_b", "client_c"], f"the threads {offered} are offered")
-    asked = (("never", "client_a,client_b", "--without loader --never client_a,client_b", 0, "excluded", ()),
-             ("never", "client_a,client_c", "--without loader --never client_a,client_c", 1, "possible decided", ("open 10240", "chain 4096 @client_a -> 10240")),
-             ("by", "10240", "--without loader --never client_a,client_c --by 10240", 0, "excluded", ()),
-             ("never", "loader,client_a", "--without loader --never loader,client_a --by 10240", 1, "possible", ("2048 @loader lies in no part",)))
+    asked = (("never", "client_a,client_b", "never client_a,client_b --without loader", 0, "excluded", ()),
+             ("never", "client_a,client_c", "never client_a,client_c --without loader", 1, "possible decided", ("open 10240", "chain 4096 @client_a -> 10240")),
+             ("by", "10240", "never client_a,client_c --without loader --by 10240", 0, "excluded", ()),
+             ("never", "loader,client_a", "never loader,client_a --without loader --by 10240", 1, "possible", ("2048 @loader lies in no part",)))
     for name, value, words, status, answer, lines in asked:
         (choose_pair if name == "never" else type_option)(test, name, value)
-        test.wanted(test.text("command-line") == f"sel4sim audit {words} two_clients.toml", f"{name} {value} gives {test.text('command-line')}")
+        test.wanted(test.text("command-line") == f"sel4sim {words} two_clients.toml", f"{name} {value} gives {test.text('command-line')}")
         test.wanted(test.text("status") == f"status {status}", f"{words} ends with {test.text('status')}")
         test.wanted(("it is not excluded" in test.text("ended")) == (status == 1), f"{words}: status {status} is told as {test.text('ended')}")
         told = test.browser.value("document.querySelector('#verdict .tag')?.textContent")
@@ -437,7 +437,7 @@ def kept_apart(test, _):
         for line in lines:
             test.wanted(line in test.text("panel-ever"), f"{words}: {line!r} is not told")
     choose_pair(test, "never", "")
-    test.wanted("--by goes with --never alone" in test.text("errors"), f"--by without --never is told as {test.text('errors')!r}")
+    test.wanted("unexpected argument '--by' found" in test.text("errors"), f"--by without two threads is told as {test.text('errors')!r}")
     type_option(test, "by", "")
     drawn = test.browser.value("document.querySelectorAll('#panel-ever .wires rect').length")
     test.wanted(drawn == parts_drawn == 3, f"without a question {drawn} parts are drawn, and before it {parts_drawn}")
@@ -458,14 +458,14 @@ def how_it_happens(test, _):
     command = test.text("command-line")
     test.wanted(browser.value(openers) == ["a message", "a hold", "a loss"], f"what may be looked for is {browser.value(openers)}")
     for place, words in reversed(list(enumerate(([], ["--hold"], ["--loss"])))):
-        words = ["audit", "--without", "loader", "--how", "client_a,client_c", *words]
+        words = ["how", "client_a,client_c", "--without", "loader", *words]
         status, output, _ = native(test.program, test.folder, words, "two_clients.toml", text.encode())
         browser.value(f"document.querySelectorAll('#panel-ever .opener')[{place}].click()")
         test.settle()
         if status == 1:
             told = browser.value("document.querySelector('#panel-ever [role=status]').textContent")
             test.wanted(told == output.decode(), f"{words}: {told!r} is told, and not {output}")
-    opened_at_last_call(test, output.decode(), "audit --how")
+    opened_at_last_call(test, output.decode(), "how")
     test.wanted(status == 0 and " ".join(words) in test.text("notice"), f"calls are opened with {test.text('notice')!r}")
     browser.value("document.querySelector('#notice button').click()")
     test.settle(0.6)

@@ -47,7 +47,7 @@ def same_as_native(test, _):
         name = policy.name.removesuffix(".policy.toml")
         setup = policy.with_name(f"{name}.toml")
         for how in ([], *(["--how", str(number + 1)] for number in range(len(breaches(name)) + 1))):
-            words = ["audit", "--policy", policy.name, *how, setup.name]
+            words = ["policy", policy.name, *how, setup.name]
             ran = natively(test, *words)
             asked = [words, setup.name, packed(setup), policy.name, packed(policy)]
             given = as_answer(test.browser.value(HELD.replace("ASKED", json.dumps(asked))))
@@ -66,7 +66,7 @@ def held(test, _):
         return
     test.wanted(browser.value("document.getElementById('policy').offsetParent !== null"), "the policy is not in sight")
     test.wanted("status 1" in test.text("status") and "the policy is broken" in test.text("ended"), f"a broken policy: {test.text('status')}, {test.text('ended')}")
-    test.wanted("audit --policy badge_zero.policy.toml badge_zero.toml" in test.text("command-line"), f"the command is {test.text('command-line')}")
+    test.wanted("policy badge_zero.policy.toml badge_zero.toml" in test.text("command-line"), f"the command is {test.text('command-line')}")
     told = browser.value(TITLES.replace("PLACE", "#policy"))
     wanted = [line.split(": error: ")[1] for line in (POLICIES / "badge_zero.err").read_text().splitlines() if line.startswith("badge_zero.policy.toml:")]
     test.wanted(told and all(any(one in it for it in told) for one in wanted), f"the margin of the policy says {told}, and not {wanted}")
@@ -94,7 +94,7 @@ def by_which_calls(test, _):
 def opens_how(test, name, place, number):
     """Of a breach it is opened what the native program writes, at its last call, and a button leads back; or its words are told."""
     browser, shown = test.browser, "[sel4sim.page.editor.text, sel4sim.page.policy.text, document.getElementById('command-line').textContent]"
-    before, ran = browser.value(shown), natively(test, "audit", "--policy", f"{name}.policy.toml", "--how", str(number), f"{name}.toml")
+    before, ran = browser.value(shown), natively(test, "policy", f"{name}.policy.toml", "--how", str(number), f"{name}.toml")
     browser.value(f"document.querySelectorAll('#panel-policy .opener')[{place}].click()")
     test.settle()
     if ran.returncode != 0:

@@ -5,7 +5,7 @@ use Rattle.clap.specs.Walk.{texts}
 use Rattle.command_check.specs.Commands.{IsAnswerTo, IsStateAnswer}
 use Rattle.command_audit.specs.Audits.{IsStateAudited}
 use Rattle.program.specs.Jobs.{IsAuditAt}
-use Rattle.program.proofs.work.make_audit_now.Goals as goal
+use Rattle.program.proofs.work.make_audit.Goals as goal
 
 pub returns-clause-made : goal.returns-clause-made
 returns-clause-made c =
