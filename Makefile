@@ -4,8 +4,8 @@
 .PHONY: help run test prove gate dist dist-test install uninstall rows rows-needs rows-python browser browser-test browser-short page page-test needs bench named-bodies wrong-bodies
 
 program = crates/sel4sim/out/sel4sim
-calls = crates/test_memory/out/test_memory
-setups = crates/test_worked/data
+calls = crates/test_calls/out/test_calls
+setups = tests/worked
 answers = tests/answers
 plain = bench/check_plain/out/target/release/check_plain
 given = crates/sel4sim/stdin
@@ -57,10 +57,10 @@ rows-needs:
 
 # tests the proved program from outside (tests/*.py), with all that this needs
 rows: rows-needs prove
-	python3 tools/prove.py test_memory
+	python3 tools/prove.py test_calls
 	@$(MAKE) --no-print-directory rows-python
 	python3 tests/browser_page.py web/site/sel4sim.html
-	python3 tests/schema.py $(program) $(setups) web/page/test/setups tests
+	python3 tests/schema.py $(program) web/page/test/setups tests
 	python3 tests/commands.py --each $(program) $(calls)
 
 # those of these tests that need nothing but Python and the program
@@ -72,7 +72,13 @@ rows-python:
 	python3 tests/exercises.py $(setups)
 	python3 tests/goals.py $(program) $(answers)/goals
 	python3 tests/answers.py $(program) $(setups) $(answers)
+	python3 tests/set_ups.py $(program) tests/set_ups
+	python3 tests/pairs.py $(program) $(calls) $(setups) $(answers)
+	python3 tests/kernel_cases.py $(program) $(calls) tests/kernel_cases
+	python3 tests/told.py $(program) tests/told.toml
+	python3 tests/client_threads.py $(program) $(calls) tests/client_threads.toml
 	python3 tests/command_lines.py $(program)
+	python3 tests/asked.py $(program)
 	python3 tests/several_files.py $(program) $(setups)
 	python3 tests/marks.py $(program) $(setups)
 	python3 tests/record.py $(program) $(setups)
@@ -90,7 +96,7 @@ rows-python:
 	python3 tests/new_set_ups.py $(program)
 	python3 tests/messages.py $(program)
 	python3 tests/imports.py $(program) tests/layouts 1 300
-	python3 tests/use_address_again.py $(program) 1000
+	python3 tests/use_address_again.py $(program) $(calls) 1000
 	python3 tests/commands.py $(program) $(calls)
 	python3 tests/hostile_texts.py $(program) $(setups) $(stored)
 	python3 tests/run_clients.py $(program) $(setups)/examples/three_clients.toml 100

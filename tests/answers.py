@@ -7,7 +7,8 @@ the file NAME.args, one word a line, or else in the name: NAME.after-14.slot-320
 NAME.first_2.explore what `explore --first 2` does. FORMS says which status is wanted: that in NAME.status, and 0 where there is no such
 file, or the one that the text stands for. Where NAME.err is there, it is what standard error says.
 
-In the end, of each folder, what the first command wrote is compared with another text, and has to differ."""
+In the end, of each folder, what the first command wrote is compared with another text, and has to differ. So has what was written
+of the set-ups of PLANTED from a file of SETUPS that has one wrong line, and from another status."""
 import os
 import pathlib
 import re
@@ -45,6 +46,8 @@ FORMS = {
 }
 # What stands beside these texts; the answers of `how` are for hows.py.
 BESIDE = (".toml", ".status", ".args", ".err", ".how")
+# Texts with one wrong line, and the right ones.
+PLANTED = {"planted.report": "examples/send_then_receive.report", "planted.why": "why_threads/thread_of_many.why"}
 # Of a policy that is no TOML document the words on standard error are those of the reader: their place alone is compared.
 NO_TOML = b"policy refused 600 at text\n"
 
@@ -92,13 +95,23 @@ def planted(answers):
             yield f"{first}: no fault where {other} is wanted"
 
 
+def planted_lines(answers, setups):
+    """The texts of PLANTED of which no fault is told."""
+    for name, right in PLANTED.items():
+        answer, text = answers.get(setups / right), (setups / name).read_bytes()
+        if answer and not any(faults(answer, (answer[0], text, None))):
+            yield f"{right}: no fault where {name} is wanted"
+        if answer and not any(faults(answer, (answer[0] + 1, answer[1], None))):
+            yield f"{right}: no fault where another status is wanted"
+
+
 def main():
-    program, folders, words = os.path.abspath(sys.argv[1]), map(pathlib.Path, sys.argv[2:4]), sys.argv[4:]
+    program, folders, words = os.path.abspath(sys.argv[1]), [*map(pathlib.Path, sys.argv[2:4])], sys.argv[4:]
     there = sorted(it for folder in folders for it in folder.glob("*/*.*"))
     files = [it for it in there if it.suffix in FORMS and (not words or any(word in str(it) for word in words))]
     answers = dict(zip(files, side_by_side(lambda file: answer_to(program, file), files)))
     wrong = [f"{file}: {fault}" for file in files for fault in faults(answers[file], wanted_by(file))]
-    wrong += planted(answers)
+    wrong += [*planted(answers), *planted_lines(answers, folders[0])]
     wrong += [f"{it}: FORMS has no command for it" for it in there if it.suffix not in (*FORMS, *BESIDE)]
     counts = {suffix: sum(it.suffix == suffix for it in files) for suffix in FORMS}
     wrong += [f"there is no {suffix}" for suffix, count in counts.items() if not count and not words]

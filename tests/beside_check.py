@@ -12,7 +12,7 @@ its exit status. Where there is a NAME.why, each call is also chosen by its numb
 number that no call has there is nothing, and the status is 4.
 
 `migrate` makes of a set-up of format 1 one of format 2 with the same report and the same exit status, and `check` says the same of it from
-standard input."""
+standard input. By `migrate` that one is refused, since it has another format."""
 import pathlib
 import re
 import sys
@@ -26,6 +26,7 @@ WITHOUT_CHANGES = re.compile(r"[0-9]+ [0-9]+ [a-z_]+: (refused|dropped|empty)\b"
 FIRST_FORMAT = re.compile(rb"^format *= *1 *(#.*)?$", re.MULTILINE)
 MOST_FORESTS = 12
 ABSENT = 4
+ANOTHER_FORMAT = (2, "set-up refused 204 at top key format\n")
 
 
 def key_of(line):
@@ -178,6 +179,8 @@ def faults_of_migrated(program, migrated, wanted):
         yield "what comes out is of another format than 2"
     if run(program, "check", text=text) != wanted:
         yield "what comes out has another report or another status"
+    if run(program, "migrate", text=text) != ANOTHER_FORMAT:
+        yield "what comes out is migrated again"
 
 
 def faults(program, setup):

@@ -5,8 +5,9 @@ LINES has command lines of each command of `PROGRAM --help`, which together have
 told as a fault, so a new command or option fails this test until it has a line here. A line of a command or an option that the
 help does not have is told and left out. Of each line are tried
 - inputs that cannot be opened, cannot be read or have no end, and outputs that cannot be written;
-- each read and each write of a run, failing in turn, with all the bytes that a call asks for and with one byte at a time;
-- each request for memory of a run, refused in turn. CALLS, the program of crates/test_memory, is tried in this way too.
+- each read and each write of a run, failing in turn, with all the bytes that a call asks for and with one byte at a time; of a stored
+  run also with 16 at a time;
+- each request for memory of a run, refused in turn. CALLS, the program of crates/test_calls, is tried in this way too.
 Of the calls with one byte at a time, and of the requests of a run from a file, each is tried with --each, and else a hundred.
 
 A run has to end with status 3, its line on standard error, and nothing written, or a beginning where a write failed; where memory was
@@ -36,6 +37,22 @@ SET_UP = NAMED + """call = [
     { thread = "@b", op = "recv", cap = "@endpoint", expect = "delivered 6144 from 2048" },
 ]
 """
+# The set-up of a run that is read and written in pieces.
+STORED = f"format = 1\n{SIZES}" + """[[untyped]]
+base = 16384
+bits = 12
+[[call]]
+thread = 2048
+op = "send"
+cap = 4
+label = 7
+words = [1, 2]
+[[call]]
+thread = 4096
+op = "recv"
+cap = 4
+expect = "delivered 6144 from 2048"
+"""
 FIRST = f'format = 1\n{SIZES}[[call]]\nthread = 2048\nop = "nbsend"\ncap = 4\n'
 # Two threads that are apart but for what a policy does not allow.
 APART = NAMED.replace("threads = 2", "threads = 2\nuntyped = [{ base = 16384, bits = 12 }]") + """call = [
@@ -61,11 +78,11 @@ cn_a { 1: e (W, badge: 7) }
 cn_b { 1: e (R) }
 }
 """
-FILES = {"set_up.toml": SET_UP, "first.toml": FIRST, "apart.toml": APART, "layout.cdl": LAYOUT,
+FILES = {"set_up.toml": SET_UP, "first.toml": FIRST, "stored.toml": STORED, "apart.toml": APART, "layout.cdl": LAYOUT,
          "policy.toml": 'policy = 1\nalone = ["a", "b"]\n'}
 # The words of a line but its last, which is the file that it reads, or "" where it reads none.
 LINES = [
-    ("check", "set_up.toml"), ("check --strict --names", "set_up.toml"), ("check first.toml", "apart.toml"),
+    ("check", "set_up.toml"), ("check", "stored.toml"), ("check --strict --names", "set_up.toml"), ("check first.toml", "apart.toml"),
     ("check --quiet", "apart.toml"),
     ("marks", "set_up.toml"), ("marks --of set_up.toml", "set_up.toml"), ("record", "set_up.toml"),
     ("trace", "set_up.toml"), ("trace --names", "set_up.toml"),
@@ -95,6 +112,11 @@ REFUSED = [NAMED + 'call = [{ thread = "@a", op = "nbsend", cap = "@endpiont" }]
            NAMED + '[[call]]\nthread = "@a"\nop = "nbsend"\ncap = 4\nwords = [1, "@b"]\n',
            NAMED + '[[call]]\nthread = "@a"\nop = "nbsend"\n', NAMED + '[[call]]\nthread = "@a\n']
 
+# A set-up of one call, whose memory is refused too.
+ONE_CALL = f"""format = 1\n{SIZES}untyped = [{{ base = 16384, bits = 12 }}]
+call = [{{ op = "send", thread = 2048, cap = 4, expect = "waiting" }}]
+"""
+PIECES = (1, 16)
 SECONDS = 600
 NOBODY = 65534
 INPUT = "standard input"
@@ -103,7 +125,7 @@ READING, WRITING = b"sel4sim: reading failed\n", b"sel4sim: writing failed\n"
 MEMORY = (3, b"", b"sel4sim: out of memory\n")
 THREAD = (3, b"", b"sel4sim: thread not started\n")
 # The calls of a library that take no memory.
-WITHOUT_MEMORY = [b"settle: done\n"]
+WITHOUT_MEMORY = [b"settle: done\n", b"writes: done\n"]
 KINDS = ("request", "read", "write", "no byte")
 # So many calls of a kind fail in turn, from the first to the last: of the runs of a line from standard input, and of others. A
 # program compiled without its proofs takes some three times as long.
@@ -347,6 +369,7 @@ def inputs_without_an_end(runs, words):
         runs.run("standard input without an end", words, endless, stdin=zeros)
     runs.run_from("a pipe of zeros without an end", words, ["cat", "/dev/zero"], endless)
     runs.run_from("a pipe of lines without an end", words, ["yes", "format = 1"], endless)
+    runs.run_from("a pipe of one line without an end", words, ["sh", "-c", "tr '\\0' '#' < /dev/zero"], endless)
     runs.run_from("a pipe of comments without an end", words, ["yes", "# a line of a text that does not end"], endless)
 
 
@@ -437,17 +460,21 @@ class Faults:
         """Lets each call of these kinds fail in turn, or so many of them, and tells what came of it."""
         ample, counts = answer_of(words, text), self.counts(words, text, piece)
         said = [self.fail_kind(words, text, ample, kind, (counts[kind], most, piece)) for kind in kinds]
-        how = " from standard input" * bool(text) + ", one byte at a time" * piece
+        how = " from standard input" * bool(text) + f", {piece} bytes at a time" * bool(piece)
         print(f"{shlex.join(words[1:]) or 'calls of the libraries'}{how}: {'; '.join(said)}", flush=True)
 
     def fail_kind(self, words, text, ample, kind, numbers):
         """Lets calls of one kind fail in turn, and returns what there is to tell."""
         count, most, piece = numbers
-        missing, wrong, numbers = expected(words, ample) if kind == "request" else [], 0, spread(count, most)
+        wrong, numbers = 0, spread(count, most)
+        missing = expected(words, ample) if kind == "request" else []
+        # One request is that of the thread of a client; among a few it need not be.
+        missing += [THREAD] * (kind == "request" and words[1:2] == ["threads"] and len(numbers) == count)
         answers = self.pool.map(lambda number: self.one(words, text, piece, kind, number), numbers)
         for number, (answer, is_met) in zip(numbers, answers):
             missing = [it for it in missing if it != answer]
-            if not (is_right(kind, words, ample, answer) if is_met else answer == ample):
+            front = (number - 1) * piece if piece and kind in KINDS[2:] else len(answer[1])
+            if not (is_right(kind, words, ample, answer) and len(answer[1]) == front if is_met else answer == ample):
                 wrong += 1
                 print(f"{shlex.join(words[1:])}, {kind} {number}: status {answer[0]}, {answer[1][-200:]!r}, {answer[2]!r}")
         # The calls of the libraries have an answer each, which a few requests alone need not give.
@@ -502,8 +529,16 @@ def calls_that_fail(faults, lines, program, calls):
         if job[1] not in begun:
             faults.fail(job, text, kinds[1:], FEW, 1)
         begun.add(job[1])
-    for text in REFUSED:
+    for piece in PIECES:
+        job, text = [program, "check"], STORED.encode()
+        reads, wanted = faults.counts(job, text, piece)["read"], -(-len(text) // piece) + 1
+        if reads != wanted:
+            faults.wrong += 1
+            print(f"check, {piece} bytes at a time: {reads} reads, wanted {wanted}")
+        faults.fail(job, text, KINDS[1:], MOST, piece)
+    for text in (*REFUSED, ONE_CALL):
         faults.fail([program, "check"], text.encode(), KINDS[:1])
+    faults.fail([program, "trace"], STORED.encode(), KINDS[:1])
     for words in (["--help"], ["--cheque"]):
         faults.fail([program, *words], b"", KINDS[:1])
     if calls:
@@ -511,10 +546,10 @@ def calls_that_fail(faults, lines, program, calls):
 
 
 def calls_of(words):
-    """The program of crates/test_memory, if it is there."""
+    """The program of crates/test_calls, if it is there."""
     if words and os.path.isfile(words[0]):
         return os.path.abspath(words[0])
-    print(f"not tried: refused memory in calls of the libraries: there is no {words[0] if words else 'program of test_memory'}")
+    print(f"not tried: refused memory in calls of the libraries: there is no {words[0] if words else 'program of test_calls'}")
     return None
 
 

@@ -1,8 +1,8 @@
 #!/usr/bin/env python3
 """hostile_texts.py PROGRAM FOLDER STORED: broken, deep and long set-ups through the built program.
 
-Of each format that the set-ups in the folders of FOLDER have, the longest that is not just calls repeated: each beginning of
-it. Of the set-up STORED: itself with each byte replaced by others. Then texts that are deep or long, within limits of time, of
+Of each format that the set-ups in the folders of FOLDER have, the longest that is not just calls repeated, and of all the one that
+sends the largest message: each beginning of it. Of the set-up STORED: itself with each byte replaced by others. Then texts that are deep or long, within limits of time, of
 memory and of stack. The answer to each is a report (status 0 or 1) or the line of a refusal (status 2), with nothing on
 standard error but lines in words beside a status other than 0, and a line for each call that was refused where nothing was
 expected; a text that is too long is a failed read (status 3).
@@ -18,6 +18,7 @@ import sys
 import tempfile
 import tomllib
 
+LARGEST = "messages/largest_message.toml"
 POOL = 4
 BYTES = (0, 10, 34, 91, 123, 255)
 INPUT_LIMIT = 67_108_864
@@ -197,7 +198,7 @@ def long_texts_are_bounded(program, stored):
 def main():
     program, folder, stored = sys.argv[1], pathlib.Path(sys.argv[2]), pathlib.Path(sys.argv[3]).read_bytes()
     failed = False
-    for path in longest_of_each_format(folder):
+    for path in (*longest_of_each_format(folder), folder / LARGEST):
         failed |= tell(f"each beginning of {path.parent.name}/{path.name}", *wrong_of(program, beginnings(path.read_bytes())))
     failed |= tell("each byte of the stored set-up replaced", *wrong_of(program, replaced(stored)))
     failed |= long_texts_are_bounded(program, stored)

@@ -1,11 +1,12 @@
 #!/usr/bin/env python3
-"""use_address_again.py PROGRAM ROUNDS: an endpoint is made at one address, waited on and deleted, in so many rounds.
+"""use_address_again.py PROGRAM CALLS ROUNDS: an endpoint is made at one address, waited on and deleted, in so many rounds.
 
 The set-up is written to the program's standard input, and its whole report is compared. In the end the endpoint is made
-once more, and nobody waits on it.
+once more, and nobody waits on it. So it is over the other pairs of stores, which CALLS runs, the program of crates/test_calls.
 """
 import sys
 
+from pairs import PAIRS
 from program import run
 
 SIZES = """format = 1
@@ -42,13 +43,13 @@ expected 0 of 0
 
 
 def main():
-    program, rounds = sys.argv[1], int(sys.argv[2])
+    program, other, rounds = sys.argv[1], sys.argv[2], int(sys.argv[3])
     calls = [RETYPE, SEND, DELETE] * rounds + [RETYPE, RECEIVE]
     setup = SIZES + "call = [\n" + "".join(f"  {call},\n" for call in calls) + "]\n"
     wanted = "".join(f"{number} {REPLIES[call]}\n" for number, call in enumerate(calls, 1)) + END
-    right = run(program, "check", text=setup) == (0, wanted)
-    print(f"an address used again in {rounds} rounds: {'passed' if right else 'failed'}")
-    return 0 if right else 1
+    wrong = [words[1:] for words in ([program, "check"], *([other, *pair] for pair in PAIRS)) if run(*words, text=setup) != (0, wanted)]
+    print(f"an address used again in {rounds} rounds: {f'failed by {wrong}' if wrong else 'passed'}")
+    return 1 if wrong else 0
 
 
 sys.exit(main())

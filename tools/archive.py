@@ -82,7 +82,7 @@ def contents():
     # Of the page of a trace its sources are kept, and it is made here.
     join.main()
     files.update((f"share/sel4sim/page/{it}", f"web/page/{it}") for it in ("page.sh", "pages.sh", "viewer.html"))
-    examples = "crates/test_worked/data/examples"
+    examples = "tests/worked/examples"
     files.update((f"share/sel4sim/examples/{it}", f"{examples}/{it}") for it in below(examples))
     files.update((f"share/doc/sel4sim/docs/{it}", f"docs/{it}") for it in below("docs"))
     files["share/sel4sim/sel4sim.wasm"] = MODULE

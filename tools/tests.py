@@ -26,7 +26,7 @@ from prove import BYTES_A_JOB, costs, free_memory, status_of
 from unproved import NAME, NOT_PROVED, kept_program, root_of, tell
 
 # The program of how calls of the libraries end, which a row runs too.
-CALLS = "test_memory"
+CALLS = "test_calls"
 # The seconds that one test has.
 LIMIT = 900
 NOT_TRIED = "not tried: "

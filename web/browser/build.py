@@ -27,7 +27,7 @@ sys.path[:0] = [str(TOP / "web" / "page"), str(TOP / "web" / "browser")]
 import join  # noqa: E402
 
 SOURCE = TOP / "web" / "browser" / "source"
-SETUPS = TOP / "crates" / "test_worked" / "data"
+SETUPS = TOP / "tests" / "worked"
 SITE = TOP / "web" / "site" / "sel4sim.html"
 CODEMIRROR = pathlib.Path("/usr/share/javascript/codemirror")
 SCRIPTS = ("lib/codemirror.js", "mode/toml/toml.js")

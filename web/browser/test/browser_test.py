@@ -112,7 +112,7 @@ def same_with_options(test, _):
             for it, answer in zip(words, test.run_bytes(words, path.name, text)):
                 test.compare(f"{kind}/{path.stem}", it, path.name, text, answer)
                 count += 1
-    for path in sorted((TOP / "crates" / "test_worked" / "data").glob("why_*/*.toml"))[::5]:
+    for path in sorted((TOP / "tests" / "worked").glob("why_*/*.toml"))[::5]:
         words, text = [["why", "--call", number] for number in ("0", "1", "2", "99", "x")], path.read_bytes()
         for it, answer in zip(words, test.run_bytes(words, path.name, text)):
             test.compare(path.stem, it, path.name, text, answer)

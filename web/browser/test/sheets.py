@@ -8,7 +8,7 @@ import tomllib
 from nothing_lost import EDITOR, reload
 from tester import FORGET, TOP, native
 
-SETUPS = TOP / "crates" / "test_worked" / "data"
+SETUPS = TOP / "tests" / "worked"
 CALL = re.compile(r"^(\d+) (\d+ \w+): (.*?)(?: \[met\])?$", re.M)
 PART = re.compile(r"(from|to|badge|label|words) (\d+)")
 MARKED = re.compile(r"^marks (\d+) of (\d+) open (\d+)\n\Z", re.M)
