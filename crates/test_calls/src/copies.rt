@@ -36,7 +36,8 @@ const CALLS: [Op; 2] = [
 pub fn waiting<S: MakeStore<Wide>, W: MakeWaiters<Wide>>(
     alloc: Global,
 ) -> Option<Kernel<Wide, S, W>> {
-    let plan = BootPlan::new::<Wide>(16, 4, 4, 1, vec![in alloc; (16384, 12)].ok()?).ok()?;
+    let region = vec![in alloc; (16384, 12)].ok()?;
+    let plan = BootPlan::new::<Wide>(16, 4, 4, 1, region).ok()?;
     let mut kernel = Kernel::<Wide, S, W>::boot(alloc, &plan).ok()?;
     let message = Message {
         label: 1,

@@ -4,7 +4,7 @@ use ipc_core::RowWaiters;
 use kernel_core::{BootPlan, Call, Kernel, Op};
 use query_orders::{Explored, explore};
 use slot_core::RowStore;
-use std::alloc::{AllocError, Global};
+use std::alloc::Global;
 
 macro_rules! send {
     ($thread:expr, $cap:expr, $label:expr) => {
@@ -63,26 +63,22 @@ const TWO_LOCKS: [[Call; 4]; 4] = [
 /// So many calls there are, and one more.
 const COUNT: usize = 17;
 
-/// What the orders give that begin with calls of these clients, as far as the limit on states lets them go.
-fn explored(
-    alloc: Global,
-    plan: &BootPlan,
-    first: &[usize],
-    limit: u64,
-) -> Result<Explored, AllocError> {
+/// What the orders give that begin with calls of these clients, as far as the limit on states lets them go; `None` where it was
+/// out of memory.
+fn explored(alloc: Global, first: &[usize], limit: u64) -> Option<Explored> {
     let mut calls = Vec::new(alloc);
     for of_client in TWO_LOCKS {
-        calls.push(Vec::from_slice(alloc, &of_client)?)?;
+        calls.push(Vec::from_slice(alloc, &of_client).ok()?).ok()?;
     }
-    let kernel = Kernel::<Wide, RowStore<Wide>, RowWaiters<Wide>>::boot(alloc, plan)?;
-    explore(alloc, calls.as_slice(), &kernel, first, limit, COUNT)
+    let plan = BootPlan::new::<Wide>(16, 4, 4, 4, Vec::new(alloc)).ok()?;
+    let kernel = Kernel::<Wide, RowStore<Wide>, RowWaiters<Wide>>::boot(alloc, &plan).ok()?;
+    explore(alloc, calls.as_slice(), &kernel, first, limit, COUNT).ok()
 }
 
 /// Whether the orders have as many calls as wanted, and so many states are left to go on from; `None` where it was out of memory.
 pub fn orders(alloc: Global) -> Option<bool> {
-    let plan = BootPlan::new::<Wide>(16, 4, 4, 4, Vec::new(alloc)).ok()?;
-    let limited = explored(alloc, &plan, &[], 60).ok()?;
-    let behind = explored(alloc, &plan, &[0, 1], 1000).ok()?;
+    let limited = explored(alloc, &[], 60)?;
+    let behind = explored(alloc, &[0, 1], 1000)?;
     Some(
         (limited.calls, limited.layer.nodes().len()) == (6, 18)
             && (behind.calls, behind.layer.nodes().len()) == (15, 0),
