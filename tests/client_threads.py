@@ -30,7 +30,7 @@ def main(program, calls, file):
     cases = tomllib.loads(pathlib.Path(file).read_text())["case"]
     passed, failed = tried(cases, lambda case: faults(program, calls, case))
     # A text with another letter, and another status, are told.
-    planted = [it for it in cases if not list(faults(program, calls, {**it, "ends": "entries\n"})) or not list(faults(program, calls, {**it, "status": 4}))]
+    planted = [it for it in ({"ends": "entries\n"}, {"status": 4}) if not list(faults(program, calls, {**cases[0], **it}))]
     print(f"clients in threads: {passed} set-ups passed, {failed} failed, {len(planted)} planted faults not told")
     return 1 if failed or planted or not passed else 0
 

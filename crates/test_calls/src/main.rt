@@ -42,6 +42,7 @@ mod orders;
 mod outcome;
 mod pairs;
 mod reports;
+mod runs;
 mod shared;
 mod stored;
 
@@ -129,9 +130,13 @@ const COUNTS: [(&[u8], (u32, u32, usize)); 3] = [
 fn read(alloc: Global) -> Option<bool> {
     for (text, counts) in COUNTS {
         match read_setup(alloc, text) {
-            Ok(setup) if (setup.clients(), setup.limit(), setup.calls().len()) == counts => {}
+            Ok(setup) => {
+                if (setup.clients(), setup.limit(), setup.calls().len()) != counts {
+                    return Some(false);
+                }
+            }
             Err(SetupFault::Memory) => return None,
-            _ => return Some(false),
+            Err(_) => return Some(false),
         }
     }
     Some(true)
@@ -154,9 +159,17 @@ fn words(alloc: Global) -> Option<bool> {
     let mut file = None;
     for (words, names_command) in LINES {
         match line(alloc, words) {
-            Ok(line) if line.names_command == names_command => file = line.file,
-            Err(fault) if fault.status() == 3 => return None,
-            _ => return Some(false),
+            Ok(line) => {
+                if line.names_command != names_command {
+                    return Some(false);
+                }
+                file = line.file;
+            }
+            Err(fault) => return if fault.status() == 3 {
+                None
+            } else {
+                Some(false)
+            },
         }
     }
     Some(file == Some("setup.toml"))
@@ -206,6 +219,7 @@ fn tell_all<R: Print + AllocGlobal + Wait>(rt: &R) -> anyhow::Result<bool> {
     let understood = tell(rt, "set-up", outcome!(read(rt.alloc())))?;
     let planned = tell(rt, "plan", outcome!(plan(rt.alloc())))?;
     let explored = tell(rt, "orders", outcome!(orders::orders(rt.alloc())))?;
+    let ran = tell(rt, "check and migrate", outcome!(runs::runs(rt.alloc())))?;
     let reads = tell(rt, "reads", outcome!(devices::reads(rt.alloc())))?;
     let writes = tell(rt, "writes", outcome!(Some(devices::writes())))?;
     let links = tell_pair::<
@@ -222,7 +236,7 @@ fn tell_all<R: Print + AllocGlobal + Wait>(rt: &R) -> anyhow::Result<bool> {
         RowWaiters<Narrow>,
         R,
     >(rt, "RowStore, RowWaiters")?;
-    Ok(taken && understood && planned && explored && reads && writes && links && rows)
+    Ok(taken && understood && planned && explored && ran && reads && writes && links && rows)
 }
 
 /// The words that the program was started with; none where it was out of memory.
