@@ -42,6 +42,7 @@ FORMS = {
     ".ever": ("ever", told),
     ".never": ("never", told),
     ".out": ("policy {name}.policy.toml", noted),
+    ".listing": ("policy {name}.policy.toml --listing", told),
     ".explore": ("explore", told),
 }
 # What stands beside these texts; the answers of `how` are for hows.py.

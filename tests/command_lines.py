@@ -105,6 +105,8 @@ LINES = [
     ("draft --names", 4, REFUSED),
     ("draft --slot 33", 4, REFUSED),
     ("policy text.toml", 2, "policy refused 600 at text\n"),
+    ("policy text.toml --listing", 2, "policy refused 600 at text\n"),
+    ("policy text.toml --listing --how 1", 4, REFUSED),
     ("policy text.toml --how 1", 2, "policy refused 600 at text\n"),
     ("policy text.toml --how 2048,4096", 4, REFUSED),
     ("policy text.toml --how 1 --badge 1", 4, REFUSED),

@@ -96,6 +96,7 @@ LINES = [
     ("how a,b --message --badge 7 --states 100", "apart.toml"), ("how a,b --by endpoint", "apart.toml"),
     ("how a,b --after 2 --without b --hold", "set_up.toml"), ("how a,b --loss", "set_up.toml"),
     ("policy policy.toml", "apart.toml"), ("policy policy.toml --after 5 --how 3 --states 100", "apart.toml"),
+    ("policy policy.toml --listing", "apart.toml"),
     ("explore", "set_up.toml"), ("explore --first 1 --states 100 --ends --names", "set_up.toml"),
     ("explore --witness 3.1", "set_up.toml"),
     ("tree", "set_up.toml"), ("tree --after 1 --dot --names", "set_up.toml"),

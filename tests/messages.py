@@ -391,6 +391,8 @@ STREAMS = [
      ["command line refused", "--names and --witness do not go together"]),
     (["explore", "--ends", "--witness", "stuck.1"], FIRST, "/dev/null", 4,
      ["command line refused", "--ends and --witness do not go together"]),
+    (["policy", "p.toml", "--how", "1", "--listing"], FIRST, "/dev/null", 4,
+     ["command line refused", "--listing and --how do not go together"]),
     (["ever", "--messages", "nobody"], FIRST, "/dev/null", 4,
      ["command line refused", "--messages nobody: no address, and no name of the set-up"]),
     (["ever", "--without", "0"], FIRST, "/dev/null", 4,

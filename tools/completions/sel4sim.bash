@@ -13,12 +13,10 @@ _sel4sim() {
         --slot) COMPREPLY=($(compgen -W '' -- "$word")); return ;;
         --without) COMPREPLY=($(compgen -W '' -- "$word")); return ;;
         --messages) COMPREPLY=($(compgen -W '' -- "$word")); return ;;
-        --never) COMPREPLY=($(compgen -W '' -- "$word")); return ;;
         --by) COMPREPLY=($(compgen -W '' -- "$word")); return ;;
-        --policy) COMPREPLY=($(compgen -W '' -- "$word")); return ;;
-        --how) COMPREPLY=($(compgen -W '' -- "$word")); return ;;
         --badge) COMPREPLY=($(compgen -W '' -- "$word")); return ;;
         --states) COMPREPLY=($(compgen -W '' -- "$word")); return ;;
+        --how) COMPREPLY=($(compgen -W '' -- "$word")); return ;;
         --witness) COMPREPLY=($(compgen -W '' -- "$word")); return ;;
         --profile) COMPREPLY=($(compgen -W '' -- "$word")); return ;;
         --threads) COMPREPLY=($(compgen -W '' -- "$word")); return ;;
@@ -29,7 +27,7 @@ _sel4sim() {
     esac
     case $command in
         '')
-            COMPREPLY=($(compgen -W 'check marks record trace migrate threads why audit explore tree new import help -h --help -V --version' -- "$word"))
+            COMPREPLY=($(compgen -W 'check marks record trace migrate threads why audit ever never draft how policy explore tree new import help -h --help -V --version' -- "$word"))
             [[ $word == -* ]] || mapfile -t -O "${#COMPREPLY[@]}" COMPREPLY < <(compgen -f -- "$word")
             ;;
         check)
@@ -61,7 +59,27 @@ _sel4sim() {
             [[ $word == -* ]] || mapfile -t -O "${#COMPREPLY[@]}" COMPREPLY < <(compgen -f -- "$word")
             ;;
         audit)
-            COMPREPLY=($(compgen -W '--after --slot --ever --without --names --messages --never --by --policy --draft --how --message --hold --loss --badge --states -h --help' -- "$word"))
+            COMPREPLY=($(compgen -W '--after --slot --without --names -h --help' -- "$word"))
+            [[ $word == -* ]] || mapfile -t -O "${#COMPREPLY[@]}" COMPREPLY < <(compgen -f -- "$word")
+            ;;
+        ever)
+            COMPREPLY=($(compgen -W '--after --without --messages --names -h --help' -- "$word"))
+            [[ $word == -* ]] || mapfile -t -O "${#COMPREPLY[@]}" COMPREPLY < <(compgen -f -- "$word")
+            ;;
+        never)
+            COMPREPLY=($(compgen -W '--after --without --messages --by --names -h --help' -- "$word"))
+            [[ $word == -* ]] || mapfile -t -O "${#COMPREPLY[@]}" COMPREPLY < <(compgen -f -- "$word")
+            ;;
+        draft)
+            COMPREPLY=($(compgen -W '--after --without --messages -h --help' -- "$word"))
+            [[ $word == -* ]] || mapfile -t -O "${#COMPREPLY[@]}" COMPREPLY < <(compgen -f -- "$word")
+            ;;
+        how)
+            COMPREPLY=($(compgen -W '--after --without --by --message --hold --loss --badge --states -h --help' -- "$word"))
+            [[ $word == -* ]] || mapfile -t -O "${#COMPREPLY[@]}" COMPREPLY < <(compgen -f -- "$word")
+            ;;
+        policy)
+            COMPREPLY=($(compgen -W '--after --listing --how --states -h --help' -- "$word"))
             [[ $word == -* ]] || mapfile -t -O "${#COMPREPLY[@]}" COMPREPLY < <(compgen -f -- "$word")
             ;;
         explore)
@@ -80,7 +98,7 @@ _sel4sim() {
             [[ $word == -* ]] || mapfile -t -O "${#COMPREPLY[@]}" COMPREPLY < <(compgen -f -- "$word")
             ;;
         help)
-            COMPREPLY=($(compgen -W 'check marks record trace migrate threads why audit explore tree new import help' -- "$word"))
+            COMPREPLY=($(compgen -W 'check marks record trace migrate threads why audit ever never draft how policy explore tree new import help' -- "$word"))
             ;;
     esac
 }

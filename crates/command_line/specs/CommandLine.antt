@@ -130,7 +130,7 @@ subcommands =
     ∷ subcommand_with (codes "never") AfterThreads (after_rule ∷ without_rule ∷ messages_rule ∷ by_rule ∷ names_rule ∷ [])
     ∷ subcommand_with (codes "draft") One (after_rule ∷ without_rule ∷ messages_rule ∷ [])
     ∷ subcommand_with (codes "how") AfterThreads (after_rule ∷ without_rule ∷ by_rule ∷ flag_rule (codes "message") ∷ flag_rule (codes "hold") ∷ flag_rule (codes "loss") ∷ number_rule (codes "badge") ∷ states_rule ∷ [])
-    ∷ subcommand_with (codes "policy") AfterPolicy (after_rule ∷ number_rule (codes "how") ∷ states_rule ∷ [])
+    ∷ subcommand_with (codes "policy") AfterPolicy (after_rule ∷ flag_rule (codes "listing") ∷ number_rule (codes "how") ∷ states_rule ∷ [])
     ∷ subcommand_with (codes "explore") One (first_rule ∷ states_rule ∷ text_rule (codes "witness") ∷ flag_rule (codes "ends") ∷ names_rule ∷ [])
     ∷ subcommand_with (codes "tree") One (after_rule ∷ flag_rule (codes "dot") ∷ names_rule ∷ [])
     ∷ subcommand_with (codes "new") Zero (text_rule (codes "profile") ∷ number_rule (codes "threads") ∷ number_rule (codes "endpoints") ∷ text_rule (codes "untyped") ∷ [])
@@ -331,16 +331,19 @@ are_two_threads (Some text) = count_by (λ c. c == 44) text == 1
 abbrev pub names_two_threads : Options → Bool
 names_two_threads options = are_two_threads (option_map (λ s. s.now) options.from_to)
 
+-- a file that a word names is no hyphen, FROM,TO are two threads, and what `import` and `how` take goes together
+abbrev pub agrees_names : Options → Bool
+agrees_names options = names_files options && (names_two_threads options && (agrees_import options && agrees_how options))
+
 -- the options go together, and words name what they may: `--slot` goes not with `--without`, and `--witness` neither with `--names` nor with
--- `--ends`; a file that a word names is no hyphen; what `import` takes agrees; FROM,TO are two threads
+-- `--ends`; and a policy is not listed if calls are asked for by which a breach of it happens
 unfoldable pub agrees : Options → Bool
 agrees options =
     not (is_some options.slot && is_some options.without)
     && (not (is_some options.witness && options.names)
     && (not (is_some options.witness && options.ends)
-    && (names_files options
-    && (agrees_import options
-    && (names_two_threads options && agrees_how options)))))
+    && (not (options.listing && is_some options.breach)
+    && agrees_names options)))
 
 -- the matches of the subcommand that is met
 abbrev pub own_rows : Option (Text × List Row) → List Row

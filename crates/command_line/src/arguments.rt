@@ -99,7 +99,7 @@ pub struct Options<'a> {
     pub untyped: Option<&'a str>,
     /// `--shrink` of `import`: the bits to which larger untyped regions that cover nothing are cut.
     pub shrink: Option<u64>,
-    /// Whether `--listing` of `import` is there: the slots of the layout are asked for.
+    /// Whether `--listing` of `import` or of `policy` is there: what was read of the layout, or of the policy, is asked for.
     pub listing: bool,
     /// Whether `--cdl` of `import` is there: the capDL text is asked for that the layout becomes.
     pub cdl: bool,

@@ -1,6 +1,6 @@
 //! Options that do not go together, and words that name nothing.
 ghost use Rattle.std.specs.Prelude.{◌≡◌, not, is_some, option_map};
-ghost use Rattle.command_line.specs.CommandLine.{agrees, agrees_how, agrees_import, are_two_threads, is_hyphen_given, is_rights};
+ghost use Rattle.command_line.specs.CommandLine.{agrees, agrees_how, agrees_import, agrees_names, are_two_threads, is_hyphen_given, is_rights};
 
 use crate::arguments::Options;
 
@@ -18,6 +18,8 @@ const MESSAGES_ALONE: &str = "--by and --badge go neither with --hold nor with -
 const NO_HYPHEN: &str = "POLICY and --of name a file; for standard input write /dev/stdin";
 
 const RIGHTS: &str = "--rights: all or least is accepted";
+
+const LISTING_WITH_HOW: &str = "--listing and --how do not go together";
 
 const TWO_THREADS: &str = "FROM,TO: two threads are accepted, with a comma between them";
 
@@ -87,6 +89,21 @@ fn conflict_of_how(options: &Options) -> Option<&'static str>
     }
 }
 
+/// What is said of words that name no file or no two threads, and of options of `import` and of `how` that do not go together.
+fn conflict_of_names(options: &Options) -> Option<&'static str>
+    ensures { is_some result ≡ not (agrees_names options.now) }
+{
+    if has_hyphen(options.policy) || has_hyphen(options.of) {
+        Some(NO_HYPHEN)
+    } else if !has_two_threads(options.from_to) {
+        Some(TWO_THREADS)
+    } else if let Some(conflict) = conflict_of_import(options) {
+        Some(conflict)
+    } else {
+        conflict_of_how(options)
+    }
+}
+
 /// What is said of options that do not go together, and of words that name nothing.
 pub fn conflict_of(options: &Options) -> Option<&'static str>
     ensures { is_some result ≡ not (agrees options.now) }
@@ -97,13 +114,9 @@ pub fn conflict_of(options: &Options) -> Option<&'static str>
         Some(NAMES_WITH_WITNESS)
     } else if options.witness.is_some() && options.ends {
         Some(ENDS_WITH_WITNESS)
-    } else if has_hyphen(options.policy) || has_hyphen(options.of) {
-        Some(NO_HYPHEN)
-    } else if let Some(conflict) = conflict_of_import(options) {
-        Some(conflict)
-    } else if !has_two_threads(options.from_to) {
-        Some(TWO_THREADS)
+    } else if options.listing && options.breach.is_some() {
+        Some(LISTING_WITH_HOW)
     } else {
-        conflict_of_how(options)
+        conflict_of_names(options)
     }
 }

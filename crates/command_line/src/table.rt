@@ -111,6 +111,7 @@ pub const COMMANDS: [CommandRow; 17] = [
     ] },
     CommandRow { name: "policy", files: AfterPolicy, about: "Run a set-up and print whether its layout keeps to a policy, whatever its threads call", options: &[
         AFTER,
+        OptionRow("listing", Nothing, "Print only what was read of the policy"),
         OptionRow("how", Number, "Print calls by which breach N happens, as a set-up"),
         OptionRow("states", Number, "With --how: try at most N copies of the kernel [default: 2000]"),
     ] },

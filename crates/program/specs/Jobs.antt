@@ -13,6 +13,7 @@ use Rattle.command_parts.specs.Threads.{Trusted}
 use Rattle.command_policy.specs.Policies.{IsPolicyOf}
 use Rattle.command_policy_draft.specs.Drafts.{IsDraft}
 use Rattle.command_policy_how.specs.Told.{IsBreachHow}
+use Rattle.command_policy_listing.specs.Listed.{IsPolicyListing}
 use Rattle.command_line.specs.CommandLine.{takes_least}
 use Rattle.setup_layout.specs.declared.layout.Reading.{Reading}
 use Rattle.setup_layout.specs.Languages.{reading_of}
@@ -88,9 +89,16 @@ how_of options = record {
   states = options.states;
 }
 
--- what is told of the layout by a policy, or, with `--how`, how a breach of it happens
+-- what is told of the layout by a policy, or, with `--listing`, what was read of the policy
+abbrev pub IsHeldOrListed : Options → List ℕ → List ℕ → List ℕ → Verdict → Type 0
+IsHeldOrListed options policy input text verdict =
+    MatchBool options.listing
+    (IsAnswerTo (IsPolicyListing policy options.after) input text verdict)
+    (IsAnswerTo (IsPolicyOf policy options.after) input text verdict)
+
+-- or, with `--how`, how a breach of it happens
 abbrev pub IsHeld : Options → List ℕ → Option ℕ → List ℕ → List ℕ → Verdict → Type 0
-IsHeld options policy None input text verdict = IsAnswerTo (IsPolicyOf policy options.after) input text verdict
+IsHeld options policy None input text verdict = IsHeldOrListed options policy input text verdict
 IsHeld options policy (Some breach) input text verdict = IsAnswerTo (IsBreachHow breach policy options.after options.states) input text verdict
 
 -- the calls that are made before the clients begin, and the states that are kept at the most

@@ -2,7 +2,7 @@
 ghost use Rattle.std.specs.Prelude.{◌≡◌, ◌≢◌, IfErr, IfOk, map};
 ghost use Rattle.command_line.specs.declared.arguments.Job.TheVariants.{Threads};
 ghost use Rattle.command_check.specs.Commands.{IsAnswerTo, IsStateAnswer};
-ghost use Rattle.program.specs.Jobs.{IsAudit, IsCheck, IsExplorationBy, IsHeld, IsImport, IsOrdersAnswer, by_of, form_of as form_of_options, happening_in, how_of, messages_of, question_of, threads_of, trust_of, without_of};
+ghost use Rattle.program.specs.Jobs.{IsAudit, IsCheck, IsExplorationBy, IsHeld, IsHeldOrListed, IsImport, IsOrdersAnswer, by_of, form_of as form_of_options, happening_in, how_of, messages_of, question_of, threads_of, trust_of, without_of};
 ghost use Rattle.program.specs.NewWords.{IsNewOf};
 ghost use Rattle.program.specs.WitnessWords.{IsNamedWitness};
 ghost use Rattle.command_never.specs.Question.{IsNever};
@@ -30,6 +30,7 @@ use command_parts::{Ever, Trust};
 use command_policy::HeldTo;
 use command_policy_draft::Draft;
 use command_policy_how::BreachHow;
+use command_policy_listing::Listing;
 use command_trace::Trace;
 use command_tree::{Form, Tree};
 use command_why::Why;
@@ -199,7 +200,25 @@ fn make_how(alloc: Global, options: Options<'_>, input: &[u8]) -> Result<Answer,
     on_state(alloc, how, options.after, input)
 }
 
-/// The layout held to the policy whose bytes these are; with the number of a breach, how it happens.
+/// The layout held to the policy whose bytes these are; with `--listing`, what was read of the policy.
+fn make_held_or_listed(
+    alloc: Global,
+    options: Options<'_>,
+    policy: &[u8],
+    input: &[u8],
+) -> Result<Answer, RunFault>
+    ensures made { IfOk result (λ made. IsHeldOrListed options.entry policy.now input.now made.text.items made.verdict) }
+    ensures memory { IfErr result (λ fault. fault ≡ RunFault.Memory) }
+{
+    let after = options.after;
+    if options.listing {
+        on_setup(alloc, Listing { policy, after }, input)
+    } else {
+        on_setup(alloc, HeldTo { policy, after }, input)
+    }
+}
+
+/// The same; with the number of a breach, how it happens.
 fn make_held(
     alloc: Global,
     options: Options<'_>,
@@ -211,7 +230,7 @@ fn make_held(
 {
     let Options { after, states, .. } = options;
     match options.breach {
-        None => on_setup(alloc, HeldTo { policy, after }, input),
+        None => make_held_or_listed(alloc, options, policy, input),
         Some(breach) => {
             let how = BreachHow {
                 policy,

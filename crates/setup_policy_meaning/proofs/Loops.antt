@@ -1,9 +1,19 @@
 -- Loops that give each element of a list its meaning in turn.
-use Rattle.std.proofs.Common.{◌≡◌, ℕ, ◌+◌, ◌<◌, List, [], ◌∷◌, ◌++◌, length, get_or, drop, Some, None, refl, sym, ap, ◌∙◌, append_assoc, arith}
+use Rattle.std.proofs.Common.{◌≡◌, ℕ, Bool, true, false, ◌&&◌, ◌+◌, ◌<◌, List, [], ◌∷◌, ◌++◌, length, get_or, drop, Some, None, refl, sym, ap, ◌∙◌, append_assoc, arith}
 use Rattle.std.specs.Prelude.{Option}
+use Rattle.std.specs.List.{list_all}
 use Rattle.std.proofs.lemmas.List.{drop_more, append-nil}
 use Rattle.setup_policy_file.specs.Values.{all_of, and_more}
 use Rattle.setup_policy_meaning.specs.Policies.{all_from, in_front, joined}
+
+both_kept : (b c d : Bool) → b && c ≡ true → (c ≡ true → d ≡ true) → b && d ≡ true
+both_kept true c d both more = more both
+both_kept false c d both more = both
+
+-- a test that all pass, and one more
+pub all_and_one : {A : Type 0} (test : A → Bool) (xs : List A) (x : A) → list_all test xs ≡ true → test x ≡ true → list_all test (xs ++ x ∷ []) ≡ true
+all_and_one test [] x all one = rw one refl
+all_and_one test (y ∷ ys) x all one = both_kept (test y) (list_all test ys) (list_all test (ys ++ x ∷ [])) all (λ rest. all_and_one test ys x rest one)
 
 pub starts : {B : Type 0} (r : Option (List B)) → in_front [] r ≡ r
 starts (Some xs) = refl

@@ -1,5 +1,5 @@
 -- What a policy file means in a state: its words stand for the threads, the endpoints and the regions of the policy.
-use Rattle.std.specs.Prelude.{◌≡◌, ℕ, ◌+◌, ◌++◌, ◌==◌, ◌||◌, Bool, true, List, [], ◌∷◌, length, map, Option, Some, None, option_map, position, string_bytes, String}
+use Rattle.std.specs.Prelude.{◌≡◌, ℕ, ◌+◌, ◌++◌, ◌==◌, ◌||◌, Bool, true, not, List, [], ◌∷◌, length, map, Option, Some, None, option_map, position, string_bytes, String}
 use Rattle.std.specs.Str.{bytes_eq}
 use Rattle.std.specs.declared.alloc.Global.{Global}
 use Rattle.std.specs.List.{list_all, list_any, range_with_len}
@@ -107,9 +107,16 @@ use_meant p names plan v actors u = use_by (actor_named actors (string_bytes u.g
 abbrev pub is_member : ℕ → List Member → Bool
 is_member thread members = list_any (λ (m : Member). m.thread == thread) members
 
+abbrev pub is_trusted : List Member → List Member → ℕ → Bool
+is_trusted silent messages thread = is_member thread silent || is_member thread messages
+
 -- a thread is of a group, or trusted
 abbrev pub is_known : List Member → List Member → List Member → ℕ → Bool
-is_known members silent messages thread = is_member thread members || (is_member thread silent || is_member thread messages)
+is_known members silent messages thread = is_member thread members || is_trusted silent messages thread
+
+-- no thread of a group is trusted
+abbrev pub are_untrusted : List Member → List Member → List Member → Bool
+are_untrusted silent messages members = list_all (λ (m : Member). not (is_trusted silent messages m.thread)) members
 
 -- a capability names no other thread
 abbrev pub names_known : (ℕ → Bool) → Cap → Bool
@@ -127,6 +134,7 @@ pub record IsPolicyMeant (p : ProfileName) (names : Names) (plan : Plan) (v : Sh
   pub silent : all_from (member_meant p names plan v) (length file.groups.items) file.silent.items ≡ Some c.silent.items
   pub messages : all_from (member_meant p names plan v) (length file.groups.items + length file.silent.items) file.messages.items ≡ Some c.messages.items
   pub members : members_meant p names plan v file.groups.items ≡ Some c.members.items
+  pub untrusted : are_untrusted c.silent.items c.messages.items c.members.items ≡ true
   pub regions : regions_meant p names plan v file.groups.items ≡ Some c.regions.items
   pub known : are_known c v ≡ true
   pub ways : all_of (way_meant p names plan v c.actors.items) file.ways.items ≡ Some c.ways.items

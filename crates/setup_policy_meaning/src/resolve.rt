@@ -1,5 +1,5 @@
 //! The words of a policy are given their meaning.
-ghost use Rattle.std.specs.Prelude.{◌≡◌, ◌++◌, ◌||◌, true, map, length, Some, IfOk, IsErr, string_bytes};
+ghost use Rattle.std.specs.Prelude.{false, ◌≡◌, ◌++◌, ◌||◌, true, map, length, Some, IfOk, IsErr, string_bytes};
 ghost use Rattle.std.specs.List.{list_all, range_with_len};
 ghost use Rattle.slot_core.specs.Calls.{derivation_view};
 ghost use Rattle.slot_core.specs.declared.derivations.Derivation.{Derivation as TheDerivation};
@@ -210,7 +210,8 @@ impl<P: Profile, S: CapStore<P> + Drop, W: Waiters<P> + Drop> Resolver<'_, P, S,
         word: &Word,
         spot: Spot<'_>,
     ) -> Result<u64, Refusal>
-        ensures { IfOk result (λ thread. meant.thread_meant P.profile (names_view self.now.meaning.objects.names.now) self.now.meaning.setup.now.plan self.now.meaning.kernel.now word.now ≡ Some thread) }
+        ensures meant { IfOk result (λ thread. meant.thread_meant P.profile (names_view self.now.meaning.objects.names.now) self.now.meaning.setup.now.plan self.now.meaning.kernel.now word.now ≡ Some thread) }
+        ensures untrusted { IfOk result (λ thread. spec.is_trusted actors.entry.silent.now actors.entry.messages.now thread ≡ false) }
     {
         let thread = self.thread(word, spot)?;
         if let Some(member) = members.iter().find(|member| member.thread == thread) {
@@ -238,7 +239,9 @@ impl<P: Profile, S: CapStore<P> + Drop, W: Waiters<P> + Drop> Resolver<'_, P, S,
         actor: u64,
         spot: Spot<'_>,
     ) -> Result<(), Refusal>
-        ensures { IfOk result (λ _. spec.in_front members.old.items (all_of (spec.member_meant P.profile (names_view self.now.meaning.objects.names.now) self.now.meaning.setup.now.plan self.now.meaning.kernel.now actor) words.now) ≡ Some members.new.items) }
+        ensures meant { IfOk result (λ _. spec.in_front members.old.items (all_of (spec.member_meant P.profile (names_view self.now.meaning.objects.names.now) self.now.meaning.setup.now.plan self.now.meaning.kernel.now actor) words.now) ≡ Some members.new.items) }
+        ensures untrusted { IfOk result (λ _. spec.are_untrusted actors.entry.silent.now actors.entry.messages.now members.old.items ≡ true
+            → spec.are_untrusted actors.entry.silent.now actors.entry.messages.now members.new.items ≡ true) }
     {
         for word in words {
             let thread = self.member(actors, members.as_slice(), word, spot)?;
@@ -292,6 +295,7 @@ impl<P: Profile, S: CapStore<P> + Drop, W: Waiters<P> + Drop> Resolver<'_, P, S,
     ) -> Result<(Vec<Member>, Vec<OwnRegion>), Refusal>
         requires { map (derivation_view P.profile) rows.now ≡ slot_rows self.now.meaning.kernel.now }
         ensures members { IfOk result (λ v. spec.members_meant P.profile (names_view self.now.meaning.objects.names.now) self.now.meaning.setup.now.plan self.now.meaning.kernel.now groups.now ≡ Some v.0.items) }
+        ensures untrusted { IfOk result (λ v. spec.are_untrusted actors.entry.silent.now actors.entry.messages.now v.0.items ≡ true) }
         ensures regions { IfOk result (λ v. spec.regions_meant P.profile (names_view self.now.meaning.objects.names.now) self.now.meaning.setup.now.plan self.now.meaning.kernel.now groups.now ≡ Some v.1.items) }
     {
         let mut members = Vec::new(self.alloc());

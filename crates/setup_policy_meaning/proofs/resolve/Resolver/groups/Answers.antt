@@ -15,7 +15,8 @@ loop-i-preserved g c =
     record {
       members = one_group_more member thread_words c.loop-i.members.items c.add_members.new.members.items c.loop-i.i c.args.groups.now c.index-groups-i.result
           (of_groups member thread_words 0 c.args.groups.now) (omega arith)
-          (cc (c.in_ok-add_members.ensures, c.as_slice-threads.ensures.value, c.index-groups-i.is)) c.loop-i.invariant.members;
+          (cc (c.in_ok-add_members.ensures.meant, c.as_slice-threads.ensures.value, c.index-groups-i.is)) c.loop-i.invariant.members;
+      untrusted = c.in_ok-add_members.ensures.untrusted c.loop-i.invariant.untrusted;
       regions = one_group_more own region_words c.loop-i.regions.items c.add_regions.new.regions.items c.loop-i.i c.args.groups.now c.index-groups-i.result
           (of_groups own region_words 0 c.args.groups.now) (omega arith)
           (cc (c.in_ok-add_regions.ensures, c.as_slice-own.ensures.value, c.index-groups-i.is)) c.loop-i.invariant.regions;
@@ -30,6 +31,7 @@ returns g c =
     record {
       members = all_groups member thread_words c.loop-i.members.items c.loop-i.i c.args.groups.now (of_groups member thread_words 0 c.args.groups.now)
           (drop_all c.loop-i.i c.args.groups.now (omega arith)) c.loop-i.invariant.members;
+      untrusted = c.loop-i.invariant.untrusted;
       regions = all_groups own region_words c.loop-i.regions.items c.loop-i.i c.args.groups.now (of_groups own region_words 0 c.args.groups.now)
           (drop_all c.loop-i.i c.args.groups.now (omega arith)) c.loop-i.invariant.regions;
     }

@@ -13,7 +13,7 @@ use Rattle.setup_policy_file.specs.declared.file.UseEntry.{UseEntry}
 use Rattle.setup_policy_file.specs.declared.file.Word.{Word}
 use Rattle.setup_policy_file.specs.declared.file.GroupEntry.{GroupEntry}
 use Rattle.setup_policy_meaning.specs.Meant.{word_name}
-use Rattle.setup_policy_meaning.specs.Policies.{all_from, group_name, is_known, member_meant, members_meant, names_known, regions_meant, use_meant, way_meant}
+use Rattle.setup_policy_meaning.specs.Policies.{all_from, are_untrusted, group_name, is_known, member_meant, members_meant, names_known, regions_meant, use_meant, way_meant}
 use Rattle.setup_policy_meaning.proofs.Groups.{as_many, as_many_more, as_named}
 use Rattle.setup_policy_meaning.proofs.Rows.{all_rows}
 use Rattle.setup_policy_meaning.proofs.resolve.Resolver.policy.Goals as goal
@@ -53,6 +53,8 @@ returns g c =
       messages = subst (λ (n : ℕ). all_from (member_meant p names m.setup.now.plan m.kernel.now) n file.messages.items ≡ Some c.in_ok-messages.messages.items) more
           (subst (λ (ws : List Word). all_from (member_meant p names m.setup.now.plan m.kernel.now) (length second) ws ≡ Some c.in_ok-messages.messages.items) c.as_slice-3.ensures.value c.in_ok-messages.ensures.threads);
       members = subst (λ (gs : List GroupEntry). members_meant p names m.setup.now.plan m.kernel.now gs ≡ Some c.in_ok-members.members.items) c.as_slice-8.ensures.value c.in_ok-members.ensures.members;
+      untrusted = subst (λ (xs : List Member). are_untrusted xs ts ms ≡ true) c.as_slice-6.ensures.value
+          (subst (λ (xs : List Member). are_untrusted c.as_slice-6.result.now xs ms ≡ true) c.as_slice-7.ensures.value c.in_ok-members.ensures.untrusted);
       regions = subst (λ (gs : List GroupEntry). regions_meant p names m.setup.now.plan m.kernel.now gs ≡ Some c.in_ok-members.regions.items) c.as_slice-8.ensures.value c.in_ok-members.ensures.regions;
       known = subst (λ (ds : List Derived). list_all (λ (d : Derived). names_known (is_known ms ss ts) d.0.cap) ds ≡ true) c.requires
           (sym (all_rows p (names_known (is_known ms ss ts)) rows) ∙ known);

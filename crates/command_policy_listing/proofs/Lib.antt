@@ -1,0 +1,4 @@
+mod Words
+mod Ordered
+mod Pieces
+mod Told
