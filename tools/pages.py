@@ -28,9 +28,9 @@ MOST_LINES = 20
 ROOMS = (
     ("The parts of a kernel", ("cap_core", "mem_core", "slot_core", "cspace_core", "ipc_core")),
     ("The kernel", ("kernel_",)),
-    ("What is asked of a kernel", ("query_",)),
+    ("What is asked of a kernel", ("list_", "query_")),
     ("Set-ups", ("setup_",)),
-    ("Commands, and the command line", ("command_", "list_")),
+    ("Commands, and the command line", ("command_",)),
     ("The program", ("program", "sel4sim")),
     ("Tests", ("test_",)),
     ("Measures", ("bench_",)),

@@ -1,6 +1,6 @@
 //! What flows exclude between two threads.
 ghost use Rattle.std.specs.Prelude.{◌≡◌, true, IfOk, IfSome};
-ghost use Rattle.std.specs.List.{list_all, filter_map};
+ghost use Rattle.std.specs.List.{list_all};
 ghost use Rattle.kernel_abstract.specs.Decode.{has_right as has_right_of};
 ghost use Rattle.query_flow.specs.Listed as listed;
 ghost use Rattle.query_flow.specs.Excluded.{PassesNoneEver, NamesNoneEver, ChangesNoneEver};
@@ -14,6 +14,7 @@ use crate::search::bound_of;
 use cap_core::{Cap, Profile, Range, Rights};
 use ipc_core::Waiters;
 use kernel_core::{Kernel, ThreadState};
+use list_questions::{Finds, all_found};
 use slot_core::DerivationStore;
 use std::alloc::{AllocError, Global};
 
@@ -110,13 +111,23 @@ fn spot_of(right: Rights, by: &[u64], what: Standing) -> Option<Spot>
     }
 }
 
-fn spot_in(right: Rights, by: &[u64], names: &[u64], s: &MayStand) -> Option<Spot>
-    ensures { result ≡ spec.spot_in right.0 by.now names.now s.now }
-{
-    if names.contains(&s.set) {
-        spot_of(right, by, s.what)
-    } else {
-        None
+/// The endpoints that what stands in some sets lets a thread use with a right, but those that are named.
+#[derive(Clone, Copy)]
+struct SpotsIn<'a> {
+    right: Rights,
+    by: &'a [u64],
+    names: &'a [u64],
+}
+
+impl Finds<MayStand, Spot> for SpotsIn<'_> {
+    ghost found = { λ q s. spec.spot_in q.right.0 q.by.now q.names.now s };
+
+    fn find(&self, s: &MayStand) -> Option<Spot> {
+        if self.names.contains(&s.set) {
+            spot_of(self.right, self.by, s.what)
+        } else {
+            None
+        }
     }
 }
 
@@ -151,21 +162,6 @@ fn receive_spot(by: &[u64], state: Option<ThreadState>) -> Option<Spot>
     }
 }
 
-/// The endpoints that what stands in some sets lets a thread use with a right, but those that are named.
-fn spots_in(
-    alloc: Global,
-    right: Rights,
-    by: &[u64],
-    names: &[u64],
-    all: &[MayStand],
-) -> Result<Vec<Spot>, AllocError>
-    ensures { IfOk result (λ spots. spots.items ≡ filter_map (spec.spot_in right.0 by.now names.now) all.now) }
-{
-    all.iter()
-        .filter_map(|s| spot_in(right, by, names, s))
-        .collect(alloc)
-}
-
 fn and_spot(spots: &mut Vec<Spot>, spot: Option<Spot>) -> Result<(), AllocError>
     ensures { IfOk result (λ _. spots.new.items ≡ spec.and_spot spots.old.items spot) }
 {
@@ -186,7 +182,8 @@ fn sends_of<P: Profile, S: DerivationStore<P> + Drop, W: Waiters<P> + Drop>(
 ) -> Result<Vec<Spot>, AllocError>
     ensures { IfOk result (λ spots. spots.items ≡ spec.send_spots names.now all.now kernel.now by.now thread) }
 {
-    let mut spots = spots_in(alloc, Rights::WRITE, by, names, all)?;
+    let right = Rights::WRITE;
+    let mut spots = all_found(alloc, all, &SpotsIn { right, by, names })?;
     and_spot(&mut spots, send_spot(by, kernel.thread_state(thread)))?;
     Ok(spots)
 }
@@ -202,7 +199,8 @@ fn receives_of<P: Profile, S: DerivationStore<P> + Drop, W: Waiters<P> + Drop>(
 ) -> Result<Vec<Spot>, AllocError>
     ensures { IfOk result (λ spots. spots.items ≡ spec.receive_spots names.now all.now kernel.now by.now thread) }
 {
-    let mut spots = spots_in(alloc, Rights::READ, by, names, all)?;
+    let right = Rights::READ;
+    let mut spots = all_found(alloc, all, &SpotsIn { right, by, names })?;
     and_spot(&mut spots, receive_spot(by, kernel.thread_state(thread)))?;
     Ok(spots)
 }
@@ -216,13 +214,23 @@ fn is_apart(spot: &Spot, other: &Spot) -> bool
 fn is_apart_from_all(spot: &Spot, others: &[Spot]) -> bool
     ensures { result ≡ list_all (spec.is_spot_apart spot.now) others.now }
 {
-    others.iter().all(|other| is_apart(spot, other))
+    for other in others {
+        if !is_apart(spot, other) {
+            return false;
+        }
+    }
+    true
 }
 
 fn are_apart(spots: &[Spot], others: &[Spot]) -> bool
     ensures { result ≡ spec.are_spots_apart spots.now others.now }
 {
-    spots.iter().all(|spot| is_apart_from_all(spot, others))
+    for spot in spots {
+        if !is_apart_from_all(spot, others) {
+            return false;
+        }
+    }
+    true
 }
 
 /// Whether neither thread is trusted.
@@ -256,14 +264,23 @@ fn are_kept<P: Profile, S: DerivationStore<P> + Drop, W: Waiters<P> + Drop>(
 pub fn names_no_thread<P: Profile>(names: &[u64], all: &[MayStand], to: u64) -> bool
     ensures { result ≡ spec.names_no_thread P.profile names.now all.now to }
 {
-    all.iter().all(|s| !(names.contains(&s.set) && covers::<P>(s.what, Cap::Tcb { base: to })))
+    for s in all {
+        if names.contains(&s.set) && covers::<P>(s.what, Cap::Tcb { base: to }) {
+            return false;
+        }
+    }
+    true
 }
 
 fn names_no_node(nodes: &[u64], all: &[MayStand]) -> bool
     ensures { result ≡ spec.names_no_node nodes.now all.now }
 {
-    all.iter()
-        .all(|s| !(nodes.contains(&s.set) && has_slots(s.what)))
+    for s in all {
+        if nodes.contains(&s.set) && has_slots(s.what) {
+            return false;
+        }
+    }
+    true
 }
 
 /// Whether a thread's set is settled, and no word of it leads to another thread's control block.
@@ -294,12 +311,13 @@ fn is_inactive(state: Option<ThreadState>) -> bool
 fn none_names<P: Profile>(flows: &Flows, thread: u64) -> bool
     ensures { result ≡ spec.none_names P.profile flows.now thread }
 {
-    let all = flows.standing.as_slice();
-    flows
-        .callers
-        .as_slice()
-        .iter()
-        .all(|k| names_no_thread::<P>(k.names.as_slice(), all, thread))
+    let (callers, all) = (flows.callers.as_slice(), flows.standing.as_slice());
+    for caller in callers {
+        if !names_no_thread::<P>(caller.names.as_slice(), all, thread) {
+            return false;
+        }
+    }
+    true
 }
 
 /// Whether a thread is suspended and nobody can resume it.
@@ -320,8 +338,12 @@ fn stay_idle<P: Profile, S: DerivationStore<P> + Drop, W: Waiters<P> + Drop>(
 ) -> bool
     ensures { result ≡ spec.stay_idle P.profile flows.now kernel.now idle.now }
 {
-    idle.iter()
-        .all(|thread| stays_idle::<P, S, W>(kernel, flows, *thread))
+    for thread in idle {
+        if !stays_idle::<P, S, W>(kernel, flows, *thread) {
+            return false;
+        }
+    }
+    true
 }
 
 fn is_one_of(trusted: &[u64], idle: &[u64], thread: u64) -> bool
@@ -334,13 +356,13 @@ fn is_one_of(trusted: &[u64], idle: &[u64], thread: u64) -> bool
 fn are_known(trusted: &[u64], bound: &Bound) -> bool
     ensures { result ≡ spec.trusts_none_else trusted.now bound.now }
 {
-    let idle = bound.idle.as_slice();
-    bound
-        .flows
-        .trusted
-        .as_slice()
-        .iter()
-        .all(|thread| is_one_of(trusted, idle, *thread))
+    let (quiet, idle) = (bound.flows.trusted.as_slice(), bound.idle.as_slice());
+    for thread in quiet {
+        if !is_one_of(trusted, idle, *thread) {
+            return false;
+        }
+    }
+    true
 }
 
 /// The flows of a kernel with the threads that never make a call, but one, where those that are found pass the tests; none of one with

@@ -11,6 +11,7 @@ ghost use Rattle.query_flow.specs.Private as private;
 use cap_core::{Badge, Cap, Profile, Range, Rights, range_of};
 use ipc_core::Waiters;
 use kernel_core::Kernel;
+use list_questions::Asks;
 use query_parts::{PartMemory, part_at};
 use slot_core::{Derivation, DerivationStore};
 use std::alloc::{AllocError, Global};
@@ -127,33 +128,57 @@ pub fn misses(memory: &PartMemory, first: u64, last: u64) -> bool
     memory.last < first || last < memory.first
 }
 
-pub fn has_all(memory: &PartMemory, first: u64, last: u64) -> bool
+fn has_all(memory: &PartMemory, first: u64, last: u64) -> bool
     ensures { result ≡ spec.has_range first last memory.now }
 {
     memory.first <= first && last <= memory.last
 }
 
-fn are_in_one(memory: &[PartMemory], first: u64, last: u64) -> bool
+pub fn are_in_one(memory: &[PartMemory], first: u64, last: u64) -> bool
     ensures { result ≡ list_any (spec.has_range first last) memory.now }
 {
-    memory.iter().any(|m| has_all(m, first, last))
+    for m in memory {
+        if has_all(m, first, last) {
+            return true;
+        }
+    }
+    false
 }
 
-fn are_all_among(memory: &[PartMemory], sets: &[u64], first: u64, last: u64) -> bool
-    ensures { result ≡ list_all (λ m. spec.misses_range first last m || spec.is_among sets.now m.part) memory.now }
+/// Whether it holds of the sets of all stretches that have some of these addresses.
+fn each_holds<Q: Asks<u64>>(memory: &[PartMemory], question: &Q, first: u64, last: u64) -> bool
+    ensures { result ≡ list_all (λ m. spec.misses_range first last m || Q.holds question.now m.part) memory.now }
 {
-    memory
-        .iter()
-        .all(|m| misses(m, first, last) || sets.contains(&m.part))
+    for m in memory {
+        if !misses(m, first, last) && !question.holds(&m.part) {
+            return false;
+        }
+    }
+    true
 }
 
-/// Whether all addresses of a range lie in some of these sets.
-fn lie_among(memory: &[PartMemory], sets: &[u64], first: u64, bits: u64) -> bool
-    ensures { result ≡ spec.lie_where (spec.is_among sets.now) memory.now first (last_in first bits) }
+/// Whether all addresses of a range lie in sets of which it holds.
+fn lie_where<Q: Asks<u64>>(memory: &[PartMemory], question: &Q, range: Range) -> bool
+    ensures { result ≡ spec.lie_where (Q.holds question.now) memory.now range.first (last_in range.first range.bits) }
 {
-    match last_of(Range { first, bits }) {
+    match last_of(range) {
         None => false,
-        Some(last) => are_all_among(memory, sets, first, last) && are_in_one(memory, first, last),
+        Some(last) => each_holds(memory, question, range.first, last)
+            && are_in_one(memory, range.first, last),
+    }
+}
+
+/// Whether a set is one of some.
+#[derive(Clone, Copy)]
+struct OneOf<'a> {
+    sets: &'a [u64],
+}
+
+impl Asks<u64> for OneOf<'_> {
+    ghost holds = { λ q set. spec.is_among q.sets.now set };
+
+    fn holds(&self, set: &u64) -> bool {
+        self.sets.contains(set)
     }
 }
 
@@ -162,14 +187,12 @@ fn slots_lie<P: Profile>(memory: &[PartMemory], sets: &[u64], what: Standing) ->
     ensures { result ≡ spec.slots_lie P.profile memory.now sets.now what }
 {
     match what {
-        Standing::Region { base, bits } => lie_among(memory, sets, base, bits),
+        Standing::Region { base, bits } => {
+            lie_where(memory, &OneOf { sets }, Range { first: base, bits })
+        }
         Standing::Node { base, radix, .. } => {
-            lie_among(
-                memory,
-                sets,
-                base,
-                radix.saturating_add(P::SLOT_BITS as u64),
-            )
+            let bits = radix.saturating_add(P::SLOT_BITS as u64);
+            lie_where(memory, &OneOf { sets }, Range { first: base, bits })
         }
         _ => true,
     }
@@ -179,14 +202,24 @@ fn slots_lie<P: Profile>(memory: &[PartMemory], sets: &[u64], what: Standing) ->
 fn lead_to<P: Profile>(memory: &[PartMemory], all: &[MayStand], from: &[u64], to: &[u64]) -> bool
     ensures { result ≡ spec.lead_to P.profile memory.now all.now from.now to.now }
 {
-    all.iter().all(|s| !from.contains(&s.set) || slots_lie::<P>(memory, to, s.what))
+    for s in all {
+        if from.contains(&s.set) && !slots_lie::<P>(memory, to, s.what) {
+            return false;
+        }
+    }
+    true
 }
 
 fn begins<P: Profile>(memory: &[PartMemory], all: &[MayStand], caller: &Caller) -> bool
     ensures { result ≡ list_all (λ s. not (s.set == caller.now.set) || spec.slots_lie P.profile memory.now caller.now.names.items s.what) all.now }
 {
     let names = caller.names.as_slice();
-    all.iter().all(|s| s.set != caller.set || slots_lie::<P>(memory, names, s.what))
+    for s in all {
+        if s.set == caller.set && !slots_lie::<P>(memory, names, s.what) {
+            return false;
+        }
+    }
+    true
 }
 
 /// Whether a CNode that it stands for may take all bits of a word.
@@ -205,9 +238,13 @@ fn ends_at_once<P: Profile>(memory: &[PartMemory], all: &[MayStand], caller: &Ca
     ensures { result ≡ list_all (λ s. not (s.set == caller.now.set && spec.may_end P.profile s.what) || spec.slots_lie P.profile memory.now caller.now.nodes.items s.what) all.now }
 {
     let nodes = caller.nodes.as_slice();
-    all.iter().all(|s| {
-        !(s.set == caller.set && may_end::<P>(s.what)) || slots_lie::<P>(memory, nodes, s.what)
-    })
+    for s in all {
+        let may = s.set == caller.set && may_end::<P>(s.what);
+        if may && !slots_lie::<P>(memory, nodes, s.what) {
+            return false;
+        }
+    }
+    true
 }
 
 /// Whether it is a CNode by which words end, or has no slots.
@@ -224,7 +261,12 @@ fn is_ending<P: Profile>(what: Standing) -> bool
 pub fn are_ending<P: Profile>(all: &[MayStand], set: u64) -> bool
     ensures { result ≡ spec.are_ending P.profile all.now set }
 {
-    all.iter().all(|s| s.set != set || is_ending::<P>(s.what))
+    for s in all {
+        if s.set == set && !is_ending::<P>(s.what) {
+            return false;
+        }
+    }
+    true
 }
 
 /// Whether words go on from what stands in the sets in which they end.
@@ -304,21 +346,36 @@ fn is_over(most: Standing, what: Standing) -> bool
 pub fn has_over(all: &[MayStand], set: u64, what: Standing) -> bool
     ensures { result ≡ spec.has_over all.now set what }
 {
-    all.iter().any(|s| s.set == set && is_over(s.what, what))
+    for s in all {
+        if s.set == set && is_over(s.what, what) {
+            return true;
+        }
+    }
+    false
 }
 
 /// Whether each of some sets has it.
 fn all_have(all: &[MayStand], sets: &[u64], what: Standing) -> bool
     ensures { result ≡ spec.all_have all.now sets.now what }
 {
-    sets.iter().all(|set| has_over(all, *set, what))
+    for set in sets {
+        if !has_over(all, *set, what) {
+            return false;
+        }
+    }
+    true
 }
 
 fn are_put(all: &[MayStand], caller: &Caller) -> bool
     ensures { result ≡ spec.are_put all.now caller.now }
 {
     let fills = caller.fills.as_slice();
-    all.iter().all(|s| !fills.contains(&s.set) || all_have(all, fills, opened(s.what)))
+    for s in all {
+        if fills.contains(&s.set) && !all_have(all, fills, opened(s.what)) {
+            return false;
+        }
+    }
+    true
 }
 
 /// Whether all that may be made of it stands in each of some sets.
@@ -337,8 +394,12 @@ fn are_made(all: &[MayStand], caller: &Caller) -> bool
     ensures { result ≡ spec.are_made all.now caller.now }
 {
     let (names, fills) = (caller.names.as_slice(), caller.fills.as_slice());
-    all.iter()
-        .all(|s| !names.contains(&s.set) || is_made(all, fills, s.what))
+    for s in all {
+        if names.contains(&s.set) && !is_made(all, fills, s.what) {
+            return false;
+        }
+    }
+    true
 }
 
 pub fn has_slots(what: Standing) -> bool
@@ -352,21 +413,28 @@ fn roots_stand(all: &[MayStand], caller: &Caller, set: u64) -> bool
     ensures { result ≡ spec.roots_stand all.now caller.now set }
 {
     let nodes = caller.nodes.as_slice();
-    all.iter().all(|s| {
-        !(nodes.contains(&s.set) && has_slots(s.what)) || has_over(all, set, opened(s.what))
-    })
+    for s in all {
+        let leads = nodes.contains(&s.set) && has_slots(s.what);
+        if leads && !has_over(all, set, opened(s.what)) {
+            return false;
+        }
+    }
+    true
 }
 
-fn roots_stand_in_all(
-    memory: &[PartMemory],
-    all: &[MayStand],
-    caller: &Caller,
-    first: u64,
-    last: u64,
-) -> bool
-    ensures { result ≡ list_all (λ m. spec.misses_range first last m || spec.roots_stand all.now caller.now m.part) memory.now }
-{
-    memory.iter().all(|m| misses(m, first, last) || roots_stand(all, caller, m.part))
+/// Whether each of these CNodes may be a root in a set.
+#[derive(Clone, Copy)]
+struct RootsIn<'a> {
+    all: &'a [MayStand],
+    caller: &'a Caller,
+}
+
+impl Asks<u64> for RootsIn<'_> {
+    ghost holds = { λ q set. spec.roots_stand q.all.now q.caller.now set };
+
+    fn holds(&self, set: &u64) -> bool {
+        roots_stand(self.all, self.caller, *set)
+    }
 }
 
 fn threads_get(memory: &[PartMemory], all: &[MayStand], caller: &Caller, what: Standing) -> bool
@@ -374,11 +442,13 @@ fn threads_get(memory: &[PartMemory], all: &[MayStand], caller: &Caller, what: S
 {
     match what {
         Standing::Thread { base } => roots_stand(all, caller, set_at(memory, base)),
-        Standing::Region { base, bits } => match last_of(Range { first: base, bits }) {
-            None => false,
-            Some(last) => roots_stand_in_all(memory, all, caller, base, last)
-                && are_in_one(memory, base, last),
-        },
+        Standing::Region { base, bits } => {
+            lie_where(
+                memory,
+                &RootsIn { all, caller },
+                Range { first: base, bits },
+            )
+        }
         _ => true,
     }
 }
@@ -387,7 +457,12 @@ fn roots_set(memory: &[PartMemory], all: &[MayStand], caller: &Caller) -> bool
     ensures { result ≡ spec.roots_set memory.now all.now caller.now }
 {
     let names = caller.names.as_slice();
-    all.iter().all(|s| !names.contains(&s.set) || threads_get(memory, all, caller, s.what))
+    for s in all {
+        if names.contains(&s.set) && !threads_get(memory, all, caller, s.what) {
+            return false;
+        }
+    }
+    true
 }
 
 /// Whether a caller fills no sets but those that it is said to, and what it puts anywhere is told.
@@ -439,7 +514,12 @@ fn is_alike(one: &Caller, other: &Caller) -> bool
 fn first_alike(callers: &[Caller], caller: &Caller) -> Option<usize>
     ensures { result ≡ position (private.is_alike caller.now) callers.now }
 {
-    callers.iter().position(|k| is_alike(caller, k))
+    for (place, other) in callers.iter().enumerate() {
+        if is_alike(caller, other) {
+            return Some(place);
+        }
+    }
+    None
 }
 
 /// What is said of a caller: what is known of the first one that is alike, if that was looked at.
@@ -483,7 +563,12 @@ fn settled_callers<P: Profile>(
 pub fn caller_of(callers: &[Caller], set: u64) -> Option<&Caller>
     ensures { option_copied result ≡ spec.caller_of callers.entry.now set }
 {
-    callers.iter().find(|k| k.set == set)
+    for caller in callers {
+        if caller.set == set {
+            return Some(caller);
+        }
+    }
+    None
 }
 
 fn is_set_settled<P: Profile>(
@@ -514,64 +599,64 @@ pub fn is_thread_settled<P: Profile>(flows: &Flows, thread: u64) -> bool
 fn place_of(callers: &[Caller], set: u64) -> Option<usize>
     ensures { result ≡ position (λ k. k.set == set) callers.now }
 {
-    callers.iter().position(|k| k.set == set)
+    for (place, caller) in callers.iter().enumerate() {
+        if caller.set == set {
+            return Some(place);
+        }
+    }
+    None
 }
 
 /// Whether the caller of a set is settled, by what is known of each caller.
-fn is_known_settled(callers: &[Caller], settled: &[bool], set: u64) -> bool
-    ensures { result ≡ private.is_known_settled callers.now settled.now set }
-{
-    match place_of(callers, set) {
-        None => false,
-        Some(place) => settled.get(place).copied().unwrap_or(false),
-    }
+#[derive(Clone, Copy)]
+struct KnownSettled<'a> {
+    callers: &'a [Caller],
+    settled: &'a [bool],
 }
 
-fn are_all_settled(
-    memory: &[PartMemory],
-    callers: &[Caller],
-    settled: &[bool],
-    first: u64,
-    last: u64,
-) -> bool
-    ensures { result ≡ list_all (λ m. spec.misses_range first last m || private.is_known_settled callers.now settled.now m.part) memory.now }
-{
-    memory.iter().all(|m| misses(m, first, last) || is_known_settled(callers, settled, m.part))
+impl Asks<u64> for KnownSettled<'_> {
+    ghost holds = { λ q set. private.is_known_settled q.callers.now q.settled.now set };
+
+    fn holds(&self, set: &u64) -> bool {
+        match place_of(self.callers, *set) {
+            None => false,
+            Some(place) => self.settled.get(place).copied().unwrap_or(false),
+        }
+    }
 }
 
 /// Whether the threads that something stands for are trusted, or do nothing that is not told.
 fn are_threads_settled(
     memory: &[PartMemory],
-    callers: &[Caller],
-    settled: &[bool],
+    known: &KnownSettled,
     trusted: &[u64],
     what: Standing,
 ) -> bool
-    ensures { result ≡ private.are_threads_settled memory.now callers.now settled.now trusted.now what }
+    ensures { result ≡ private.are_threads_settled memory.now known.now.callers.now known.now.settled.now trusted.now what }
 {
     match what {
         Standing::Thread { base } => {
-            trusted.contains(&base) || is_known_settled(callers, settled, set_at(memory, base))
+            trusted.contains(&base) || known.holds(&set_at(memory, base))
         }
-        Standing::Region { base, bits } => match last_of(Range { first: base, bits }) {
-            None => false,
-            Some(last) => are_all_settled(memory, callers, settled, base, last)
-                && are_in_one(memory, base, last),
-        },
+        Standing::Region { base, bits } => { lie_where(memory, known, Range { first: base, bits }) }
         _ => true,
     }
 }
 
 fn stand_settled(
     memory: &[PartMemory],
-    callers: &[Caller],
-    settled: &[bool],
+    known: &KnownSettled,
     trusted: &[u64],
     all: &[MayStand],
 ) -> bool
-    ensures { result ≡ list_all (λ s. private.are_threads_settled memory.now callers.now settled.now trusted.now s.what) all.now }
+    ensures { result ≡ list_all (λ s. private.are_threads_settled memory.now known.now.callers.now known.now.settled.now trusted.now s.what) all.now }
 {
-    all.iter().all(|s| are_threads_settled(memory, callers, settled, trusted, s.what))
+    for s in all {
+        if !are_threads_settled(memory, known, trusted, s.what) {
+            return false;
+        }
+    }
+    true
 }
 
 /// Whether the threads that may stand anywhere are trusted, or do nothing that is not told. Each caller is tested once.
@@ -581,7 +666,8 @@ fn is_settled<P: Profile>(alloc: Global, flows: &Flows) -> Result<bool, AllocErr
     let (memory, all) = (flows.memory.as_slice(), flows.standing.as_slice());
     let (callers, trusted) = (flows.callers.as_slice(), flows.trusted.as_slice());
     let settled = settled_callers::<P>(alloc, memory, all, callers)?;
-    Ok(stand_settled(memory, callers, settled.as_slice(), trusted, all))
+    let settled = settled.as_slice();
+    Ok(stand_settled(memory, &KnownSettled { callers, settled }, trusted, all))
 }
 
 /// Whether something stands for a capability.
@@ -632,12 +718,6 @@ pub fn covers<P: Profile>(what: Standing, cap: Cap) -> bool
     }
 }
 
-fn stands_for<P: Profile>(s: &MayStand, set: u64, cap: Cap) -> bool
-    ensures { result ≡ spec.may_in P.profile set cap s.now }
-{
-    s.set == set && covers::<P>(s.what, cap)
-}
-
 fn is_null(cap: Cap) -> bool
     ensures { result ≡ null cap }
 {
@@ -647,7 +727,12 @@ fn is_null(cap: Cap) -> bool
 fn has_one_for<P: Profile>(all: &[MayStand], set: u64, cap: Cap) -> bool
     ensures { result ≡ list_any (spec.may_in P.profile set cap) all.now }
 {
-    all.iter().any(|s| stands_for::<P>(s, set, cap))
+    for s in all {
+        if s.set == set && covers::<P>(s.what, cap) {
+            return true;
+        }
+    }
+    false
 }
 
 /// Whether a capability may stand in a set.

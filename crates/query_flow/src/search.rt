@@ -1,8 +1,8 @@
 //! Flows that are looked for. Nothing is promised of them: `is_flow` tests what is found.
 use crate::excluded::{Bound, names_no_thread};
 use crate::listed::{
-    Caller, Flows, MayStand, Standing, are_ending, has_all, has_over, has_slots, last_of, may_end,
-    misses, opened, set_at,
+    Caller, Flows, MayStand, Standing, are_ending, are_in_one, has_over, has_slots, last_of,
+    may_end, misses, opened, set_at,
 };
 use cap_core::{Cap, Profile, Range, range_of};
 use ipc_core::Waiters;
@@ -222,7 +222,7 @@ fn caller_put<P: Profile>(
 fn is_in_one(memory: &[PartMemory], range: Range) -> bool {
     match last_of(range) {
         None => true,
-        Some(last) => memory.iter().any(|m| has_all(m, range.first, last)),
+        Some(last) => are_in_one(memory, range.first, last),
     }
 }
 
@@ -295,14 +295,21 @@ fn add_stretch(memory: &mut Vec<PartMemory>, range: Range) -> Result<(), AllocEr
 /// The regions that lie in no other.
 fn add_regions(memory: &mut Vec<PartMemory>, regions: &[Range]) -> Result<(), AllocError> {
     for range in regions {
-        let is_least = regions
-            .iter()
-            .any(|r| r.bits > range.bits && meets(*r, *range));
-        if !is_least {
+        if !lies_in_larger(regions, *range) {
             add_stretch(memory, *range)?;
         }
     }
     Ok(())
+}
+
+/// Whether a range lies in a larger one of these.
+fn lies_in_larger(regions: &[Range], range: Range) -> bool {
+    for region in regions {
+        if region.bits > range.bits && meets(*region, range) {
+            return true;
+        }
+    }
+    false
 }
 
 /// Whether the first address of a range lies in another.

@@ -18,7 +18,7 @@ returns g c =
     let callers = c.as_slice-callers.result.now in
     let trusted = c.as_slice-trusted.result.now in
     c.stand_settled.ensures
-    ∙ ap (λ (known : List Bool). list_all (λ (s : MayStand). private.are_threads_settled memory callers known trusted s.what) all) c.as_slice.ensures.value
+    ∙ ap (λ (known : List Bool). list_all (λ (s : MayStand). private.are_threads_settled memory callers known trusted s.what) all) c.as_slice-settled.ensures.value
     ∙ known_all p memory all callers c.in_ok-settled.settled.items c.in_ok-settled.ensures trusted
     ∙ ap (λ (m : List PartMemory). spec.is_settled p m all callers trusted) c.as_slice-memory.ensures.value
     ∙ ap (λ (a : List MayStand). spec.is_settled p flows.memory.items a callers trusted) c.as_slice-all.ensures.value
