@@ -10,7 +10,7 @@ ghost use Rattle.kernel_abstract.specs.CNodes.{checked_placement};
 ghost use Rattle.kernel_abstract.specs.Decode.{invoking, decoded_op, checked_op, checked_invocation, reason_in as reason_in_of, service_word as service_word_of};
 ghost use Rattle.kernel_checks.specs.Facts.{TellsTruly};
 
-use crate::cnodes::check_placement;
+use crate::cnodes::{Copied, Minted, Moved, Mutated, NewCap, check_placement};
 use crate::deletion::{check_badge, check_slot};
 use crate::failure::Failure;
 use crate::lookup::{held, slot_by_word};
@@ -20,7 +20,7 @@ use crate::threads::{check_space, check_tcb};
 use cap_core::limits::MAX_MEMORY_BITS;
 use cap_core::{Profile, Refusal};
 use kernel_abstract::call::Op;
-use kernel_abstract::invocation::{Change, Invocation, RetypeArguments, SlotArguments};
+use kernel_abstract::invocation::{Invocation, RetypeArguments, SlotArguments};
 use kernel_abstract::reason::{Reason, Word};
 use slot_core::{CapStore, Slot};
 
@@ -124,19 +124,19 @@ fn check_invocation<P: Profile, S: CapStore<P>, F: Failure>(
         }
         Op::CapCopy { index, depth, src_root, src_index, src_depth, rights, .. } => {
             let slots = SlotArguments { index, depth, src_root, src_index, src_depth };
-            check_derive::<P, S, F>(store, thread, slot, slots, Change::Copy(rights))
+            check_derive::<P, S, F, Copied>(store, thread, slot, slots, Copied(rights))
         }
         Op::CapMint { index, depth, src_root, src_index, src_depth, rights, word, .. } => {
             let slots = SlotArguments { index, depth, src_root, src_index, src_depth };
-            check_derive::<P, S, F>(store, thread, slot, slots, Change::Mint(rights, word))
+            check_derive::<P, S, F, Minted>(store, thread, slot, slots, Minted(rights, word))
         }
         Op::CapMove { index, depth, src_root, src_index, src_depth, .. } => {
             let slots = SlotArguments { index, depth, src_root, src_index, src_depth };
-            check_move::<P, S, F>(store, thread, slot, slots, Change::Move)
+            check_move::<P, S, F, Moved>(store, thread, slot, slots, Moved)
         }
         Op::CapMutate { index, depth, src_root, src_index, src_depth, word, .. } => {
             let slots = SlotArguments { index, depth, src_root, src_index, src_depth };
-            check_move::<P, S, F>(store, thread, slot, slots, Change::Mutate(word))
+            check_move::<P, S, F, Mutated>(store, thread, slot, slots, Mutated(word))
         }
         Op::CapDelete { index, depth, .. } => {
             Ok(Invocation::Delete(check_slot::<P, S, F>(store, slot, index, depth)?.address::<P>()))
@@ -161,34 +161,34 @@ fn check_invocation<P: Profile, S: CapStore<P>, F: Failure>(
 
 /// A copy or a mint by the capability in a slot.
 #[inline(always)]
-fn check_derive<P: Profile, S: CapStore<P>, F: Failure>(
+fn check_derive<P: Profile, S: CapStore<P>, F: Failure, N: NewCap>(
     store: &S,
     thread: u64,
     at: Slot,
     slots: SlotArguments,
-    change: Change,
+    new: N,
 ) -> Result<Invocation, F>
     requires memory { S.memory_bits store.now ≤ MAX_MEMORY_BITS }
     requires thread { IsThreadAddress P.profile (S.memory_bits store.now) thread }
-    ensures { result ≡ answering F.of (invoking Derive (checked_placement P.profile (S.forest store.now) thread (address_of P.profile at) slots change)) }
+    ensures { result ≡ answering F.of (invoking Derive (checked_placement P.profile (S.forest store.now) thread (address_of P.profile at) slots (N.asked new))) }
 {
-    let placement = check_placement::<P, S, F>(store, thread, at, slots, change)?;
+    let placement = check_placement::<P, S, F, N>(store, thread, at, slots, new)?;
     Ok(Invocation::Derive(placement))
 }
 
 /// A move or a mutate by the capability in a slot.
 #[inline(always)]
-fn check_move<P: Profile, S: CapStore<P>, F: Failure>(
+fn check_move<P: Profile, S: CapStore<P>, F: Failure, N: NewCap>(
     store: &S,
     thread: u64,
     at: Slot,
     slots: SlotArguments,
-    change: Change,
+    new: N,
 ) -> Result<Invocation, F>
     requires memory { S.memory_bits store.now ≤ MAX_MEMORY_BITS }
     requires thread { IsThreadAddress P.profile (S.memory_bits store.now) thread }
-    ensures { result ≡ answering F.of (invoking Move (checked_placement P.profile (S.forest store.now) thread (address_of P.profile at) slots change)) }
+    ensures { result ≡ answering F.of (invoking Move (checked_placement P.profile (S.forest store.now) thread (address_of P.profile at) slots (N.asked new))) }
 {
-    let placement = check_placement::<P, S, F>(store, thread, at, slots, change)?;
+    let placement = check_placement::<P, S, F, N>(store, thread, at, slots, new)?;
     Ok(Invocation::Move(placement))
 }

@@ -31,6 +31,7 @@ pub struct Threads<P: Profile, W: Waiters<P>> {
 
 impl<P: Profile, W: Waiters<P>> Threads<P, W> {
     /// A thread waits no more, and is inactive or not. What was delivered to it last stays.
+    #[inline(never)]
     pub fn stop(&mut self, thread: u64, inactive: bool)
         requires { IsSome (get (rows_map (tcb_size P.profile) self.old.rows) thread) }
         ensures waits { W.waits self.new.waiters ≡ after_cancel_thread thread (W.waits self.old.waiters) }

@@ -13,6 +13,7 @@ use kernel_abstract::invocation::{CapPlacement, NewSpace};
 use slot_core::{CapStore, Slot};
 
 /// Derives a capability from the one in a slot. An untyped region is used up where it is handed on.
+#[inline(always)]
 pub fn derive_in<P: Profile, S: CapStore<P>>(store: &mut S, placement: CapPlacement)
     requires store { IsKernelStore P.profile (S.memory_bits store.old) (S.forest store.old) }
     requires derivation { IsDerivation P.profile (S.forest store.old) placement }
