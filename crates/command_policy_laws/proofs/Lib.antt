@@ -6,6 +6,7 @@ pub mod Untold
 pub mod Groups
 pub mod Joined
 pub mod Grants
+pub mod GrantsMet
 pub mod Waiting
 pub mod Unbroken
 pub mod Regions

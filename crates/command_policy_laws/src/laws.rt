@@ -18,6 +18,7 @@ ghost use Rattle.setup_format.specs.Views.{ReadView};
 ghost use Rattle.command_policy_laws.specs.Audits.{WhatAuditPolicyPromises};
 ghost use Rattle.command_policy_laws.specs.Broken.{WhatIsToldIsBroken};
 ghost use Rattle.command_policy_laws.specs.Grants.{WhatIsJoinedIsClosed};
+ghost use Rattle.command_policy_laws.specs.GrantsMet.{are_answered, are_given, AreAnswersKeptEver, AreGrantsKeptEver};
 ghost use Rattle.command_policy_laws.specs.Held.{are_passages_let, AreWaysHeldEver};
 ghost use Rattle.command_policy_laws.specs.Keeps.{LeastKeepMost, WhatIsKeptIsHeld};
 ghost use Rattle.command_policy_laws.specs.Larger.{HoldNoLess};
@@ -38,6 +39,21 @@ pub fn what_ways_let_is_delivered()
 /// another number.
 pub fn what_is_joined_is_closed()
     ensures { (p : ProfileName) (c : Policy) (l : Layout) (v : Shown) → WhatIsJoinedIsClosed p c l v }
+{}
+
+/// Where parts are confined, and the one part could hand nothing to the other by an endpoint with Grant, then, whatever calls the
+/// threads of the parts make: no slot of the one ever holds a capability with Write and Grant to an endpoint on which the other
+/// may receive.
+pub fn no_grant_leads_out()
+    ensures { (p : ProfileName) (memory : List PartMemory) (uses : List PartUse) (v : Shown) (i j : ℕ) →
+        are_given p memory uses v i j ≡ false → AreConfinedEver p memory uses v → AreGrantsKeptEver p memory uses v i j }
+{}
+
+/// Where parts are confined, and the one part could hand nothing to the other by an answer with Grant, then, whatever calls the threads
+/// of the parts make: no slot of the one ever holds a capability with Read and Grant to an endpoint by which the other may call.
+pub fn no_answer_leads_out()
+    ensures { (p : ProfileName) (memory : List PartMemory) (uses : List PartUse) (v : Shown) (i j : ℕ) →
+        are_answered p memory uses v i j ≡ false → AreConfinedEver p memory uses v → AreAnswersKeptEver p memory uses v i j }
 {}
 
 /// What may stand in a part may stand in each part in which it lies, and by what endpoint and badge it may send or receive, that part
