@@ -25,7 +25,7 @@ import sys
 import tempfile
 
 MOST_COLUMNS, MOST_WORDS = 120, 60
-MADE = re.compile(r"<!-- (?:crates|options of|figures:).*?<!-- (?:to here|end of the figures) -->", re.S)
+MADE = re.compile(r"<!-- (?:crates|options of|statuses|figures:).*?<!-- (?:to here|end of the figures) -->", re.S)
 VERSION = re.compile(r"^## (\d{4}-\d\d-\d\d)$", re.M)
 ROOT = pathlib.Path(__file__).resolve().parent.parent
 ANY_LINES = r"(?:.*\n)*?"

@@ -99,6 +99,6 @@ def page(whole, commands, version):
 
 
 def newest_version(top):
-    """The newest version of the change log."""
+    """The newest version of the change log; what is unreleased comes before it."""
     with open(os.path.join(top, "CHANGELOG.md"), encoding="utf-8") as file:
-        return re.search(r"^## (\S+)$", file.read(), re.M)[1]
+        return re.search(r"^## (\d{4}-\d\d-\d\d)$", file.read(), re.M)[1]

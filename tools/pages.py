@@ -5,9 +5,9 @@ Of the sources: docs/definitions.md, as definitions.py has it, and lists of the 
 `src/main.rt`. Of what `PROGRAM --help` and `PROGRAM COMMAND --help` print: the files of tools/completions/, which complete the
 words of a command line, as completions.py has them; the man page tools/sel4sim.1, as man_page.py has it; and tables of options.
 
-In a page by hand a line `<!-- WORDS -->` begins what is made, and `<!-- to here` ends it. The words are `crates` and `options of
-COMMAND`, which has all options but `--help`, or those after a colon alone, as in `options of audit: after slot`. Each option of a
-command has to be in the table of a page.
+In a page by hand a line `<!-- WORDS -->` begins what is made, and `<!-- to here` ends it. The words are `crates`; `statuses`, the
+exit statuses of the help; and `options of COMMAND`, which has all options but `--help`, or only those after a colon, as in
+`options of audit: after slot`. Each option of a command has to be in the table of a page.
 
 With --check nothing is written. The status is 1 where something else stands in a file than would be written, or where a rule of
 definitions.py is broken."""
@@ -23,7 +23,7 @@ from crates import TOP, listed
 from helps import NAME, helps
 
 DOCS, TOOLS = os.path.join(TOP, "docs"), os.path.join(TOP, "tools")
-MADE = re.compile(r"^(<!-- ((?:crates|options)\b.*?) -->\n)(.*?)^(<!-- to here\b)", re.M | re.S)
+MADE = re.compile(r"^(<!-- ((?:crates|options|statuses)\b.*?) -->\n)(.*?)^(<!-- to here\b)", re.M | re.S)
 MOST_LINES = 20
 ROOMS = (
     ("The parts of a kernel", ("cap_core", "mem_core", "slot_core", "cspace_core", "ipc_core")),
@@ -83,6 +83,11 @@ class OfHelp:
             value, about = (known[name].value, known[name].told) if name in known else ("", "there is no such option")
             yield f"| `--{name}{' ' * bool(value)}{value}` | {about.replace('|', chr(92) + '|')} |"
 
+    def statuses(self, _):
+        """The table of the exit statuses."""
+        yield from ("| status | means |", "|---|---|")
+        yield from (f"| {number} | {about} |" for number, about in self.whole.statuses)
+
     def files(self):
         """The files for shells, and the man page."""
         shells = {os.path.join(TOOLS, "completions", name): text for name, text in completions(self.whole, self.told).items()}
@@ -109,7 +114,7 @@ def made_of(program):
     page, wrong = definitions.made()
     by_hand = [os.path.join(DOCS, name) for name in sorted(os.listdir(DOCS)) if name.endswith(".md") and name != "definitions.md"]
     of_help = OfHelp(program) if program else None
-    makers = {"crates": crates} | ({"options": of_help.options} if program else {})
+    makers = {"crates": crates} | ({"options": of_help.options, "statuses": of_help.statuses} if program else {})
     files = {os.path.join(DOCS, "definitions.md"): page} | {path: filled(read(path), makers) for path in by_hand}
     kinds = {found[2].split()[0] for text in files.values() for found in MADE.finditer(text)}
     wrong += [f"no page has a line that begins {it}" for it in makers if it not in kinds]

@@ -123,7 +123,7 @@ class Completions(unittest.TestCase):
         """What a page has between two marks, where another text stood."""
         of_help = pages.OfHelp(f"{self.folder}/sel4sim")
         begin, end = f"<!-- {words} -->\n", "<!-- to here -->\n"
-        made = pages.filled(f"Before.\n{begin}{old}{end}After.\n", {"options": of_help.options})
+        made = pages.filled(f"Before.\n{begin}{old}{end}After.\n", {"options": of_help.options, "statuses": of_help.statuses})
         self.assertTrue(made.startswith(f"Before.\n{begin}") and made.endswith(f"{end}After.\n"))
         return made.removeprefix(f"Before.\n{begin}").removesuffix(f"{end}After.\n")
 
@@ -142,6 +142,10 @@ class Completions(unittest.TestCase):
         self.assertEqual(self.filled("options of tree: after", ""), f"{head}| `--after N` | Behind call N |\n")
         self.assertEqual(self.filled("options of check", "old\n"), f"{head}| `--strict` | Refuses [what] is doubtful |\n")
         self.assertIn("there is no such option", self.filled("options of check: strikt", ""))
+
+    def test_table_of_statuses(self):
+        table = "| status | means |\n|---|---|\n| 0 | all is well, by --strict too |\n| 4 | the command line is refused |\n"
+        self.assertEqual(self.filled("statuses", "old\n"), table)
 
     def test_no_mark_is_filled_without_a_maker(self):
         page = "<!-- options of tree -->\nold\n<!-- to here -->\n"
