@@ -3,10 +3,11 @@
 
 The same bytes come twice; the program gives each example's report in an empty root that has only the C library; the
 page's script makes a page; the page for browsers is there, with what it links to; bash completes by the file that is
-put where it looks; an installation has the same files, and is removed whole; the man page has no warnings. The Debian package
-is installed below an empty root and removed from it, so that this machine stays as it is. The module for WebAssembly gives
-each example's report by node, and by Rust if cargo has the crate wasmtime. The empty root takes root, or a user that may make user
-namespaces; what is missing for a test is told, and the test is left out."""
+put where it looks; an installation has the same files, and is removed whole; the man page has no warnings. The Debian
+package is installed below an empty root and removed from it, so that this machine stays as it is. The module for
+WebAssembly gives each example's report by node, by Python with node, and by Rust if cargo has the crate wasmtime. The
+empty root takes root, or a user that may make user namespaces; what is missing for a test is named, and the test is
+left out."""
 import io
 import os
 import re
@@ -177,6 +178,21 @@ class WebAssemblyModule(Unpacked):
             ended = [subprocess.run([*words, name], stdout=to, stderr=subprocess.DEVNULL, check=False).returncode
                      for name, to in (("there_is_no_such_file.toml", subprocess.DEVNULL), (self.below("share/sel4sim/examples/send_then_receive.toml"), full))]
         self.assertEqual(ended, [3, 3])
+
+    @unittest.skipUnless(shutil.which("node"), "there is no node")
+    def test_by_python(self):
+        self.gives_each_report(sys.executable, self.below("share/sel4sim/wasm/run.py"))
+
+    @unittest.skipUnless(shutil.which("node"), "there is no node")
+    def test_from_a_python_program(self):
+        script = """from run import sel4sim
+for text in ("format = 1\\n", "format = 3\\n"):
+    print(*sel4sim("../sel4sim.wasm", "check", "-", given=text.encode()), sep="|")
+"""
+        told = output(sys.executable, "-c", script, cwd=self.below("share/sel4sim/wasm"), env={**os.environ, "PYTHONDONTWRITEBYTECODE": "1"})
+        first, second = told.splitlines()
+        self.assertTrue(first.startswith("2|b'set-up refused 202 at top key memory_bits\\n'|['sel4sim: top, key memory_bits: "), first)
+        self.assertTrue(second.startswith("2|b'set-up refused 204 at top key format\\n'|["), second)
 
     @unittest.skipUnless(shutil.which("cargo"), "there is no cargo")
     def test_by_rust(self):
