@@ -9,13 +9,14 @@ In a page by hand a line `<!-- WORDS -->` begins what is made, and `<!-- to here
 exit statuses of the help; and `options of COMMAND`, which has all options but `--help`, or only those after a colon, as in
 `options of audit: after slot`. Each option of a command has to be in the table of a page.
 
-With --check nothing is written. The status is 1 where something else stands in a file than would be written, or where a rule of
-definitions.py is broken."""
+With --check nothing is written. The status is 1 if a file has something else than would be written, if a rule of definitions.py is
+broken, or if README or proved.md cites a name that no crate defines (cited.py)."""
 import difflib
 import os
 import re
 import sys
 
+import cited
 import definitions
 import man_page
 from completions import completions
@@ -131,6 +132,7 @@ def main(words):
         elif text != read(path) and not wrong:
             with open(path, "w", encoding="utf-8") as file:
                 file.write(text)
+    wrong += cited.missing()
     print("\n".join([*wrong, f"{len(files)} files, {len(wrong)} faults"]))
     return 1 if wrong else 0
 

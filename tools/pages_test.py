@@ -7,6 +7,7 @@ import subprocess
 import tempfile
 import unittest
 
+import cited
 import man_page
 import pages
 from helps import helps
@@ -175,6 +176,19 @@ class Completions(unittest.TestCase):
     @unittest.skipUnless(shutil.which("zsh"), "there is no zsh")
     def test_is_read_by_zsh(self):
         self.assertEqual(self.output("zsh", "-n", "../_sel4sim"), [])
+
+
+class Cited(unittest.TestCase):
+    def test_names_in_brackets_belong_to_the_crates_before_them(self):
+        text = "`store`, `forest`: exact (`get`, `put`), and a law (`Tree::of`). `queue` sends (`send`). `why FILE` (no name)."
+        found = list(cited.brackets(text, {"store", "forest", "queue"}))
+        both = ["store", "forest"]
+        self.assertEqual(found, [("get", both), ("put", both), ("Tree::of", both), ("send", ["queue"])])
+
+    def test_what_a_crate_defines(self):
+        found = cited.defined("slot_core")
+        self.assertTrue(found.issuperset({"CapStore", "derive", "LinkedStore", "stands_for_its_forest"}))
+        self.assertFalse(found & {"Waiters", "no_such_name"})
 
 
 if __name__ == "__main__":
