@@ -21,14 +21,14 @@ kind_numbered n =
     cond (n == 0) (Some Kinds.Untyped)
     (cond (n == 1) (Some Kinds.Tcb) (cond (n == 2) (Some Kinds.Endpoint) (cond (n == 4) (Some Kinds.CNode) None)))
 
--- the bits of an object's size in bytes, where `size_bits` is asked for
+-- the bits of an object's size in bytes, if `size_bits` is asked for
 abbrev pub size_of : ProfileName → Kind → ℕ → ℕ
 size_of p Kinds.Untyped size_bits = size_bits
 size_of p Kinds.Tcb size_bits = tcb_bits p
 size_of p Kinds.Endpoint size_bits = endpoint_bits p
 size_of p Kinds.CNode size_bits = slot_bits p + size_bits
 
--- the same, where what is asked for and the object's size are within the profile
+-- the same, if what is asked for and the object's size are within the profile
 abbrev pub size_within : ProfileName → Kind → ℕ → Option ℕ
 size_within p kind size_bits =
     cond (nat_lt size_bits (word_bits p) && nat_le (size_of p kind size_bits) (max_object_bits p)) (Some (size_of p kind size_bits)) None

@@ -8,7 +8,7 @@ use Rattle.cap_core.specs.declared.capability.Cap.{Cap}
 use Rattle.cap_core.specs.declared.capability.Cap.TheVariants.{Endpoint, CNode}
 use Rattle.cap_core.specs.Numbers.{word_bits, guard_size_bits, badge_bits}
 
--- the capability with no rights but those that are given too. Only an endpoint's has rights
+-- the capability with those of its rights that are also given. Only an endpoint's has rights
 abbrev pub masked : Rights → Cap → Cap
 masked rights (Endpoint base badge had) = Endpoint base badge (record { 0 = bit_and had.0 rights.0 })
 masked rights other = other
@@ -36,7 +36,7 @@ guard_held p word =
 abbrev pub guarded : ProfileName → ℕ → ℕ → Guard → Option Cap
 guarded p base radix guard = cond (nat_le (guard.size + radix) (word_bits p)) (Some (CNode base radix guard)) None
 
--- the capability with its data set by a word: a badge is set once and is not changed where it is to be preserved, a guard
+-- the capability with its data set by a word: a badge is set once and is not changed if it is to be preserved, a guard
 -- is what the word holds, and no other capability has data
 abbrev pub with_data : ProfileName → Bool → ℕ → Cap → Option Cap
 with_data p preserve word (Endpoint base badge rights) =

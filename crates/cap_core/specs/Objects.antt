@@ -16,7 +16,7 @@ abbrev pub is_untyped : Cap → Bool
 is_untyped (Untyped base bits free) = true
 is_untyped _ = false
 
--- the badge of a capability, 0 where it has none
+-- the badge of a capability, 0 if it has none
 abbrev pub badge_of : Cap → ℕ
 badge_of (Endpoint base badge rights) = badge.0
 badge_of _ = 0
@@ -41,7 +41,7 @@ bits_of p (Tcb base) = tcb_bits p
 abbrev pub end_of : ProfileName → Cap → ℕ
 end_of p cap = base_of cap + 2 ^ bits_of p cap
 
--- both name one object, which is no untyped region
+-- both name the same object, which is not an untyped region
 abbrev pub same_object : Cap → Cap → Bool
 same_object (Endpoint a badge rights) (Endpoint b badge' rights') = a == b
 same_object (CNode a radix guard) (CNode b radix' guard') = a == b && radix == radix'

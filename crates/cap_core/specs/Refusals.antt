@@ -25,7 +25,7 @@ fault_kind MissingCapability = 2
 fault_kind DepthMismatch = 3
 fault_kind GuardMismatch = 4
 
--- the kind, and 0 where the refusal is no failed lookup
+-- the kind of a failed lookup, and 0 for another refusal
 abbrev pub refusal_kind : Refusal → ℕ
 refusal_kind (FailedLookup fault) = fault_kind fault
 refusal_kind _ = 0

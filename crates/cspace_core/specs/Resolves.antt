@@ -20,7 +20,7 @@ pub data Chooses (p : ProfileName) (cap : Cap) (bits : List ℕ) : Result Choice
       bits ≡ guard_bits guard ++ (index ++ left) → length index ≡ radix →
       Chooses p cap bits (Ok (record { slot = slot_of p base (number_from_digits 2 index); left = left }))
 
--- the slot that bits lead to, and how many are left: the first one where the bits end or no CNode is
+-- the slot that bits lead to, and how many are left: the first one at which the bits end, or which holds no CNode
 pub data Resolves (p : ProfileName) (cap_in : ℕ → Cap) : Cap → List ℕ → Result Found LookupFault → Type 0 where
   refused : (root : Cap) (bits : List ℕ) (fault : LookupFault) →
       Chooses p root bits (Err fault) → Resolves p cap_in root bits (Err fault)

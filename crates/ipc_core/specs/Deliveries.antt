@@ -11,7 +11,7 @@ use Rattle.ipc_core.specs.Waits.{Waits, sent, after_send, received, after_receiv
 use Rattle.ipc_core.specs.Pairing.{sends_with, receives_with}
 use Rattle.ipc_core.specs.Cancelled.{after_cancel_thread, after_cancel_badge, after_cancel_endpoint, sends_less, receives_less, is_sent_by, is_received_by, is_sent_with}
 
--- a send or a receive on the endpoint of its record, and whether it waits where it meets none; and the calls that cancel
+-- a send or a receive on the endpoint of its record, and whether it waits if it meets none; and the calls that cancel
 pub data Request : Type 0 where
   Sends : (block : Bool) (s : SendRecord) → Request
   Receives : (block : Bool) (a : ReceiveRecord) → Request

@@ -23,7 +23,7 @@ pub record Waits : Type 0 where
 abbrev pub no_waits : Waits
 no_waits = record { queue = λ e. []; role = λ t. None }
 
--- an address at which an endpoint, or a thread control block, can stand
+-- an address at which an endpoint, or a thread control block, can be
 pub record IsEndpointAddress (p : ProfileName) (memory address : ℕ) : Type 0 where
   pub aligned : address % endpoint_size p ≡ 0
   pub within : address < 2 ^ memory
@@ -71,7 +71,7 @@ waits_sent_to None block e thread waiter w = cond block (queued e thread (Sendin
 abbrev pub sent : Bool → ℕ → Waits → Sent
 sent block e w = sent_to (first_receiver (w.queue e)) block
 
--- who waits after a send: the first receiver waits no more; where none waits, the sender waits, if it blocks
+-- who waits after a send: the first receiver waits no more; if none waits, the sender waits, if it blocks
 abbrev pub after_send : Bool → ℕ → ℕ → Badge → Message → Waits → Waits
 after_send block e thread badge message w =
     waits_sent_to (first_receiver (w.queue e)) block e thread (Sender thread badge message) w
@@ -89,7 +89,7 @@ waits_received_from None block e thread w = cond block (queued e thread (Receivi
 abbrev pub received : Bool → ℕ → Waits → Received
 received block e w = received_from (first_sender (w.queue e)) block
 
--- who waits after a receive: the first sender waits no more; where none waits, the receiver waits, if it blocks
+-- who waits after a receive: the first sender waits no more; if none waits, the receiver waits, if it blocks
 abbrev pub after_receive : Bool → ℕ → ℕ → Waits → Waits
 after_receive block e thread w = waits_received_from (first_sender (w.queue e)) block e thread w
 
@@ -112,7 +112,7 @@ endpoint_of (Receiving e) = e
 abbrev pub thread_waiting : Waits → ℕ → ℕ → Option ℕ
 thread_waiting w e place = option_map thread_of (slice_get (w.queue e) place)
 
--- wherever a thread waits, this is the one that waits next after it, if any does
+-- if a thread waits, this is the one that waits next after it, if any does
 abbrev pub IsNextBehind : Waits → ℕ → Option ℕ → Type 0
 IsNextBehind w thread next =
     (e place : ℕ) → thread_waiting w e place ≡ Some thread → next ≡ thread_waiting w e (place + 1)

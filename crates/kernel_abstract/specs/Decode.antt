@@ -139,7 +139,7 @@ ensure_live (Some thread) found = ensure_ready thread.state found
 abbrev pub checked_call : ProfileName → Shown → Call → Result Invocation Reason
 checked_call p v call = ensure_live (get v.threads call.thread) (checked_op p v.derivations call.thread call.op)
 
--- why a call is refused; None where it is not
+-- why a call is refused; None if it is not
 abbrev pub reason_in : Result Invocation Reason → Option Reason
 reason_in (Ok invocation) = None
 reason_in (Err reason) = Some reason

@@ -41,7 +41,7 @@ threads_of f = filter_map tcb_base (caps f)
 abbrev pub endpoints_of : Forest Entry → List ℕ
 endpoints_of f = filter_map endpoint_base (caps f)
 
--- what a thread does, and what was delivered to it last; None where no live thread is at the address
+-- what a thread does, and what was delivered to it last; None if no live thread is at the address
 abbrev pub state_at : Shown → ℕ → Option ThreadState
 state_at v t = option_map (λ (thread : ThreadView). thread.state) (get v.threads t)
 
@@ -49,7 +49,7 @@ state_at v t = option_map (λ (thread : ThreadView). thread.state) (get v.thread
 abbrev pub inbox_at : Shown → ℕ → Option Inbox
 inbox_at v t = option_and_then (λ (thread : ThreadView). thread.inbox) (get v.threads t)
 
--- the waiting list of an endpoint, empty where no live endpoint is at the address
+-- the waiting list of an endpoint, empty if no live endpoint is at the address
 abbrev pub waiting_at : Shown → ℕ → List Waiter
 waiting_at v e = unwrap_or (get v.endpoints e) []
 

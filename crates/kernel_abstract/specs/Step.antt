@@ -139,7 +139,7 @@ abbrev pub outcome : ProfileName → State → ℕ → Result Invocation Refusal
 outcome p A thread (Err refusal) = record { reply = Refused refusal; state = next_call A }
 outcome p A thread (Ok invocation) = performed p A thread invocation
 
--- one call: where a check fails it is refused, and nothing but the count changes
+-- one call: if a check fails it is refused, and only the count changes
 unfoldable pub step : ProfileName → State → Call → Outcome
 step p A call = outcome p A call.thread (decoded_call p (shown A) call)
 

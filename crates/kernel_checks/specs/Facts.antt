@@ -43,7 +43,7 @@ abbrev pub AreThere : Forest Entry → List Held → Type 0
 AreThere f [] = ⊤
 AreThere f (held ∷ helds) = IsThere f held × AreThere f helds
 
--- what a reason tells is so
+-- what a reason says is so
 abbrev pub TellsTruly : {X : Type 0} → Forest Entry → Result X Reason → Type 0
 TellsTruly f (Ok x) = ⊤
 TellsTruly f (Err reason) = AreThere f (told_by reason)

@@ -30,11 +30,11 @@ IsResolution p cap_in slot bits = with_fault (walked p cap_in slot bits) ≡ res
 abbrev pub IsTarget : ProfileName → (ℕ → Cap) → Word → ℕ → ℕ → ℕ → Type 0
 IsTarget p cap_in word root index depth = with_refusal (slot_by_index p cap_in word root index depth) ≡ target_slot p cap_in (cap_in root) index depth
 
--- there is a reason exactly where the reply of the step is a refusal, and its refusal is the reply
+-- there is a reason exactly if the reply of the step is a refusal, and its refusal is the reply
 abbrev pub IsReasonOfReply : ProfileName → State → Call → Type 0
 IsReasonOfReply p A call = option_map refusal_of (reason_of p (shown A) call) ≡ refusal_in (step p A call).reply
 
--- each slot that the reason names holds what it tells
+-- each slot that the reason names holds what it says
 abbrev pub IsToldTruly : ProfileName → Shown → Call → Type 0
 IsToldTruly p v call = TellsTruly v.derivations (checked_call p v call)
 

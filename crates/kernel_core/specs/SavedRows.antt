@@ -12,6 +12,6 @@ with_row rows live = slice_set rows live.place (Some live.row)
 abbrev pub rows_with : List (Option ThreadRow) → List LiveRow → List (Option ThreadRow)
 rows_with = fold with_row
 
--- the rows of a memory, where these are all
+-- the rows of a memory, if these are all
 abbrev pub rows_saved : ProfileName → ℕ → List LiveRow → List (Option ThreadRow)
 rows_saved p memory = rows_with (replicate (2 ^ (memory - tcb_bits p)) None)

@@ -32,6 +32,6 @@ pub record IsChained (links : List (Option Slot)) (here : Option ℕ) : Type 0 w
 abbrev pub chain_seen : ProfileName → List (Option Slot) → Option Slot → List ℕ × ℕ
 chain_seen p links first = (map (λ n. n * slot_size p) (chained links (place_in first)), length links * slot_size p)
 
--- the first of the slots is taken out, where there is one
+-- the first of the slots is taken out, if there is one
 abbrev pub IsTaken : ProfileName → List ℕ → List ℕ → Option Slot → Type 0
 IsTaken p old new slot = MatchOption slot ((old ≡ []) × (new ≡ [])) (λ s. old ≡ address_of p s ∷ new)

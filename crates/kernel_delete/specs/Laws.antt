@@ -15,13 +15,13 @@ use Rattle.kernel_delete.specs.Work.{IsClearable}
 abbrev pub IsTheOnly : ProfileName → List Entry → ℕ → (ℕ → Bool) → Type 0
 IsTheOnly p l s X = IsLeast p l s X → X ≡ cleared p l s
 
--- where slots are distinct, and the list has those that are cleared, they leave one after another as all at once
+-- if slots are distinct, and the list has those that are cleared, they leave one after another as all at once
 abbrev pub LeaveInOrder : ProfileName → Forest Entry → ℕ → List ℕ → Type 0
 LeaveInOrder p f s ns =
     IsDistinct eqb (slots f) → ((n : ℕ) → list_any (λ m. m == n) ns ≡ cleared p (preorder f) s n) →
     all_emptied ns f ≡ clear p s f
 
--- an object whose capability stands in one of its own slots, and not in the one that is cleared, stays, and so does this
+-- an object whose capability is in one of its own slots, and not in the one that is cleared, stays, and so does this
 -- capability
 abbrev pub StaysInItself : ProfileName → ℕ → List Entry → ℕ → Entry → Type 0
 StaysInItself p size l s b =

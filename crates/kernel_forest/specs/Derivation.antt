@@ -41,7 +41,7 @@ with_free free cap = cap
 abbrev pub freed : ℕ → ℕ → Forest Entry → Forest Entry
 freed slot free f = renamed (λ (e : Entry). cond (is_at slot e) (entry e.slot (with_free free e.cap) e.original) e) f
 
--- where a slot is emptied, its children take its place, in their order
+-- a slot is emptied, and its children take its place, in their order
 abbrev pub emptied : ℕ → Forest Entry → Forest Entry
 emptied slot f = out (is_at slot) f
 
@@ -50,7 +50,7 @@ abbrev pub names_same : Cap → Cap → Bool
 names_same (Untyped a bits free) (Untyped b bits' free') = a == b && bits == bits'
 names_same a b = same_object a b
 
--- some slot names the object of a capability that is no untyped one
+-- some slot names the object of a capability that is not untyped
 abbrev pub is_named : Cap → Forest Entry → Bool
 is_named cap f = list_any (λ (e : Entry). same_object e.cap cap) (preorder f)
 

@@ -138,7 +138,7 @@ abbrev pub next_child : ProfileName → Marked → List Marked → Option ℕ
 next_child p s [] = None
 next_child p s (b ∷ l) = cond (is_parent p s b) (Some (b.place * slot_size p)) None
 
--- the newest child of each slot is the next slot, where it is parent of that, and else it has none
+-- the newest child of each slot is the next slot, if it is parent of that, and otherwise it has none
 abbrev pub HasChildrenNext : ProfileName → List Marked → Type 0
 HasChildrenNext p l =
     (pre : List Marked) (s : Marked) (post : List Marked) → l ≡ pre ++ s ∷ post →
@@ -155,7 +155,7 @@ abbrev pub is_named_behind : Marked → List Marked → Bool
 is_named_behind s [] = false
 is_named_behind s (b ∷ l) = same_object b.cap s.cap
 
--- each slot's capability is the last of its object where it is untyped, or neither neighbour names the object
+-- each slot's capability is the last of its object exactly if it is untyped, or neither neighbour names the object
 abbrev pub HasLastsAlone : ProfileName → List Marked → Type 0
 HasLastsAlone p l =
     (pre : List Marked) (s : Marked) (post : List Marked) → l ≡ pre ++ s ∷ post →

@@ -41,7 +41,7 @@ abbrev pub handed_on : Bool → List Marked → List Marked
 handed_on mark [] = []
 handed_on mark (h ∷ q) = with_mark mark h ∷ q
 
--- the slot at a place leaves, and hands its first-badged mark on to the next
+-- the slot at a place leaves, and gives its first-badged mark to the next
 abbrev pub taken_out : ℕ → List Marked → List Marked
 taken_out place [] = []
 taken_out place (r ∷ l) = cond (r.place == place) (handed_on r.first_badged l) (r ∷ taken_out place l)

@@ -34,7 +34,7 @@ pub record IsClientRun (old : ClientState) (calls : List Call) (new : ClientStat
   pub later : StartsWith new.front old.front
   pub grown : client_calls_made new ≡ client_calls_made old ++ take (made + length (newly_lost old.stray new.stray)) calls
 
--- it came to the end of its list exactly where nothing stopped it
+-- it came to the end of its list exactly if nothing stopped it
 pub record IsThreadResult (ends : ℕ → ℕ → Type 0) (limit : ℕ) (old : ClientState) (calls : List Call) (new : ClientState) (made : ℕ) (end : End) : Type 0 where
   pub run : IsClientRun old calls new made
   pub ended : (end ≡ E.Done) ↔ (made ≡ length calls)
@@ -46,7 +46,7 @@ module _ {N T : Type 0} where
   Stopped ends limit t (Some Gate) = ends t.id t.done
   Stopped ends limit t (Some (Fault fault)) = Told limit t fault
 
-  -- a client that was driven: its run, and what stopped it, where something did
+  -- a client that was driven: its run, and what stopped it, if something did
   pub record IsDriven (ends : ℕ → ℕ → Type 0) (limit : ℕ) (old : ClientState) (calls : List Call) (new : ClientState) (made : ℕ) (stopped : Option (Stop N T)) : Type 0 where
     pub run : IsClientRun old calls new made
     pub ended : (stopped ≡ None) ↔ (made ≡ length calls)

@@ -13,7 +13,7 @@ use Rattle.kernel_forest.specs.Marked.{Marked, marked, IsMarkedList}
 abbrev pub empty_link : Link
 empty_link = record { cap = Null; previous = None; next = None; revocable = false; first_badged = false }
 
--- the place of a slot, where there is one
+-- the place of a slot, if there is one
 abbrev pub place_in : Option Slot → Option ℕ
 place_in slot = option_map (λ (s : Slot). s.place) slot
 
