@@ -36,7 +36,7 @@ DeliversPairs p A calls replies =
     (e : Instance) →
     map delivery (pairs (state_after p A calls) e) ≡ map delivery (pairs A e) ++ delivered p A e calls replies
 
--- no send and no receive stands on an endpoint
+-- no send and no receive is recorded for an endpoint
 pub record IsUnused (A : State) (e : Instance) : Type 0 where
   pub sends : sends_to A e ≡ []
   pub receives : receives_of A e ≡ []

@@ -24,7 +24,7 @@ abbrev pub planned : ℕ → ℕ → ℕ → ℕ → List (ℕ × ℕ) → Plan
 planned memory_bits root_radix threads endpoints untypeds =
     record { memory_bits = memory_bits; root_radix = root_radix; threads = threads; endpoints = endpoints; untypeds = untypeds }
 
--- the address of the first thread control block: past the root CNode, which stands at 0
+-- the address of the first thread control block: past the root CNode, which is at 0
 abbrev pub first_tcb : ProfileName → Plan → ℕ
 first_tcb p plan = least_multiple (tcb_size p) (2 ^ (slot_bits p + plan.root_radix))
 

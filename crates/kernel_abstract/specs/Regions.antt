@@ -32,7 +32,7 @@ pub record IsForest (p : ProfileName) (f : Forest Entry) : Type 0 where
   pub regions : AreRegions p f
 
 -- live objects are disjoint, or one is an untyped region around the other; a capability stands in one line with each untyped
--- one around its object; and where an untyped has children, what stands below it ends within what is used
+-- one around its object; and if an untyped has children, what is below it ends within what is used
 pub record AreObjectsApart (p : ProfileName) (f : Forest Entry) : Type 0 where
   pub disjoint : IsDisjoint p f
   pub used : IsUsedUp p f

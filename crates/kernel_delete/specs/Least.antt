@@ -19,7 +19,7 @@ abbrev pub IsClosed : ProfileName → List Entry → (ℕ → Bool) → Type 0
 IsClosed p l X =
     Each (λ (a : Entry). has_all l X a ≡ true → Each (λ n. full l n ≡ true → X n ≡ true) (slots_of p a.cap)) l
 
--- the least set of full slots that has s, where s is full, and is closed
+-- the least closed set of full slots, with s if s is full
 pub record IsLeast (p : ProfileName) (l : List Entry) (s : ℕ) (X : ℕ → Bool) : Type 0 where
   pub of_full : (n : ℕ) → X n ≡ true → full l n ≡ true
   pub has_it : full l s ≡ true → X s ≡ true
