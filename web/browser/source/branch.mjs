@@ -66,7 +66,8 @@ export class Branch {
       return;
     }
     Object.assign(this, { at, calls });
-    page.steps.tell({ trace: traceBefore(output, at + calls.length + 1), name: page.title, number: at + calls.length, branch: at, canAsk: true });
+    page.steps.tell({ trace: traceBefore(output, at + calls.length + 1), name: page.title, number: at + calls.length, branch: at, canAsk: true,
+      own: page.steps.told.trace });
   }
 
   /** The call that is shown is another one: before the branch it is left. */

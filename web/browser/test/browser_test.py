@@ -21,6 +21,7 @@ import time
 TOP = pathlib.Path(__file__).resolve().parent.parent.parent.parent
 sys.path[:0] = [str(TOP / "web" / "page" / "test"), str(TOP / "tests"), str(TOP / "web" / "browser" / "test"), str(TOP / "web" / "browser")]
 
+import asked_by_hand  # noqa: E402
 import build  # noqa: E402
 import chromium  # noqa: E402
 import drawn  # noqa: E402

@@ -5,6 +5,7 @@ import { dim, element, fold, foldBehind, heading, sign } from "./element.mjs";
 import { capabilityName, nameOfSlot, ringOf, signOf, slotName } from "./names.mjs";
 import { emptiedTrees, isSummedUp, markOf } from "./changes.mjs";
 import { inOrder } from "./order.mjs";
+import { sentenceOf } from "./sentence.mjs";
 
 // Of more unchanged or changed siblings than these, the rest is folded behind the first few.
 const MOST_UNCHANGED = 10;
@@ -109,13 +110,22 @@ class Forest {
   }
 }
 
+const drawTree = (view, label) => element("div", { class: "forest-scroll", tabindex: "0", role: "region", "aria-label": label }, new Forest(view).draw());
+
 /** The derivation forest of the state of a view. */
 export function drawForest(view) {
-  const list = new Forest(view).draw();
   const remark = `${view.after.slots.length} full slots; below each slot stands what was derived from it, in the `
     + "kernel's order";
-  const attributes = { class: "forest-scroll", tabindex: "0", role: "region", "aria-label": "Derivation forest, tree" };
-  return [heading("Derivation forest", remark), element("div", attributes, list)];
+  return [heading("Derivation forest", remark), drawTree(view, "Derivation forest, tree")];
+}
+
+/** The forest of the set-up's own run, which stands beside that of a call that it does not have. */
+export function drawForestAsItWas(view) {
+  const { step: { number, reply }, trace: { steps } } = view;
+  const behind = number === 0 ? "after boot" : `after call ${number}`;
+  const told = number === 0 ? [] : [sentenceOf(view), " ", element("span", { class: reply.startsWith("refused") ? "reply refused" : "reply" }, reply)];
+  const end = number === steps.length - 1 ? ", the last one" : "";
+  return [heading("As it was", `the set-up itself, ${behind}${end}`), element("p", {}, told), drawTree(view, "Derivation forest as it was, tree")];
 }
 
 /** Scrolls the forest so that what a step changed is in sight, or what it names where nothing changed: the first of it

@@ -4,7 +4,7 @@ import { Player } from "./player.mjs";
 import { Views } from "./views.mjs";
 import { firstMisfit } from "./state.mjs";
 import { drawChanges, drawSentence } from "./summary.mjs";
-import { drawForest, showChange } from "./forest.mjs";
+import { drawForest, drawForestAsItWas, showChange } from "./forest.mjs";
 import { drawMemory } from "./memory.mjs";
 import { drawReachTable, drawWays } from "./reach_table.mjs";
 import { drawSpaces } from "./spaces.mjs";
@@ -15,6 +15,7 @@ import { readAudits } from "./audits.mjs";
 import { drawSaver } from "./element.mjs";
 import { pictureOf } from "./picture.mjs";
 import { readTrace } from "./trace.mjs";
+import { wasAskedFor } from "./calls_to_ask.mjs";
 import { redraw } from "./redraw.mjs";
 import { WhatIf } from "./what_if.mjs";
 import { wordsOfSteps } from "./words.mjs";
@@ -46,6 +47,7 @@ class Page {
     this.calls = new CallList(byId("calls"), byId("list"), (number) => this.show(number));
     this.seer = null;
     this.views = null;
+    this.ownViews = null;
     this.number = 0;
     this.trace = { steps: [] };
     this.player = new Player(byId("play"), this);
@@ -83,12 +85,12 @@ class Page {
     this.show(number);
   }
 
-  /** Opens what the page around this one tells; calls may be asked for, and those behind `branch` were. In an exercise with a goal they are
-      those of its reader, `yours`. */
-  openTold({ trace, number, name, branch, canAsk, yours }) {
+  /** Opens what the page around this one tells; calls may be asked for, and those behind `branch` were, while `own` is the trace of the
+      set-up as it is. In an exercise with a goal they are those of its reader, `yours`. */
+  openTold({ trace, number, name, branch, canAsk, yours, own }) {
     byId("ask").hidden = !canAsk;
     byId("ask").textContent = yours ? "your call" : "what if";
-    Object.assign(this, { branchFrom: branch, yours });
+    Object.assign(this, { branchFrom: branch, yours, ownViews: own === undefined ? null : new Views(readTrace(own)) });
     this.whatIf.take(yours, canAsk);
     this.open(trace, number ?? this.number, name);
   }
@@ -169,6 +171,7 @@ class Page {
     this.put("said", drawSentence(view));
     this.put("changed", drawChanges(view));
     this.drawForest(view);
+    this.drawAsItWas(view);
     this.put("memory", [drawMemory(view), this.drawSaver("memory")]);
     this.put("threads", [drawThreadsAndEndpoints(view), this.drawSaver("threads")]);
     this.put("reach", drawReachTable(view));
@@ -185,6 +188,16 @@ class Page {
   drawForest(view) {
     this.put("forest", [drawForest(view), this.drawSaver("forest")]);
     showChange(document.querySelector("#forest .forest-scroll"));
+  }
+
+  /** Beside what a call does that was asked for stands what the set-up's own calls did, as many of them as it has. */
+  drawAsItWas({ step: { number } }) {
+    const { ownViews } = this;
+    const isBeside = ownViews !== null && wasAskedFor(this.trace, number);
+    byId("was").hidden = !isBeside;
+    if (!isBeside) return;
+    this.put("was", drawForestAsItWas(ownViews.of(Math.min(number, ownViews.trace.steps.length - 1))));
+    showChange(document.querySelector("#was .forest-scroll"));
   }
 
   /** Behind which call the state that is shown stands. */
@@ -268,7 +281,7 @@ function listenToPointer() {
 /** While a call is asked for, a slot or a thread that is pressed in a drawing is taken into it. */
 function listenToPresses(page) {
   byId("main").addEventListener("click", ({ target }) => {
-    if (!page.whatIf.isOpen || target.closest("button, select, input, summary, #what-if")) return;
+    if (!page.whatIf.isOpen || target.closest("button, select, input, summary, #what-if, #was")) return;
     const [slot, thread] = [target.closest("[data-slot]")?.dataset.slot, target.closest("[data-thread]")?.dataset.thread];
     if (slot !== undefined) page.whatIf.press(Number(slot));
     else if (thread !== undefined) page.whatIf.pressThread(Number(thread));
@@ -286,7 +299,7 @@ function listenToControls(page) {
   byId("play").addEventListener("click", () => page.player.toggle());
   byId("more").addEventListener("click", () => page.toggleMore());
   byId("state-lines").addEventListener("toggle", () => page.drawLines());
-  window.addEventListener("resize", () => showChange(document.querySelector("#forest .forest-scroll")));
+  window.addEventListener("resize", () => document.querySelectorAll(".forest-scroll").forEach(showChange));
   window.addEventListener("hashchange", () => page.show(Number(location.hash.slice(1))));
   // The signs stand on a print, and otherwise beside the keys.
   const legend = document.querySelector("#what .legend");

@@ -1,0 +1,250 @@
+"""What if, as it is asked in a class: each of the fifteen operations by keys alone and by a finger alone, what was beside what would be, and the lecture
+on revocation without a line of TOML."""
+import json
+
+from drawn import at_call, in_themes
+from hearing import value
+from nothing_lost import EDITOR, FRAME, INSIDE
+from what_if import ASKED, EACH, FORM, POSITION, SAID, ask, button, centre, choose, open_form, root
+
+WAS = f"{INSIDE}.getElementById('was')"
+ACTIVE = f"{INSIDE}.activeElement"
+REPLY = f"{INSIDE}.querySelector('#said .reply')?.textContent"
+MOST_TABS = 40
+
+
+def asked_anew(test):
+    """The steps of an example behind its boot, with an empty form."""
+    at_call(test, "examples", "send_then_receive", 0)
+    test.browser.value(f"{FORM}.hidden || {button('close')}.click(), sel4sim.page.steps.focus()")
+
+
+def tab_to(test, holds, what):
+    """Goes on with Tab until something holds of the element that has the focus, `it`."""
+    for _ in range(MOST_TABS):
+        if test.browser.value(f"(({{ activeElement: it }}) => it !== null && {holds})({INSIDE})"):
+            return
+        test.browser.press("Tab")
+    test.say(f"no Tab leads to {what}")
+
+
+def choose_by_keys(test, wanted):
+    """Chooses in the list that has the focus, by arrows."""
+    at, to = test.browser.value(f"[{ACTIVE}.selectedIndex, [...{ACTIVE}.options].findIndex((it) => it.value === {json.dumps(wanted)})]")
+    for _ in range(abs(to - at)):
+        test.browser.press("ArrowDown" if to > at else "ArrowUp")
+    test.wanted(test.browser.value(f"{ACTIVE}.value") == wanted, f"arrows do not choose {wanted}")
+
+
+def fill_by_keys(test, label, given):
+    """Gives a field of the form what it is to have: a box to tick, a list, or a text."""
+    name = label.replace("_or_", " or ")
+    tab_to(test, f"[it.getAttribute('aria-label'), it.value].includes({json.dumps(name)})", name)
+    kind = test.browser.value(f"{ACTIVE}.type")
+    if kind == "checkbox":
+        if test.browser.value(f"{ACTIVE}.checked") != given:
+            test.browser.press(" ")
+    elif kind == "select-one":
+        choose_by_keys(test, given)
+    else:
+        test.browser.insert(given)
+
+
+def ask_by_keys(test, call):
+    """Asks for a call by keys alone, from the list of operations to the button."""
+    thread, operation, slot, to, fields, _, _ = call
+    choose_by_keys(test, operation)
+    for label, wanted in (("slot", slot), ("slot to fill", to)):
+        if wanted is not None:
+            tab_to(test, f"it.getAttribute('aria-label') === {json.dumps(label)}", label)
+            choose_by_keys(test, str(wanted))
+    rights = {right: True for right in "wrgp"} if operation in ("copy", "mint") else {}
+    # The fields come in the order in which they are drawn.
+    for label, given in sorted({**rights, **fields}.items(), key=lambda it: len(it[0]) > 1):
+        fill_by_keys(test, label, given)
+    tab_to(test, "it.textContent === 'try it'", "what asks")
+    # A thread is chosen before, in the list in front of that of the operations.
+    test.wanted(f"thread = {thread}," in test.browser.value(ASKED), f"{operation}: by keys {test.browser.value(ASKED)!r} is asked for")
+    test.browser.press(" ")
+
+
+def each_by_keys(test, _):
+    """Each operation by keys alone: a key opens the form, Tab and arrows fill it, the space bar asks; what it does is told by the live region, and a step
+    back, by its key, leaves it."""
+    browser = test.browser
+    asked_anew(test)
+    text = browser.value(f"{EDITOR}.text")
+    for call in EACH:
+        thread, operation, *_, reply, told = call
+        browser.value("sel4sim.page.steps.focus()")
+        browser.press("i")
+        test.until(f"!{FORM}.hidden && {ACTIVE}.getAttribute('aria-label') === 'operation'", "the key does not open what if")
+        browser.press("Tab", shift=True)
+        choose_by_keys(test, str(thread))
+        browser.press("Tab")
+        ask_by_keys(test, call)
+        test.until(f"{POSITION} === 'call 1 of 1'", f"{operation}: by keys nothing is run: {browser.value(ASKED)}")
+        got = browser.value(f"[{REPLY}, {SAID}]")
+        test.wanted(got[0] == reply and told in got[1] and got[1].startswith("what if 1"), f"{operation} by keys: {got}, and not {reply}, {told}")
+        test.wanted(browser.value(f"{INSIDE}.getElementById('said').getAttribute('aria-live')") == "polite", f"{operation} is not told")
+        browser.press("ArrowLeft")
+        test.until(f"{POSITION} === 'boot, 2 calls'", f"{operation}: a key does not lead back")
+        tab_to(test, "it.textContent === 'close'", "what closes")
+        browser.press(" ")
+    test.wanted(browser.value(f"{EDITOR}.text") == text, "what is asked for by keys changes the set-up")
+
+
+def tap(test, expression):
+    test.browser.tap_at(*centre(test, expression))
+
+
+def each_by_touch(test, _):
+    """Each operation by a finger on a phone: the thread, the slot and the one to fill are pressed in the drawings, and so are the buttons."""
+    browser = test.browser
+    browser.resize(390, 844)
+    browser.call("Emulation.setTouchEmulationEnabled", enabled=True)
+    asked_anew(test)
+    browser.value("sel4sim.page.lecture.project(true)")
+    tap(test, f"{INSIDE}.getElementById('more')")
+    for thread, operation, slot, to, fields, reply, told in EACH:
+        tap(test, f"{INSIDE}.getElementById('ask')")
+        test.until(f"!{FORM}.hidden", "a finger does not open what if")
+        # The list itself is drawn by the browser.
+        choose(test, "operation", operation)
+        tap(test, f"{INSIDE}.querySelector(\"#threads [data-thread='{thread}']\")")
+        for wanted in (slot, to):
+            if wanted is not None:
+                tap(test, f"{INSIDE}.querySelector(\"#spaces [data-slot='{wanted}']\")")
+        rights = {right: True for right in "wrgp"} if operation in ("copy", "mint") else {}
+        for label, given in {**rights, **fields}.items():
+            choose(test, label.replace("_or_", " or "), given)
+        tap(test, button("try it"))
+        test.until(f"{POSITION} === 'call 1 of 1'", f"{operation}: by a finger nothing is run: {browser.value(ASKED)}")
+        got = browser.value(f"[{REPLY}, {SAID}]")
+        test.wanted(got[0] == reply and told in got[1], f"{operation} by a finger: {got}, and not {reply}, {told}")
+        tap(test, button("take back"))
+        test.until(f"{POSITION} === 'boot, 2 calls'", f"{operation}: a finger does not take it back")
+        tap(test, button("close"))
+    browser.value("sel4sim.page.lecture.project(false)")
+    browser.call("Emulation.setTouchEmulationEnabled", enabled=False)
+    browser.resize_back()
+
+
+NODES = "[...{}.querySelectorAll('.node')].map((it) => it.textContent.replace(/\\s+/gu, ' ').trim())"
+
+
+def beside_what_was(test, _):
+    """Beside the forest of what is asked for stands that of as many of the set-up's own calls, with its sentence; at the end of the set-up the last one; it
+    takes no presses, and goes when the branch is left. Projected the two are side by side, in both themes."""
+    browser = test.browser
+    at_call(test, "examples", "revocation_of_badged_copies", 8)
+    own = browser.value(NODES.format(f"{INSIDE}.getElementById('forest')"))
+    at_call(test, "examples", "revocation_of_badged_copies", 7)
+    open_form(test)
+    test.wanted(browser.value(f"{WAS}.hidden"), "what was is told before anything is asked for")
+    ask(test, 2048, "delete", root(8))
+    shown = browser.value(f"[{WAS}.hidden, {WAS}.textContent]")
+    test.wanted(not shown[0] and "As it was" in shown[1] and "after call 8" in shown[1] and "revokes what was derived from root[8]" in shown[1] and "done" in shown[1],
+                f"beside it stands {shown}")
+    test.wanted(browser.value(NODES.format(WAS)) == own, "what was is drawn in another way than the set-up's own call")
+    before = browser.value(f"{FORM}.querySelector('select[aria-label=slot]').value")
+    browser.value(f"{WAS}.querySelector('[data-slot=\"160\"] > .node').click()")
+    test.wanted(browser.value(f"{FORM}.querySelector('select[aria-label=slot]').value") == before, "a slot of what was is taken into the call")
+    ask(test, 2048, "delete", root(9))
+    test.wanted("after call 9" in browser.value(f"{WAS}.textContent"), "beside the second call stands not the second one of the set-up")
+    browser.value(f"sel4sim.page.lecture.project(true), {INSIDE}.body.dataset.alone = 'forest'")
+    for width, height in ((1280, 800), (1920, 1080)):
+        browser.resize(width, height)
+        places = browser.value(f"['forest', 'was'].map((id) => (({{ left, right, top }}) => [left, right, top])({INSIDE}.getElementById(id).getBoundingClientRect()))")
+        test.wanted(places[0][1] <= places[1][0] and places[0][2] == places[1][2], f"at {width} what was stands not beside: {places}")
+    for width, height in ((320, 256), (390, 844)):
+        browser.resize(width, height)
+        wide = browser.value(f"[{INSIDE}.documentElement.scrollWidth, {FRAME}.clientWidth]")
+        test.wanted(wide[0] <= wide[1], f"at {width} what was overruns its window: {wide}")
+    browser.resize_back()
+    browser.value(f"delete {INSIDE}.body.dataset.alone, sel4sim.page.lecture.project(false)")
+    in_themes(test, lambda theme: test.wanted(browser.value(f"!{WAS}.hidden"), f"{theme}: what was goes"))
+    browser.value(f"sel4sim.page.steps.frame.contentDocument.getElementById('first').click()")
+    test.until(f"{POSITION} === 'boot, 13 calls' && {WAS}.hidden", "what was stays when the branch is left")
+    at_call(test, "examples", "send_then_receive", 2)
+    open_form(test)
+    ask(test, 2048, "delete", root(4))
+    test.wanted("after call 2, the last one" in browser.value(f"{WAS}.textContent"), f"behind the last call stands {browser.value(f'{WAS}.textContent')!r}")
+
+
+def told_to_a_reader(test, _):
+    """In the accessibility tree the form is a part with a name, each list and field has its name, the call that would be made is a status, and what was
+    is a part of its own."""
+    browser = test.browser
+    at_call(test, "examples", "send_then_receive", 1)
+    open_form(test)
+    choose(test, "operation", "mint")
+    ask(test, 2048, "mint", root(4), root(9), badge_or_guard="77")
+    frames = [it["frame"]["id"] for it in browser.call("Page.getFrameTree")["frameTree"].get("childFrames", [])]
+    nodes = [node for frame in frames for node in browser.call("Accessibility.getFullAXTree", frameId=frame)["nodes"] if not node.get("ignored")]
+    named = {(value(node, "role"), value(node, "name")) for node in nodes}
+    for wanted in (("region", "What if"), ("combobox", "thread"), ("combobox", "operation"), ("combobox", "slot"), ("combobox", "slot to fill"),
+                   ("textbox", "badge or guard"), ("button", "try it"), ("button", "keep"), ("button", "take back"), ("button", "close"), ("checkbox", "w"),
+                   ("group", "rights"), ("region", "As it was"), ("region", "Derivation forest as it was, tree")):
+        test.wanted(wanted in named, f"a reader is told no {wanted[0]} {wanted[1]!r}")
+    test.wanted(any(value(node, "role") == "status" for node in nodes), "the call that would be made is no status")
+    live = [node for node in nodes if any(it["name"] == "live" and it["value"].get("value") == "polite" for it in node.get("properties", []))]
+    test.wanted(live, "no part is spoken where it changes")
+    at_call(test, "examples", "guarded_address_space", 6)
+    nodes = [node for frame in frames for node in browser.call("Accessibility.getFullAXTree", frameId=frame)["nodes"] if not node.get("ignored")]
+    groups = [value(node, "name") for node in nodes if value(node, "role") == "group"]
+    test.wanted("The way of index 363, in bits" in groups, f"the way of a word is told as {groups}")
+
+
+def emptied(test):
+    """The slots that are struck out in the forest."""
+    return test.browser.value(f"[...{INSIDE}.querySelectorAll('#forest .node.emptied > b.code')].map((it) => it.textContent)")
+
+
+def lecture_on_revocation(test, _):
+    """The third lecture of docs/teaching.md, by keys and presses alone: the tree after five calls, the revoke that is first asked for, and what if at calls 7
+    and 9, with a revoke of another slot and a delete in its place. No line of the set-up is touched."""
+    browser = test.browser
+    at_call(test, "examples", "revocation_of_badged_copies", 0)
+    text = browser.value(f"{EDITOR}.text")
+    browser.value("sel4sim.page.steps.focus()")
+    browser.press("f")
+    for _ in range(5):
+        browser.press("ArrowRight")
+    test.until(f"{POSITION} === 'call 5 of 13'", "the arrows do not lead to call 5")
+    parents = browser.value(f"Object.fromEntries([...{INSIDE}.querySelectorAll('#forest [data-slot]')].map((it) =>"
+                            " [it.dataset.slot, it.parentElement.closest('[data-slot]')?.dataset.slot ?? null]))")
+    wanted = {root(8): root(5), root(9): root(5), root(10): root(8), root(11): root(9), root(12): root(8)}
+    test.wanted(all(parents[str(slot)] == str(parent) for slot, parent in wanted.items()), f"after five calls the tree is {parents}")
+    for key in ("h", "ArrowRight", "ArrowRight", "ArrowRight", "ArrowRight", "ArrowRight"):
+        browser.press(key)
+    test.until(f"{SAID}.includes('What does it change?') && {SAID}.startsWith('8 ')", f"the revoke is not asked for first: {browser.value(SAID)}")
+    test.wanted(emptied(test) == [], "what goes is shown before it is asked for")
+    browser.press("ArrowRight")
+    test.until(f"{SAID}.startsWith('8 ') && !{SAID}.includes('What does it change?')", "what the revoke does is not shown")
+    test.wanted(sorted(emptied(test)) == ["root[10]", "root[12]"], f"the revoke takes {emptied(test)}")
+    for key in ("h", "ArrowLeft"):
+        browser.press(key)
+    test.until(f"{POSITION} === 'call 7 of 13'", "there is no way back to call 7")
+    for behind, operation, slot, gone in ((7, "revoke", root(5), ["root[10]", "root[11]", "root[12]", "root[8]", "root[9]"]), (7, "revoke", root(9), ["root[11]"]),
+                                          (7, "delete", root(8), ["root[8]"]), (9, "revoke", root(9), ["root[11]"]), (9, "delete", root(8), ["root[8]"])):
+        browser.value(f"{FORM}.hidden || {button('close')}.click(), sel4sim.page.steps.go({behind})")
+        test.until(f"{POSITION} === 'call {behind} of 13'", f"call {behind} is not shown")
+        browser.press("i")
+        test.until(f"!{FORM}.hidden", "the key does not open what if")
+        choose(test, "operation", operation)
+        node = f"{INSIDE}.querySelector(\"#forest [data-slot='{slot}'] > .node\")"
+        browser.click_at(*centre(test, node))
+        test.wanted(f"root[{slot // 32}]" in browser.value(ASKED), f"a press on root[{slot // 32}] is told as {browser.value(ASKED)}")
+        browser.click_at(*centre(test, button("try it")))
+        test.until(f"{POSITION} === 'call {behind + 1} of {behind + 1}'", f"{operation} of root[{slot // 32}] is not run")
+        test.wanted(sorted(emptied(test)) == gone, f"behind call {behind}, {operation} of root[{slot // 32}] takes {sorted(emptied(test))}, and not {gone}")
+        browser.click_at(*centre(test, button("take back")))
+        test.until(f"{POSITION} === 'call {behind} of 13'", "what if is not taken back")
+    for key in ("Escape", "Escape"):
+        browser.value("sel4sim.page.steps.focus()")
+        browser.press(key)
+    test.wanted(browser.value(f"{EDITOR}.text") == text, "the lecture changes the set-up")
+
+
+CHECKS = (each_by_keys, each_by_touch, beside_what_was, told_to_a_reader, lecture_on_revocation)
