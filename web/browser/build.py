@@ -151,10 +151,15 @@ def topics():
     return [*(told[it] for it in FIRST_TOPICS), *for_tabs(), *(told[it] for it in others)]
 
 
+def packed(bytes_):
+    """Returns bytes as the page has them: by gzip, as base64."""
+    return base64.b64encode(gzip.compress(bytes_, 9, mtime=0)).decode()
+
+
 def compiled():
     """Returns the program's module, packed as the page has it, and the toolchain's line."""
     import module
-    return base64.b64encode(gzip.compress(module.module(), 9, mtime=0)).decode(), output("rt", "version")
+    return packed(module.module()), output("rt", "version")
 
 
 def taken():
@@ -171,9 +176,10 @@ def taken_editor():
     return style, re.search(r"<script>(.*?)</script>", made, re.S)[1]
 
 
-def data(packed):
+def data(module):
     """Returns what the page's script reads, as JSON that ends no element of a page."""
-    told = {"module": packed, "worker": (SOURCE / "worker.mjs").read_text(), "viewer": join.viewer(), "rules": RULES.read_text(), "topics": topics()}
+    told = {"module": module, "worker": (SOURCE / "worker.mjs").read_text(), "viewer": packed(join.viewer().encode()), "rules": RULES.read_text(),
+            "topics": topics()}
     return json.dumps(told, ensure_ascii=False).replace("<", "\\u003c")
 
 
@@ -187,13 +193,13 @@ def policy(style, *scripts):
             "form-action 'none'; require-trusted-types-for 'script'; trusted-types sel4sim")
 
 
-def page(made_of, packed, toolchain, editor_style, codemirror):
+def page(made_of, module, toolchain, editor_style, codemirror):
     """Returns the text of the page, which tells the commit that it is made of."""
     before, behind = (("colours.css", "shared.css", "wires.css"), ("style.css", "exercise.css"))
     style = "\n" + "".join([*((join.SOURCE / it).read_text() for it in before), editor_style, *((SOURCE / it).read_text() for it in behind)])
     style, codemirror, script = join.harmless(style, codemirror, join.joined(SOURCE / "page.mjs", apart=("worker.mjs",)))
     return join.filled((SOURCE / "page.html").read_text(), policy=policy(style, codemirror, script), style=style,
-                       commit=made_of, toolchain=toolchain, data=data(packed), codemirror=codemirror, script=script)
+                       commit=made_of, toolchain=toolchain, data=data(module), codemirror=codemirror, script=script)
 
 
 def draft():

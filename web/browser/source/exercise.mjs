@@ -148,7 +148,7 @@ export class Exercise {
   /** Shows a trace beside the sheet, at a call; `how` says what else there is to do with it. */
   showTrace(trace, number, how = { canAsk: false }) {
     const { page } = this;
-    this.steps ??= new Steps({ viewer: page.markup(page.data.viewer), title: "The run, call by call",
+    this.steps ??= new Steps({ viewer: page.viewer, title: "The run, call by call",
       listen: (frame) => page.keys.listenInFrame(frame), shown: () => {}, asked: (told) => this.goal.asked(told) });
     if (!this.steps.frame.isConnected) this.beside.append(this.steps.frame);
     this.trace = trace;

@@ -8,7 +8,7 @@ import { Exercise } from "./exercise.mjs";
 import { Lecture } from "./lecture.mjs";
 import { Options } from "./options.mjs";
 import { PageKeys } from "./page_keys.mjs";
-import { Program, STOPPED } from "./program.mjs";
+import { Program, STOPPED, unpacked } from "./program.mjs";
 import { Steps } from "./steps.mjs";
 import { POLICY, REPORT, STEPS, TABS } from "./tabs.mjs";
 import { Policy, isPolicy } from "./policy.mjs";
@@ -40,6 +40,7 @@ class Page {
   constructor(data) {
     this.data = data;
     this.markup = (text) => URLS.createHTML(text);
+    this.viewer = unpacked(data.viewer).then((bytes) => this.markup(decoded(bytes)));
     this.keys = new PageKeys(this);
     this.runs = new Runs(this);
     this.answers = new Answers(this);
@@ -50,7 +51,7 @@ class Page {
     this.editor = new Editor(byId("editor"), "Set-up", { changed: () => this.changed(), moved: (line) => this.follow(line),
       asked: (...mark) => this.hear(...mark) });
     this.options = new Options(byId("options"), () => this.given());
-    this.steps = new Steps({ viewer: this.markup(data.viewer), title: "The run, call by call",
+    this.steps = new Steps({ viewer: this.viewer, title: "The run, call by call",
       listen: (frame) => { this.keys.listenInFrame(frame); this.lecture.drawProjected(); },
       shown: (number) => this.showCall(number), asked: (told) => this.askWhatIf(told) });
     this.branch = new Branch(this);

@@ -8,7 +8,7 @@ const KEPT_MEMORY = 64 << 20;
 export const STOPPED = Symbol("stopped");
 
 /** The bytes of a text that was packed by gzip and base64. */
-async function unpacked(text) {
+export async function unpacked(text) {
   const packed = Uint8Array.from(atob(text), (letter) => letter.charCodeAt(0));
   const stream = new Blob([packed]).stream().pipeThrough(new DecompressionStream("gzip"));
   return new Uint8Array(await new Response(stream).arrayBuffer());
