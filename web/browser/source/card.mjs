@@ -1,4 +1,5 @@
 // One call of an exercise on its sheet: its words, the call as it is written, the fields for its answer, and what came of it.
+import { Cutting } from "./cutting.mjs";
 import { Prediction } from "./prediction.mjs";
 import { drawBits } from "./bits.mjs";
 import { code, dim, element } from "../../page/source/element.mjs";
@@ -22,15 +23,18 @@ export const STEPS_OF_HELP = HELP.length;
 const tag = (isGood, words) => element("span", { class: isGood ? "tag met" : "tag missed" }, words);
 
 export class Card {
-  /** `answered` is told the number of the call where its answer is changed, `step` where its effect is asked for, `rule` its operation
-      where the rule is asked for, and `help` the card where more help with a wrong answer is. */
-  constructor(call, { wordBits, ...objects }, { answered, step, rule, help }) {
+  /** `answered` is told the card where its answer is changed, `cut` where its bits are cut in another way, `step` the number of the call
+      where its effect is asked for, `rule` its operation where the rule is asked for, and `help` the card where more help with a wrong
+      answer is. `indices` has what is asked of the bits of each call, if anything is. */
+  constructor(call, { wordBits, indices, ...objects }, { answered, cut, step, rule, help }) {
     Object.assign(this, { call, step, help, wordBits, number: call.number, isShown: false, outcome: element("div", { class: "outcome" }) });
     this.prediction = call.asked ? new Prediction(call, objects, () => answered(this)) : null;
+    const asked = call.asked ? indices?.get(call.number) : undefined;
+    this.cutting = asked ? new Cutting(call.number, asked, () => cut(this)) : null;
     const words = call.words ? element("p", { class: "words" }, call.words) : null;
     this.pairs = drawPairs(call.pairs);
     this.element = element("li", { value: String(call.number), class: call.asked ? "card asks" : "card" }, words,
-      this.pairs, element("div", { class: "answering" }, this.prediction?.element, drawRule(call.pairs.get("op"), rule)),
+      this.pairs, this.cutting?.element, element("div", { class: "answering" }, this.prediction?.element, drawRule(call.pairs.get("op"), rule)),
       this.outcome);
   }
 
@@ -77,6 +81,7 @@ export class Card {
   /** Shows what was said, what the call was answered, and why. */
   show({ reply = "", outcome = "" }, reason = "") {
     const isRight = outcome === "met";
+    if (!this.isShown) this.cutting?.show();
     this.isShown = true;
     if (this.prediction) this.look(isRight);
     this.prediction?.element.remove();
@@ -85,14 +90,15 @@ export class Card {
     this.outcome.replaceChildren(...[
       this.prediction ? element("p", {}, mark, ` you said: ${this.prediction.words || "nothing"}`) : "",
       element("p", { class: "answered" }, "answered: ", code(reply), " ", dim(meaningOf(reply)), " ", effect),
-      this.call.because ? element("p", { class: "because" }, this.call.because) : "", ...(reason ? [drawReason(reason), drawBits(reason, this.wordBits)] : []),
+      this.call.because ? element("p", { class: "because" }, this.call.because) : "", ...(reason ? [drawReason(reason), this.cutting ? null : drawBits(reason, this.wordBits)] : []),
     ].filter(Boolean));
   }
 
   /** Puts the focus on the answer, and the card into sight. */
   focus() {
     this.element.scrollIntoView({ block: "center" });
-    this.prediction?.focus();
+    if (this.cutting?.isWrong && !this.isWrong) this.cutting.focus();
+    else this.prediction?.focus();
   }
 
   /** Puts the focus on what came of the answer. */

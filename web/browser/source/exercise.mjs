@@ -11,6 +11,7 @@ import { button, element } from "../../page/source/element.mjs";
 import { drawPrinted } from "./printed.mjs";
 import { exerciseOf, withExpectations } from "./exercise_text.mjs";
 import { goalOf } from "./goal_text.mjs";
+import { indicesOf } from "./cutting.mjs";
 import { keepAt, keptAt } from "./kept.mjs";
 import { reasonsByCall } from "./why.mjs";
 import { traceBefore } from "./trace_text.mjs";
@@ -18,15 +19,16 @@ import { wordBitsOf } from "./places.mjs";
 
 /** What is kept of all exercises, by the texts that ask. */
 const KEPT = "sel4sim.exercises";
-const NEW = { stage: ASKED, answers: {}, marked: {}, tries: 0, atFirst: [], right: 0, checked: {}, wasLeft: false, helped: {} };
+const NEW = { stage: ASKED, answers: {}, marked: {}, tries: 0, atFirst: [], right: 0, checked: {}, wasLeft: false, helped: {}, cuts: {}, markedCuts: {},
+  bits: { of: 0, right: 0 } };
 const NARROW = "(max-width: 800px)";
 /** What a retype makes where it makes threads or endpoints. */
 const KINDS_MADE = { threads: "1", endpoints: "2" };
 
 /** What came of an exercise that was opened before: "right", "begun" or "". */
 export function cameOf(text) {
-  const { stage, right, of } = keptAt(KEPT)[text] ?? {};
-  if (stage === SHOWN && right === of) return "right";
+  const { stage, right, of, bits = NEW.bits } = keptAt(KEPT)[text] ?? {};
+  if (stage === SHOWN && right === of && bits.right === bits.of) return "right";
   return stage === MARKED || stage === SHOWN ? "begun" : "";
 }
 
@@ -66,7 +68,8 @@ export class Exercise {
     this.sheet = new Sheet(sheet, {
       mark: () => this.alone(() => this.mark()), check: () => this.alone(() => this.checkOne()), reveal: () => this.alone(() => this.reveal()),
       save: () => this.save(), restart: () => this.restart(), leave: () => this.leave(), next: () => page.openNext(),
-      turn: (inTurn) => this.keep({ inTurn }), answered: (card) => this.answered(card), step: (number) => this.showStep(number),
+      turn: (inTurn) => this.keep({ inTurn }), answered: (card) => this.answered(card),
+      cut: () => this.keep({ cuts: this.sheet.cuts }), step: (number) => this.showStep(number),
       see: () => this.heading.scrollIntoView(), rule: (operation) => page.rules.show(operation),
       help: (card) => this.alone(() => this.help(card)),
     });
@@ -124,9 +127,10 @@ export class Exercise {
     const first = this.told.calls.find(({ asked }) => asked).number;
     const before = traceBefore(trace, first);
     const objects = objectsOf(before, this.told.calls.slice(first - 1));
-    this.sheet.draw(this.told, this.page.title, { ...objects, wordBits: wordBitsOf(this.text) });
+    this.sheet.draw(this.told, this.page.title, { ...objects, wordBits: wordBitsOf(this.text), indices: this.told.inBits ? indicesOf(trace) : undefined });
     this.isDrawing = true;
     for (const card of this.sheet.asking) card.answer = this.state.answers[card.number] ?? "";
+    for (const { number, cutting } of this.sheet.cutting) cutting.value = this.state.cuts[number] ?? [];
     this.isDrawing = false;
     this.sheet.parent.inert = false;
     this.heading.textContent = first > 1 ? `The state before call ${first}` : "The state after boot";
@@ -176,12 +180,12 @@ export class Exercise {
 
   /** Keeps what is new of the state, and shows how far one is. */
   keep(news) {
-    Object.assign(this.state, news);
+    Object.assign(this.state, news, { bits: this.bits });
     this.keepState(this.state);
-    const { stage, of, atFirst, inTurn } = this.state;
+    const { stage, of, atFirst, inTurn, bits } = this.state;
     const { checked, current } = this;
     const right = current ? checked.filter((number) => this.state.checked[number]).length : this.state.right;
-    this.sheet.show({ stage, right, given: this.given.length, of, inTurn, atFirst: atFirst.length, current, checked: checked.length, isLast: !this.next });
+    this.sheet.show({ stage, right, given: this.given.length, of, bits, inTurn, atFirst: atFirst.length, current, checked: checked.length, isLast: !this.next });
     if (news.stage) this.drawCourse();
   }
 
@@ -202,6 +206,17 @@ export class Exercise {
     const { stage, inTurn, checked } = this.state;
     if (stage !== ASKED || !inTurn) return 0;
     return this.sheet.asking.find(({ number }) => checked[number] === undefined)?.number ?? 0;
+  }
+
+  /** How many indices are asked for in bits, and how many of them are marked as read right. */
+  get bits() {
+    const { cutting } = this.sheet;
+    return { of: cutting.length, right: cutting.filter((it) => it.cutting.isMarked && it.cutting.isRight).length };
+  }
+
+  /** Whether no bits are asked for any more. */
+  get areBitsRead() {
+    return this.sheet.cutting.every(({ cutting }) => cutting.isShown || cutting.isMarked && cutting.isRight);
   }
 
   /** The set-up with the answers in it. */
@@ -230,24 +245,27 @@ export class Exercise {
   /** Has the program mark the answers; one try more. */
   async mark() {
     const { tries, atFirst } = this.state;
-    const right = await this.drawMarks(Object.fromEntries(this.sheet.answers));
+    const right = await this.drawMarks(Object.fromEntries(this.sheet.answers), this.sheet.cuts);
     if (!right) return;
     this.keep({ tries: tries + 1, atFirst: tries === 0 ? right : atFirst });
     if (this.state.stage === SHOWN) this.sheet.status.focus();
     else this.sheet.cards.get(this.sheet.wrong[0])?.focus();
   }
 
-  /** Marks the answers that are as these, and shows all of them where they are right or were asked for: the numbers of the right
-      ones, or null. */
-  async drawMarks(marked) {
+  /** Marks the answers and the bits that are as these, and shows all of them where they are right or were asked for: the numbers of the
+      right answers, or null. */
+  async drawMarks(marked, markedCuts = this.state.markedCuts) {
     const replies = await this.replies();
     if (!replies) return null;
     const cards = this.sheet.asking.filter(({ number, answer }) => answer && marked[number] === answer);
     const isRight = ({ number }) => replies.get(number)?.outcome === "met";
     for (const card of cards) card.mark(isRight(card), this.state.helped[card.number]);
+    for (const { number, cutting } of this.sheet.cutting) {
+      if (markedCuts[number]?.join() === cutting.value.join()) cutting.mark();
+    }
     const right = cards.filter(isRight).map(({ number }) => number);
-    const isShown = this.state.stage === SHOWN || right.length + this.given.length === this.state.of;
-    this.keep({ marked, right: right.length, stage: isShown ? SHOWN : MARKED });
+    const isShown = this.state.stage === SHOWN || right.length + this.given.length === this.state.of && this.areBitsRead;
+    this.keep({ marked, markedCuts, right: right.length, stage: isShown ? SHOWN : MARKED });
     if (isShown) await this.showAll(replies);
     else await this.drawHelped(replies);
     return right;
@@ -260,7 +278,7 @@ export class Exercise {
     const replies = await this.replies();
     if (!replies) return;
     this.keep({ helped: { ...helped, [card.number]: steps } });
-    if (this.given.length + right === of) {
+    if (this.given.length + right === of && this.areBitsRead) {
       await this.reveal();
       return;
     }
@@ -322,6 +340,7 @@ export class Exercise {
   async showAll(replies) {
     const shown = await this.showCards(replies, Infinity);
     if (!shown) return;
+    this.keep({});
     this.heading.textContent = "The run, call by call";
     this.showTrace(shown, this.sheet.first);
   }
@@ -373,12 +392,12 @@ export class Exercise {
 
   /** How the answers came about, in words. */
   get story() {
-    const { right, of, atFirst, tries, stage, inTurn, wasLeft, helped } = this.state;
+    const { right, of, atFirst, tries, stage, inTurn, wasLeft, helped, bits } = this.state;
     const looked = wasLeft ? "the report was looked at" : "";
     if (stage === ASKED) return [`${this.sheet.answers.size} of ${of} answered, not marked`, looked].filter(Boolean).join(", ");
     const later = this.sheet.asking.map(({ number }) => number).filter((number) => !atFirst.includes(number));
     const words = [`${right} of ${of} right`, `${atFirst.length} at the first try${later.length > 0 ? ` (not ${later.join(", ")})` : ""}`,
-      `tries ${tries}`, inTurn ? "one at a time" : "", hintsOf(helped), this.given.length > 0 ? `shown one by one ${this.given.join(" ")}` : "",
+      `tries ${tries}`, bits.of > 0 ? `bits ${bits.right} of ${bits.of}` : "", inTurn ? "one at a time" : "", hintsOf(helped), this.given.length > 0 ? `shown one by one ${this.given.join(" ")}` : "",
       stage === SHOWN && right + this.given.length < of ? "then shown" : "", looked];
     return words.filter(Boolean).join(", ");
   }

@@ -5,6 +5,8 @@ import { lastLineOf, placesOf } from "./places.mjs";
 const TITLE = /^exercise:\s*(.*)$/u;
 /** A line at the head by which the calls are asked one at a time. */
 const IN_TURN = "in turn";
+/** A line at the head by which it is asked too how the bits of each index are read. */
+const IN_BITS = "in bits";
 const MAY_ASK = /["']\?/u;
 const QUESTION = /^\?(?: (from|to|badge|label|words))?$/u;
 const PAIR = /(\w+)\s*=\s*("[^"]*"|'[^']*'|\[[^\]]*\]|[^\s,}]+)/gu;
@@ -35,14 +37,15 @@ function wordsAbove(lines, line) {
   return { words: join(comments.filter((it) => !isReason(it))).replace(/^\d+\.\s+/u, ""), because: join(comments.filter(isReason)) };
 }
 
-/** What the comments at the head tell: the title, the paragraphs of the task, and whether the calls are asked in turn. */
+/** What the comments at the head tell: the title, the paragraphs of the task, and whether the calls are asked in turn, and their indices
+    in bits. */
 export function headOf(lines) {
   const end = lines.findIndex((it) => !isComment(it));
   const head = lines.slice(0, end < 0 ? lines.length : end).map(bareComment);
   const [, title = ""] = TITLE.exec(head[0] ?? "") ?? [];
-  const told = head.slice(title ? 1 : 0).filter((it) => it !== IN_TURN);
+  const told = head.slice(title ? 1 : 0).filter((it) => it !== IN_TURN && it !== IN_BITS);
   const task = told.join("\n").split(/\n\s*\n/u).map((it) => it.replace(/\n/gu, " ").trim()).filter(Boolean);
-  return { title, task, inTurn: head.includes(IN_TURN) };
+  return { title, task, inTurn: head.includes(IN_TURN), inBits: head.includes(IN_BITS) };
 }
 
 /** A call's keys and values, in the order in which they are written; but for what is expected of it. */
@@ -61,7 +64,7 @@ function askedBy(expectation) {
   return found ? { last: found[1] ?? null } : null;
 }
 
-/** The exercise in a set-up: `{ title, task, inTurn, calls }`, or null where no call asks. Each call has its `number`, `words`,
+/** The exercise in a set-up: `{ title, task, inTurn, inBits, calls }`, or null where no call asks. Each call has its `number`, `words`,
     `because`, `pairs` and `asked`. */
 export function exerciseOf(text) {
   // Most set-ups ask nothing, and one of many calls is not read for that.

@@ -32,8 +32,17 @@ export function drawBefore(cards) {
 /** The way to the state, where it stands below the sheet. */
 export const drawWay = (words, see) => element("p", { class: "way" }, link(words, see));
 
-/** How far one is, in words. */
-function progressOf({ stage, right, given, of, atFirst, missing, wrong, current, checked }) {
+/** Drawn once where bits are asked for. */
+const HOW_TO_CUT = "Click the bits of each index apart: where the guard of a CNode ends, where the number of a slot ends, and where the lookup ends. "
+  + "With keys: left and right, and the space bar.";
+
+/** How far one is, in words; where bits are asked for, how many of them are read right. */
+function progressOf(view) {
+  const { stage, bits } = view;
+  return bits.of > 0 && stage !== ASKED ? `${progressOfAnswers(view)} Bits: ${bits.right} of ${bits.of} read right.` : progressOfAnswers(view);
+}
+
+function progressOfAnswers({ stage, right, given, of, atFirst, missing, wrong, current, checked }) {
   if (current) return `${right} of ${checked} right; call ${current} is asked, ${of - checked} to go.`;
   if (stage === SHOWN) return `${right} of ${of} right, ${atFirst} at the first try. Each answer and its reason stand below the call.`;
   if (wrong.length > 0) return `${right} of ${of} right${given > 0 ? `, ${given} shown` : ""}. Change what is marked ✗: ${wrong.join(", ")}.`;
@@ -68,6 +77,7 @@ export class Sheet {
     const others = [...this.cards.values()].slice(made.length);
     this.before = drawBefore(made);
     this.parent.replaceChildren(...[this.course, ...drawTask(title || name, counted(this.asking.length, "question"), task), this.printed,
+      this.cutting.length > 0 ? element("p", { class: "dim" }, HOW_TO_CUT) : null,
       drawWay("the state that the questions begin in", this.acts.see), this.before,
       element("ol", { class: "cards" }, others.map((card) => card.element)), this.marking].filter(Boolean));
   }
@@ -88,13 +98,23 @@ export class Sheet {
     return new Map(this.asking.map(({ number, answer }) => [number, answer]).filter(([, answer]) => answer));
   }
 
-  /** The numbers of the calls without an answer, and of those whose answer is marked as wrong. */
+  /** The cards that ask for bits. */
+  get cutting() {
+    return this.asking.filter(({ cutting }) => cutting);
+  }
+
+  /** Behind which bits they are cut, by the numbers of their calls. */
+  get cuts() {
+    return Object.fromEntries(this.cutting.map(({ number, cutting }) => [number, cutting.value]));
+  }
+
+  /** The numbers of the calls without an answer, and of those whose answer is marked as wrong, or whose bits are. */
   get missing() {
     return this.asking.filter(({ answer }) => !answer).map(({ number }) => number);
   }
 
   get wrong() {
-    return this.asking.filter(({ isWrong }) => isWrong).map(({ number }) => number);
+    return this.asking.filter(({ isWrong, cutting }) => isWrong || cutting?.isWrong).map(({ number }) => number);
   }
 
   /** Shows how far one is: the words, and what can be done. Where one call is asked at a time, those behind it are hidden. */

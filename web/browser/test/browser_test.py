@@ -33,6 +33,7 @@ import hearing  # noqa: E402
 import held  # noqa: E402
 import helped  # noqa: E402
 import hostile_texts  # noqa: E402
+import in_bits  # noqa: E402
 import lectures  # noqa: E402
 import nothing_lost  # noqa: E402
 import sheets  # noqa: E402
@@ -689,7 +690,8 @@ def main():
         same_answers(test, setups)
         marks(test, setups)
         for check in (same_with_options, typing, *first_minute.CHECKS, *nothing_lost.CHECKS, *gives_nothing_away.CHECKS, *helped.CHECKS, *sheets.CHECKS, *teacher.CHECKS,
-                      *hearing.CHECKS, *lectures.CHECKS, *drawn.CHECKS, *what_if.CHECKS, *goals_reached.CHECKS, *held.CHECKS, files, tabs, new_tabs, reading, trapped, nothing_leaves):
+                      *hearing.CHECKS, *lectures.CHECKS, *drawn.CHECKS, *what_if.CHECKS, *asked_by_hand.CHECKS,
+                      *goals_reached.CHECKS, *in_bits.CHECKS, *held.CHECKS, files, tabs, new_tabs, reading, trapped, nothing_leaves):
             check(test, stored)
         if not is_short:
             hostile(test, setups, stored)

@@ -28,7 +28,7 @@ def welcomed(test, _):
     browser.resize_back()
     test.forget()
     test.click("#welcome-exercise")
-    test.until(f"{sheets.SHEET}?.offsetParent !== null", "the welcome leads to no exercise")
+    test.until(f"{sheets.SHEET}?.offsetParent !== null && document.querySelector('.course [aria-current]')", "the welcome leads to no exercise")
     test.wanted(browser.value("document.querySelector('.course [aria-current]').textContent.startsWith('1 ')"), "the first exercise is not the first")
     for word in ("capability", "CNode", "guard"):
         told = browser.value(f"[...document.querySelectorAll('.task dfn')].find((it) => it.textContent === {json.dumps(word)})?.title ?? ''")

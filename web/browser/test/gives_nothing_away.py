@@ -3,7 +3,7 @@ import json
 import time
 
 from nothing_lost import type_anew
-from sheets import MARKING, SHEET, answers_of, hides_replies, open_exercise, replies_of, text_of, wrong_for
+from sheets import MARKING, READ, SHEET, answers_of, cuts_of, hides_replies, open_exercise, replies_of, text_of, wrong_for
 from tester import BUTTON
 
 NAME = "01_slots_and_words"
@@ -14,8 +14,11 @@ PRESSES = ((1280, 800, 0), (1280, 800, 0.05), (1280, 800, 0.15), (1280, 800, 0.4
 
 
 def answer_all(test, name, wrong=()):
-    """Gives each answer, those of some calls wrong."""
+    """Gives each answer, those of some calls wrong; bits that are asked for are read right."""
     open_exercise(test, name)
+    for number, read in READ.get(name, {}).items():
+        for at in cuts_of(read):
+            test.browser.value(f"sel4sim.page.exercise.sheet.cards.get({number}).cutting.gaps[{at - 1}].click()")
     for number, answer in answers_of(name).items():
         given = wrong_for(answer) if number in wrong else answer
         test.browser.value(f"sel4sim.page.exercise.sheet.cards.get({number}).answer = {json.dumps(given)}")

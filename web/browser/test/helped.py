@@ -93,7 +93,7 @@ def three_steps(test, _):
     _, _, answered = help_of(test, number)
     test.wanted("refused 6/4" in (answered or ""), f"the third help tells {answered!r}")
     is_still_asked_beside(test, (number,))
-    test.wanted(browser.value(MARKING).endswith(f"1 shown. Change what is marked ✗: {other}."), f"it is told {browser.value(MARKING)!r}")
+    test.wanted(browser.value(MARKING).endswith(f"1 shown. Change what is marked ✗: {other}. Bits: 8 of 8 read right."), f"it is told {browser.value(MARKING)!r}")
     story = browser.value("sel4sim.page.exercise.story")
     test.wanted(f"hints 3, shown one by one {number}" in story, f"what is handed in tells {story!r}")
     browser.reload()

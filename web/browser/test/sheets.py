@@ -18,6 +18,9 @@ MARKING = "(document.querySelector('.marking [role=status]')?.textContent ?? '')
 # What is in the page but the set-ups themselves: the sheet, the steps, the panels and the margin of the editor.
 IN_PAGE = f"""[document.getElementById('exercise'), {FRAME}?.body, document.getElementById('panels')].map((it) => it?.textContent ?? '').join('\\n')
   + [...document.querySelectorAll('.CodeMirror-gutter-elt [title]')].map((it) => it.title).join('\\n')"""
+# How the indices are read of which an exercise asks the bits, by the numbers of its calls: its guards and slots, and what is not read.
+READ = {"03_guards_and_depths": {5: "001 100111", 6: "101 10 10 11", 7: "101 10 01 1", 8: "101 10 01 11 1", 9: "101 10 01 11", 10: "101 10 01 11",
+                                 11: "101 10", 12: "101 10 0111"}}
 # The field that has the focus: its call, what it asks for, the place of its choice and its choices.
 FOCUS = """(() => {
   const it = document.activeElement;
@@ -69,8 +72,27 @@ def choose(test, focus, value):
         test.browser.press("ArrowDown" if away > 0 else "ArrowUp")
 
 
+def cuts_of(read):
+    """Behind which bits an index is cut that is read so."""
+    pieces = read.split(" ")
+    return [len("".join(pieces[:count])) for count in range(1, len(pieces))]
+
+
+def cut(test, cuts):
+    """Cuts the bits whose first gap has the focus, by keys: the focus is then behind them."""
+    at = 1
+    for wanted in cuts:
+        for _ in range(wanted - at):
+            test.browser.press("ArrowRight")
+        test.browser.press(" ")
+        at = wanted
+    test.browser.press("Tab")
+
+
 def give(test, number, answer):
-    """Answers a call by keys: the focus is on its first field, and then behind its last one."""
+    """Answers a call by keys: the focus is on its first field, and then behind its last one. Where bits are asked for, they are read right."""
+    if test.browser.value("document.activeElement.matches('.cut')"):
+        cut(test, cuts_of(READ[test.browser.value("sel4sim.page.exercise.name").removesuffix(".toml")][number]))
     for field, value in fields_of(answer).items():
         focus = test.browser.value(FOCUS)
         if (focus["number"], focus["field"]) != (number, field):
@@ -97,7 +119,7 @@ def press_button(test, words):
 
 
 def focus_first(test):
-    test.browser.value("document.querySelector('.card:not([hidden]) .prediction select').focus()")
+    test.browser.value("document.querySelector('.card:not([hidden]) :is(.cut:not(:disabled), .prediction select)').focus()")
 
 
 def hides_replies(test, name, asked, when):

@@ -24,6 +24,7 @@ import first_minute  # noqa: E402
 import gives_nothing_away  # noqa: E402
 import goals_reached  # noqa: E402
 import helped  # noqa: E402
+import in_bits  # noqa: E402
 import lectures  # noqa: E402
 import nothing_lost  # noqa: E402
 import sheets  # noqa: E402
@@ -33,7 +34,7 @@ from tester import Tester, option  # noqa: E402
 # Those that take a browser of their own, or most of a minute, are left to browser_test.py.
 CHECKS = (*first_minute.CHECKS, *(it for it in nothing_lost.CHECKS if it is not nothing_lost.with_scroll_bars), *gives_nothing_away.CHECKS,
           *helped.CHECKS, sheets.in_turn, sheets.low_window, sheets.printed_state, lectures.embedded_steps, *drawn.CHECKS,
-          *what_if.CHECKS, *goals_reached.CHECKS, browser_test.nothing_leaves)
+          *what_if.CHECKS, *asked_by_hand.CHECKS, *goals_reached.CHECKS, *in_bits.CHECKS, browser_test.nothing_leaves)
 
 
 def needs():

@@ -22,6 +22,9 @@ function drawPart(part) {
     slot === undefined ? null : drawSlot(part)];
 }
 
+/** The boxes of a way. */
+export const drawBoxes = (parts) => parts.map(drawPart);
+
 /** Whether a way is worth a look: it leads through more than one CNode, or a guard that is not all zeros, or nowhere. */
 const isTold = ({ parts, address }) => address === null || parts.length > 1 || parts.some(({ wanted = "" }) => wanted.includes("1"));
 
@@ -29,6 +32,6 @@ const isTold = ({ parts, address }) => address === null || parts.length > 1 || p
 export function drawWaysOfWords(view) {
   return view.ways.filter(isTold).map(({ name, word, parts, address }) => element("p",
     { class: address === null ? "lookup fails" : "lookup", role: "group", "aria-label": `The way of ${name} ${word}, in bits` },
-    element("span", { class: "of-word" }, dim(`${name} `), code(String(word))), parts.map(drawPart),
+    element("span", { class: "of-word" }, dim(`${name} `), code(String(word))), drawBoxes(parts),
     element("span", { class: "end" }, address === null ? "✕ no slot" : ["→ ", slotName(view, address)])));
 }
