@@ -13,6 +13,8 @@ import pathlib
 import re
 import sys
 
+import refusals
+
 FOLDER = pathlib.Path(__file__).resolve().parent
 SOURCE = FOLDER / "source"
 FIRST_MODULE = SOURCE / "page.mjs"
@@ -46,6 +48,8 @@ def faults_of(modules, folder, apart):
     for module in sorted(path.name for path in folder.glob("*.mjs")):
         if module not in modules and module not in apart:
             yield f"no module needs {module}"
+    if refusals.ERRORS.exists() and modules.get(refusals.MODULE.name) != refusals.made():
+        yield "the refusals are others in docs/errors.md: web/page/refusals.py writes them"
 
 
 def function_of(module, text):

@@ -8,7 +8,7 @@ from tester import TOP, pick
 
 NAME = "03_guards_and_depths"
 CARD = "sel4sim.page.exercise.sheet.cards.get({})"
-NAMED = re.compile(r"^- \*\*(\d+(?:/\d)?)(?: `(\w+)`)?\*\*", re.M)
+NAMED = re.compile(r"^- \*\*(\d+(?:/\d)?)(?: `(\w+)`)?\*\*, ([^(]+?)\s+\(", re.M)
 
 
 def rules_are_there(test, _):
@@ -33,16 +33,17 @@ def rules_are_there(test, _):
 
 
 def one_name(test, _):
-    """On a card, in the steps, in the tab why and in docs/errors.md a refusal has one name, seL4's own; and one meaning in the page."""
+    """On a card, in the steps, in the tab why and in docs/errors.md a refusal has one name, seL4's own, and one meaning."""
     browser = test.browser
     of_calls = (TOP / "docs" / "errors.md").read_text().split("\n## A call is refused\n")[1].split("\n## ")[0]
-    wanted = dict(NAMED.findall(of_calls))
+    wanted = {code: ": ".join(filter(None, (name, " ".join(words.split())))) for code, name, words in NAMED.findall(of_calls)}
+    test.wanted(len(wanted) == 13, f"docs/errors.md has {len(wanted)} refusals")
     answer_all(test, NAME)
     browser.value(f"{CARD.format(min(answers_of(NAME)))}.answer = 'refused 2'")
     told = browser.value("Object.fromEntries([...document.querySelector('select[data-field=reason]').options].slice(1).map((it) => [it.value, it.textContent]))")
     test.wanted(set(told) == set(wanted), f"the refusals are {sorted(told)}, and in docs/errors.md {sorted(wanted)}")
-    for code, name in wanted.items():
-        test.wanted(told.get(code, "").startswith(f"{code} · {name}"), f"{code} is told as {told.get(code)!r}, and in docs/errors.md as {name}")
+    for code, words in wanted.items():
+        test.wanted(told.get(code) == f"{code} · {words}", f"{code} is told as {told.get(code)!r}, and in docs/errors.md as {words}")
     pick(test, "examples", "guarded_address_space")
     test.click("#tab-why")
     test.settle()
