@@ -21,7 +21,19 @@ EDGES = """(() => {""" + CONTRAST + """
     memory: least("#memory .box"), cells: least("#spaces .cell:not(.empty)"), bits: least(".bits"), threads: least(".threads > li"),
     endpoints: least(".endpoints > li"), bars: least(".bar", (it) => contrast(styleOf(it).outlineColor, groundOf(it.parentElement))),
     forest: least("#forest ul ul > li", (it) => contrast(styleOf(it, "::before").borderTopColor, groundOf(it))),
+    stems: least("#forest ul ul", (it) => contrast(styleOf(it).borderLeftColor, groundOf(it))),
+    changes: least(".changes li"), queues: least(".queue li"), table: least("#reach :is(th, td)"), controls: least("header :is(button, input:not([type=range])), select, .saver"),
+    rings: least(":is(.node, .cell):is(.named, .on-way)", (it) => contrast(styleOf(it).boxShadow.match(/rgba?\\([^)]*\\)/u)[0], groundOf(it.parentElement))),
   };
+})()"""
+# The same of the drawings of who can send to whom, and of parts and ways; and of the controls of the page.
+WIRES = """(() => {""" + CONTRAST.split("  const inside")[0] + """
+  const least = (wanted, told) => Math.min(...[...document.querySelectorAll(wanted)].filter((it) => it.getClientRects().length > 0).map(told));
+  const edge = (it) => contrast(styleOf(it).borderTopColor, groundOf(it.parentElement));
+  return { boxes: least(".wire-box", (it) => contrast(styleOf(it).stroke, groundOf(it.closest(".drawing")))),
+    wires: least(".wire path:not(.head)", (it) => contrast(styleOf(it).stroke, groundOf(it.closest(".drawing")))),
+    heads: least(".wire :is(.head, circle)", (it) => contrast(styleOf(it).fill, groundOf(it.closest(".drawing")))),
+    parts: least(".part, .thread", edge), controls: least("header :is(button, select, input:not([type=file]))", edge) };
 })()"""
 # How a cell looks: its border, and what it stands on.
 LOOKS = """(() => {""" + CONTRAST + """
@@ -64,14 +76,40 @@ def empty_and_far(test, _):
     test.wanted(all(word != f"→ {number}" for number, word in words), f"slots tell their number twice: {words}")
 
 
-def contrasts(test, _):
-    """Whatever is drawn has edges with a contrast of 3 or more, in both themes."""
-    at_call(test, "examples", "guarded_address_space", 6)
-
+def contrast_of(test, measure, seen):
+    """A check of each contrast that is measured, for a theme: what is drawn is noted in `seen`."""
     def look(theme):
-        for what, contrast in test.browser.value(EDGES).items():
-            test.wanted(contrast >= 3, f"{theme}: {what} have a contrast of {contrast:.2f}")
-    in_themes(test, look)
+        for what, contrast in test.browser.value(measure).items():
+            seen.update([what] if contrast else [])
+            test.wanted(contrast is None or contrast >= 3, f"{theme}: {what} have a contrast of {contrast and round(contrast, 2)}")
+    return look
+
+
+def contrasts(test, _):
+    """Whatever is drawn has edges with a contrast of 3 or more, in both themes: in the steps, and who can send to whom; so have the controls."""
+    seen = set()
+    for name, number in (("guarded_address_space", 6), ("two_clients_by_badge", 5), ("revocation_of_badged_copies", 8)):
+        at_call(test, "examples", name, number)
+        test.browser.value(f"{INSIDE}.getElementById('reach-fold').open = true")
+        in_themes(test, contrast_of(test, EDGES, seen))
+    wires_of(test, "for audit", "engineers_system", "audit", seen)
+    wanted = {"memory", "cells", "bits", "threads", "endpoints", "bars", "forest", "stems", "changes", "queues", "table", "controls", "rings", "boxes", "wires", "heads"}
+    test.wanted(wanted <= seen, f"nothing is drawn of {sorted(wanted - seen)}")
+
+
+def wires_of(test, topic, name, tab, seen):
+    """The contrasts in a tab that has a drawing of boxes and lines."""
+    pick(test, topic, name)
+    test.click(f"#tab-{tab}")
+    test.settle()
+    in_themes(test, contrast_of(test, WIRES, seen))
+
+
+def contrasts_of_parts(test, _):
+    """So have the drawing of parts and ways, and the parts below it."""
+    seen = set()
+    wires_of(test, "for ever", "two_clients", "ever", seen)
+    test.wanted({"parts", "boxes", "wires", "heads"} <= seen, f"of parts and ways {sorted(seen)} are drawn")
 
 
 SIZES = f"""(() => {{
@@ -172,4 +210,4 @@ def names(test, _):
             test.wanted(any(text in it for it in found[where]), f"{name}: no {where} have {text!r}: {found[where]}")
 
 
-CHECKS = (empty_and_far, contrasts, projected_sizes, resized, ways_in_bits, names)
+CHECKS = (empty_and_far, contrasts, contrasts_of_parts, projected_sizes, resized, ways_in_bits, names)
