@@ -2,13 +2,12 @@
 on revocation without a line of TOML."""
 import json
 
-from drawn import at_call, in_themes
+from drawn import at_call, at_each_size, in_themes
 from hearing import value
 from nothing_lost import EDITOR, FRAME, INSIDE
 from what_if import ASKED, EACH, FORM, POSITION, SAID, ask, button, centre, choose, open_form, root
 
 WAS = f"{INSIDE}.getElementById('was')"
-ACTIVE = f"{INSIDE}.activeElement"
 REPLY = f"{INSIDE}.querySelector('#said .reply')?.textContent"
 MOST_TABS = 40
 
@@ -19,52 +18,54 @@ def asked_anew(test):
     test.browser.value(f"{FORM}.hidden || {button('close')}.click(), sel4sim.page.steps.focus()")
 
 
-def tab_to(test, holds, what):
+def tab_to(test, holds, what, inside=INSIDE):
     """Goes on with Tab until something holds of the element that has the focus, `it`."""
     for _ in range(MOST_TABS):
-        if test.browser.value(f"(({{ activeElement: it }}) => it !== null && {holds})({INSIDE})"):
+        if test.browser.value(f"(({{ activeElement: it }}) => it !== null && {holds})({inside})"):
             return
         test.browser.press("Tab")
     test.say(f"no Tab leads to {what}")
 
 
-def choose_by_keys(test, wanted):
+def choose_by_keys(test, wanted, inside=INSIDE):
     """Chooses in the list that has the focus, by arrows."""
-    at, to = test.browser.value(f"[{ACTIVE}.selectedIndex, [...{ACTIVE}.options].findIndex((it) => it.value === {json.dumps(wanted)})]")
+    active = f"{inside}.activeElement"
+    at, to = test.browser.value(f"[{active}.selectedIndex, [...{active}.options].findIndex((it) => it.value === {json.dumps(wanted)})]")
     for _ in range(abs(to - at)):
         test.browser.press("ArrowDown" if to > at else "ArrowUp")
-    test.wanted(test.browser.value(f"{ACTIVE}.value") == wanted, f"arrows do not choose {wanted}")
+    test.wanted(test.browser.value(f"{active}.value") == wanted, f"arrows do not choose {wanted}")
 
 
-def fill_by_keys(test, label, given):
+def fill_by_keys(test, label, given, inside=INSIDE):
     """Gives a field of the form what it is to have: a box to tick, a list, or a text."""
     name = label.replace("_or_", " or ")
-    tab_to(test, f"[it.getAttribute('aria-label'), it.value].includes({json.dumps(name)})", name)
-    kind = test.browser.value(f"{ACTIVE}.type")
+    tab_to(test, f"[it.getAttribute('aria-label'), it.value].includes({json.dumps(name)})", name, inside)
+    kind = test.browser.value(f"{inside}.activeElement.type")
     if kind == "checkbox":
-        if test.browser.value(f"{ACTIVE}.checked") != given:
+        if test.browser.value(f"{inside}.activeElement.checked") != given:
             test.browser.press(" ")
     elif kind == "select-one":
-        choose_by_keys(test, given)
+        choose_by_keys(test, given, inside)
     else:
         test.browser.insert(given)
 
 
-def ask_by_keys(test, call):
-    """Asks for a call by keys alone, from the list of operations to the button."""
-    thread, operation, slot, to, fields, _, _ = call
-    choose_by_keys(test, operation)
+def ask_by_keys(test, call, inside=INSIDE):
+    """Asks for a call by keys alone; the focus is on the list of operations, behind that of the threads."""
+    thread, operation, slot, to, fields = call
+    test.browser.press("Tab", shift=True)
+    choose_by_keys(test, str(thread), inside)
+    test.browser.press("Tab")
+    choose_by_keys(test, operation, inside)
     for label, wanted in (("slot", slot), ("slot to fill", to)):
         if wanted is not None:
-            tab_to(test, f"it.getAttribute('aria-label') === {json.dumps(label)}", label)
-            choose_by_keys(test, str(wanted))
+            tab_to(test, f"it.getAttribute('aria-label') === {json.dumps(label)}", label, inside)
+            choose_by_keys(test, str(wanted), inside)
     rights = {right: True for right in "wrgp"} if operation in ("copy", "mint") else {}
-    # The fields come in the order in which they are drawn.
+    # The fields come in the order in which they are drawn: first the rights.
     for label, given in sorted({**rights, **fields}.items(), key=lambda it: len(it[0]) > 1):
-        fill_by_keys(test, label, given)
-    tab_to(test, "it.textContent === 'try it'", "what asks")
-    # A thread is chosen before, in the list in front of that of the operations.
-    test.wanted(f"thread = {thread}," in test.browser.value(ASKED), f"{operation}: by keys {test.browser.value(ASKED)!r} is asked for")
+        fill_by_keys(test, label, given, inside)
+    tab_to(test, "it.textContent === 'try it'", "what asks", inside)
     test.browser.press(" ")
 
 
@@ -74,14 +75,11 @@ def each_by_keys(test, _):
     browser = test.browser
     asked_anew(test)
     text = browser.value(f"{EDITOR}.text")
-    for call in EACH:
-        thread, operation, *_, reply, told = call
+    for *call, reply, told in EACH:
+        operation = call[1]
         browser.value("sel4sim.page.steps.focus()")
         browser.press("i")
-        test.until(f"!{FORM}.hidden && {ACTIVE}.getAttribute('aria-label') === 'operation'", "the key does not open what if")
-        browser.press("Tab", shift=True)
-        choose_by_keys(test, str(thread))
-        browser.press("Tab")
+        test.until(f"!{FORM}.hidden && {INSIDE}.activeElement.getAttribute('aria-label') === 'operation'", "the key does not open what if")
         ask_by_keys(test, call)
         test.until(f"{POSITION} === 'call 1 of 1'", f"{operation}: by keys nothing is run: {browser.value(ASKED)}")
         got = browser.value(f"[{REPLY}, {SAID}]")
@@ -128,6 +126,16 @@ def each_by_touch(test, _):
     browser.value("sel4sim.page.lecture.project(false)")
     browser.call("Emulation.setTouchEmulationEnabled", enabled=False)
     browser.resize_back()
+
+
+def at_sizes(test, _):
+    """The form, what was asked for and what was beside it overrun no window, and can be read, at any size and in both themes."""
+    at_call(test, "examples", "revocation_of_badged_copies", 7)
+    open_form(test)
+    choose(test, "operation", "mint")
+    ask(test, 2048, "mint", root(5), root(13), badge_or_guard="77")
+    at_each_size(test, "what if")
+    test.browser.value(f"{button('take back')}.click()")
 
 
 NODES = "[...{}.querySelectorAll('.node')].map((it) => it.textContent.replace(/\\s+/gu, ' ').trim())"
@@ -247,4 +255,4 @@ def lecture_on_revocation(test, _):
     test.wanted(browser.value(f"{EDITOR}.text") == text, "the lecture changes the set-up")
 
 
-CHECKS = (each_by_keys, each_by_touch, beside_what_was, told_to_a_reader, lecture_on_revocation)
+CHECKS = (each_by_keys, each_by_touch, at_sizes, beside_what_was, told_to_a_reader, lecture_on_revocation)

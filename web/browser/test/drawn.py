@@ -1,5 +1,5 @@
 """What the drawings of the steps look like: what differs looks different, in both themes and at any size of a window."""
-from nothing_lost import INSIDE, steps_come
+from nothing_lost import FRAME, INSIDE, steps_come
 from tester import pick
 
 # The contrast of two colours, each as the browser tells it; of none with the one behind it, that is with itself.
@@ -41,6 +41,31 @@ LOOKS = """(() => {""" + CONTRAST + """
     return [isSeen(borderTopColor) ? borderTopStyle : "none", isSeen(borderTopColor) ? contrast(borderTopColor, groundOf(it.parentElement)) : 0]; };
   return { empty: look("#spaces .cell.empty"), far: look("#spaces .cell.far:not(.filled)"), near: look("#spaces .cell:not(.empty, .far)") };
 })()"""
+
+
+# Words with a contrast of less than 4.5 with what they stand on; of a document, or of the steps.
+FAINT = """(() => {""" + CONTRAST.split("  const inside")[0] + """
+  const isTold = (it) => [...it.childNodes].some((child) => child.nodeType === 3 && child.data.trim() !== "") && it.getClientRects().length > 0 && !it.closest(":disabled");
+  return [...DOCUMENT.querySelectorAll("body *")].filter((it) => isTold(it) && contrast(styleOf(it).color, groundOf(it)) < 4.5)
+    .map((it) => `${it.tagName.toLowerCase()}.${[...it.classList].join(".")} ${it.textContent.slice(0, 30)}`);
+})()"""
+SIZES_OF_WINDOWS = ((320, 256), (390, 844), (1280, 800), (1920, 1080))
+
+
+def at_each_size(test, what, frame=FRAME):
+    """Whatever is shown overruns no window, from a zoom of 400 % to a beamer, and its words can be read, light and dark."""
+    browser, inside = test.browser, f"{frame}?.contentDocument"
+    for width, height in SIZES_OF_WINDOWS:
+        browser.resize(width, height)
+        wide = browser.value(f"[document.documentElement.scrollWidth, {inside} ? {inside}.documentElement.scrollWidth - {frame}.clientWidth : 0]")
+        test.wanted(wide[0] <= width and wide[1] <= 0, f"{what}: a window of {width} is overrun: {wide}")
+
+        def look(theme, where=f"at {width}"):
+            for document in ("document", inside):
+                faint = browser.value(f"{document} ? {FAINT.replace('DOCUMENT', document)} : []")
+                test.wanted(not faint, f"{what}, {where}, {theme}: these words are faint: {faint[:4]}")
+        in_themes(test, look)
+    browser.resize_back()
 
 
 def at_call(test, topic, name, number):

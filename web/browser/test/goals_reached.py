@@ -2,6 +2,8 @@
 import json
 import tomllib
 
+from asked_by_hand import ask_by_keys
+from drawn import at_each_size
 from nothing_lost import EDITOR
 from sheets import SHEET
 from tester import TOP, pick
@@ -216,6 +218,54 @@ def taken_back(test, _):
     pick(test, "examples", "send_then_receive")
 
 
+def each_by_keys(test, _):
+    """Each is reached by keys alone, from the title of its sheet on: Tab leads through the sheet into the form."""
+    browser = test.browser
+    test.forget()
+    for name in names():
+        open_goal(test, name)
+        browser.value(f"{SHEET}.querySelector('h1').focus()")
+        for count, call in enumerate(REACHED[name], 1):
+            if count == 1:
+                press_to(test, f"{INSIDE}.activeElement?.getAttribute('aria-label') === 'operation'", "the operations")
+            else:
+                to_operations(test)
+            ask_by_keys(test, call, INSIDE)
+            test.until(f"{CARDS}.length === {count}", f"{name}: by keys {call[1]} is not taken: {browser.value(STATUS)}")
+        is_reached(test, name, len(REACHED[name]), "by keys")
+
+
+def to_operations(test):
+    """Goes back with Shift and Tab to the list of operations."""
+    for _ in range(20):
+        if test.browser.value(f"{INSIDE}.activeElement?.getAttribute('aria-label') === 'operation'"):
+            return
+        test.browser.press("Tab", shift=True)
+    test.say("no Tab leads back to the operations")
+
+
+def each_by_touch(test, _):
+    """Each is reached by a finger on a phone: thread and slots are pressed in the drawings."""
+    browser = test.browser
+    browser.resize(390, 844)
+    browser.call("Emulation.setTouchEmulationEnabled", enabled=True)
+    for name in names():
+        open_goal(test, name)
+        for count, (thread, operation, slot, to, fields) in enumerate(REACHED[name], 1):
+            browser.value(f"{FRAME}.scrollIntoView()")
+            # The list itself is drawn by the browser.
+            choose(test, "operation", operation, FORM)
+            for wanted in (f"#threads [data-thread='{thread}']", *(f"#spaces [data-slot='{it}']" for it in (slot, to) if it is not None)):
+                browser.tap_at(*centre(test, f"{INSIDE}.querySelector({json.dumps(wanted)})", FRAME))
+            for label, given in fields.items():
+                choose(test, label, given, FORM)
+            browser.tap_at(*centre(test, button("try it", FORM), FRAME))
+            test.until(f"{CARDS}.length === {count}", f"{name}: by a finger {operation} is not taken: {browser.value(STATUS)}")
+        is_reached(test, name, len(REACHED[name]), "by a finger")
+    browser.call("Emulation.setTouchEmulationEnabled", enabled=False)
+    browser.resize_back()
+
+
 def pointed(test, _):
     """By the mouse in a wide window and by a finger on a phone; at any size nothing overruns its window, in both themes."""
     browser, name = test.browser, "15_take_one_back"
@@ -231,12 +281,7 @@ def pointed(test, _):
         press(*centre(test, button("try it", FORM), FRAME))
         is_reached(test, name, 1, f"at {width}")
     browser.call("Emulation.setTouchEmulationEnabled", enabled=False)
-    for width, height in ((320, 256), (390, 844), (1280, 800), (1920, 1080)):
-        browser.resize(width, height)
-        wide = browser.value(f"[document.documentElement.scrollWidth, {INSIDE}.documentElement.scrollWidth - {FRAME}.clientWidth]")
-        test.wanted(wide[0] <= width and wide[1] <= 0, f"at {width} a window is overrun: {wide}")
-    browser.call("Emulation.setEmulatedMedia", features=[])
-    browser.resize_back()
+    at_each_size(test, "an exercise with a goal", FRAME)
 
 
 def press_to(test, holds, what):
@@ -276,4 +321,4 @@ def by_keys(test, _):
     pick(test, "examples", "send_then_receive")
 
 
-CHECKS = (by_pointing, by_typing, other_text, taken_back, pointed, by_keys)
+CHECKS = (by_pointing, by_typing, other_text, taken_back, pointed, each_by_touch, by_keys, each_by_keys)

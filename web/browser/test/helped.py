@@ -2,6 +2,7 @@
 import json
 import re
 
+from drawn import at_each_size
 from gives_nothing_away import answer_all, at_rest
 from sheets import MARKING, SHEET, answers_of, replies_of
 from tester import TOP, pick
@@ -118,4 +119,42 @@ def is_still_asked_beside(test, shown):
         test.wanted(other in shown or f"answered: {reply}" not in told or reply in [replies_of(NAME)[it][1] for it in shown], f"call {other} is told: {reply}")
 
 
-CHECKS = (rules_are_there, one_name, three_steps)
+def by_keys(test, _):
+    """The steps of help by keys alone: the focus is on a wrong answer, Tab leads to its help, and behind the rules it is on the next step."""
+    browser = test.browser
+    number = next(number for number, answer in answers_of(NAME).items() if answer == "refused 6/4")
+    test.forget()
+    answer_all(test, NAME, wrong=(number,))
+    browser.value("document.querySelector('.marking .main').focus()")
+    browser.press(" ")
+    test.until("document.querySelector('.card.wrong')", "nothing is marked by keys")
+    at_rest(test)
+    for words in ("help: the rule", "more help: how far it gets", "show the answer of this call"):
+        for _ in range(6):
+            if browser.value("document.activeElement.textContent") == words:
+                break
+            browser.press("Tab")
+        test.wanted(browser.value("document.activeElement.textContent") == words, f"no Tab leads to {words!r}, but to {browser.value('document.activeElement.textContent')!r}")
+        browser.press(" ")
+        at_rest(test)
+        if browser.value("document.getElementById('rules').open"):
+            browser.press("Escape")
+    test.wanted("refused 6/4" in (help_of(test, number)[2] or ""), f"by keys the help tells {help_of(test, number)}")
+
+
+def at_sizes(test, _):
+    """Marks, help and rules overrun no window, and can be read, at any size and in both themes."""
+    number = next(number for number, answer in answers_of(NAME).items() if answer == "refused 6/4")
+    test.forget()
+    answer_all(test, NAME, wrong=(number,))
+    test.press_with_mouse("mark my answers")
+    test.until("document.querySelector('.card.wrong')", "nothing is marked")
+    at_rest(test)
+    press_help(test, number)
+    at_each_size(test, "the rules", "document.querySelector('.beside iframe')")
+    test.browser.press("Escape")
+    press_help(test, number)
+    at_each_size(test, "help", "document.querySelector('.beside iframe')")
+
+
+CHECKS = (at_sizes, by_keys, rules_are_there, one_name, three_steps)

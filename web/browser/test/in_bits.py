@@ -1,12 +1,14 @@
 """An exercise that asks how the bits of an index are read: they are clicked apart by the mouse, by a finger and by keys."""
 import json
 
+from drawn import SIZES_OF_WINDOWS, at_each_size
 from gives_nothing_away import answer_all, at_rest
 from hearing import tree, value
 from sheets import MARKING, READ, SHEET, answers_of, cut, cuts_of, focus_first, give, hides_replies, open_exercise, press_button
 
 NAME = "03_guards_and_depths"
 CARD = "sel4sim.page.exercise.sheet.cards.get({})"
+BESIDE = "document.querySelector('.beside iframe')"
 CUTS = "sel4sim.page.exercise.sheet.cuts"
 # For each index what is shown of it in the end: the kinds of its boxes, and their bits.
 BOXES = """[...document.querySelectorAll('.cutting .lookup')].map((it) => [it.closest('.card').value,
@@ -118,12 +120,11 @@ def told_and_seen(test, _):
     test.wanted("Call 6: where does each part of index 101101011 end?" in groups, f"the groups are {groups}")
     pressed = [it["value"]["value"] for node in nodes if value(node, "name") == "cut behind bit 3" for it in node["properties"] if it["name"] == "pressed"]
     test.wanted(pressed.count("true") == 1 and len(pressed) == 8, f"the gaps behind bit 3 are told as {pressed}")
-    for width, height in ((320, 256), (390, 844), (1280, 800), (1920, 1080)):
+    for width, height in SIZES_OF_WINDOWS:
         browser.resize(width, height)
-        wide, least = browser.value("[document.documentElement.scrollWidth, Math.min(...[...document.querySelectorAll('.cut')]"
-                                    ".map((it) => Math.min(it.offsetWidth, it.offsetHeight)))]")
-        test.wanted(wide <= width and least >= 24, f"at {width} the page is {wide} wide, and a gap {least}")
-    browser.resize_back()
+        least = browser.value("Math.min(...[...document.querySelectorAll('.cut')].map((it) => Math.min(it.offsetWidth, it.offsetHeight)))")
+        test.wanted(least >= 24, f"at {width} a gap is {least} pixels wide or high")
+    at_each_size(test, "bits", BESIDE)
 
 
 CHECKS = (clicked_apart, kept_over_a_reload, by_keys, told_and_seen)

@@ -105,6 +105,8 @@ class Page {
     const missed = this.trace.steps.filter(isMissed).length;
     byId("range").max = this.last;
     byId("expected").textContent = expectedWords(this.trace);
+    // Of a run with calls that were asked for nothing is expected.
+    byId("expected").hidden = this.trace.branch !== undefined;
     byId("expected").className = missed > 0 || !this.trace.complete ? "tag missed" : "tag met";
     byId("next-missed").hidden = missed === 0;
   }
