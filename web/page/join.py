@@ -24,12 +24,12 @@ EXPORT = re.compile(r"^export (?=(?:async )?(?:function|class|const) (\w+))", re
 
 
 def in_order(path, found):
-    """The modules that one needs, by their names, each behind those that it needs itself, and then the module."""
-    if path.name not in found:
+    """The modules that one needs, each behind those that it needs itself, and then the module: their paths, with their texts."""
+    if path not in found:
         text = path.read_text()
         for _, folder, needed in IMPORT.findall(text):
             in_order((path.parent / folder / needed).resolve(), found)
-        found[path.name] = text
+        found[path] = text
     return found
 
 
@@ -62,8 +62,10 @@ def function_of(module, text):
 
 def joined(first, apart=()):
     """One script of a module and all that it needs; modules that stand apart in its folder are scripts of their own."""
-    modules = in_order(first, {})
-    faults = list(faults_of(modules, first.parent, apart))
+    found = in_order(first, {})
+    modules = {path.name: text for path, text in found.items()}
+    names = [path.name for path in found]
+    faults = [f"two modules have the name {name}" for name in modules if names.count(name) > 1] + list(faults_of(modules, first.parent, apart))
     if faults:
         sys.exit("\n".join(faults))
     parts = [function_of(module, text) for module, text in modules.items()]

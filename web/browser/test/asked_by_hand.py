@@ -1,6 +1,7 @@
 """What if, as it is asked in a class: each of the fifteen operations by keys alone and by a finger alone, what was beside what would be, and the lecture
 on revocation without a line of TOML."""
 import json
+import tomllib
 
 from drawn import at_call, at_each_size, in_themes
 from hearing import value
@@ -126,6 +127,46 @@ def each_by_touch(test, _):
     browser.value("sel4sim.page.lecture.project(false)")
     browser.call("Emulation.setTouchEmulationEnabled", enabled=False)
     browser.resize_back()
+
+
+def kept_by_hand(test, _):
+    """A branch of two is made by keys, and kept by them; and by a finger. The set-up then has both calls, and one undo takes them out."""
+    browser = test.browser
+    for how in ("keys", "finger"):
+        asked_anew(test)
+        text = browser.value(f"{EDITOR}.text")
+        browser.value("sel4sim.page.steps.focus()")
+        browser.press("i")
+        for count, call in enumerate(((2048, "copy", root(4), root(9), {}), (2048, "revoke", root(4), None, {})), 1):
+            test.until(f"!{FORM}.hidden", "what if does not open")
+            tab_back_to_operations(test)
+            ask_by_keys(test, call)
+            test.until(f"{POSITION} === 'call {count} of {count}'", f"{call[1]} is not run")
+        test.wanted(browser.value(f"[...{INSIDE}.querySelectorAll('.call.branch')].map((it) => it.dataset.number)") == ["1", "2"], "two calls are no branch")
+        test.wanted(browser.value(f"{EDITOR}.text") == text, "a branch is in the set-up before it is kept")
+        if how == "keys":
+            tab_to(test, "it.textContent === 'keep'", "what keeps")
+            browser.press(" ")
+        else:
+            browser.call("Emulation.setTouchEmulationEnabled", enabled=True)
+            tap(test, button("keep"))
+            browser.call("Emulation.setTouchEmulationEnabled", enabled=False)
+        test.until(f"{POSITION} === 'call 2 of 4'", f"by {how} what is kept is not shown")
+        operations = [call["op"] for call in tomllib.loads(browser.value(f"{EDITOR}.text"))["call"]]
+        test.wanted(operations == ["copy", "revoke", "send", "recv"], f"by {how} the calls that are kept are {operations}")
+        test.settle(0.6)
+        browser.value(f"{EDITOR}.mirror.undo()")
+        test.settle(0.6)
+        test.wanted(browser.value(f"{EDITOR}.text") == text, f"by {how} what was kept cannot be undone")
+
+
+def tab_back_to_operations(test):
+    """Goes back with Shift and Tab to the list of operations."""
+    for _ in range(MOST_TABS):
+        if test.browser.value(f"{INSIDE}.activeElement?.getAttribute('aria-label') === 'operation'"):
+            return
+        test.browser.press("Tab", shift=True)
+    test.say("no Tab leads back to the operations")
 
 
 def at_sizes(test, _):
@@ -255,4 +296,4 @@ def lecture_on_revocation(test, _):
     test.wanted(browser.value(f"{EDITOR}.text") == text, "the lecture changes the set-up")
 
 
-CHECKS = (each_by_keys, each_by_touch, at_sizes, beside_what_was, told_to_a_reader, lecture_on_revocation)
+CHECKS = (each_by_keys, each_by_touch, kept_by_hand, at_sizes, beside_what_was, told_to_a_reader, lecture_on_revocation)
