@@ -644,7 +644,8 @@ def in_firefox(program, folder, stored):
         pick(test, "examples", "send_then_receive")
         test.click("#tab-steps")
         nothing_lost.refused_then_good(test)
-        for check in (gives_nothing_away.double_click_in_firefox, what_if.each_operation, what_if.branch, goals_reached.by_pointing, goals_reached.other_text):
+        for check in (gives_nothing_away.double_click_in_firefox, what_if.each_operation, what_if.branch, asked_by_hand.each_by_keys, goals_reached.by_pointing,
+                      goals_reached.other_text, goals_reached.each_by_keys, in_bits.by_keys, helped.by_keys):
             check(test, stored)
         print("firefox: " + ("with faults" if test.faults else "all right"), flush=True)
         return test.faults

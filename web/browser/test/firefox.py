@@ -22,7 +22,7 @@ user_pref("browser.shell.checkDefaultBrowser", false);
 DARK = 'user_pref("layout.css.prefers-color-scheme.content-override", 0);\n'
 # The letters that stand for keys in the protocol.
 KEYS = {"Tab": "\ue004", "Enter": "\ue007", "Escape": "\ue00c", "ArrowLeft": "\ue012", "ArrowUp": "\ue013",
-        "ArrowRight": "\ue014", "ArrowDown": "\ue015"}
+        "ArrowRight": "\ue014", "ArrowDown": "\ue015", "Shift": "\ue008"}
 
 
 def program():
@@ -86,10 +86,12 @@ class Firefox:
             ".then(done, (fault) => done({ fault: String(fault) }))"
         return self.call("WebDriver:ExecuteAsyncScript", script=script, args=[], sandbox=None).get("value")
 
-    def press(self, key):
+    def press(self, key, *, shift=False):
         """Presses a key, as a reader would."""
         value = KEYS.get(key, key)
         strokes = [{"type": stroke, "value": value} for stroke in ("keyDown", "keyUp")]
+        if shift:
+            strokes = [{"type": "keyDown", "value": KEYS["Shift"]}, *strokes, {"type": "keyUp", "value": KEYS["Shift"]}]
         self.call("WebDriver:PerformActions", actions=[{"type": "key", "id": "keys", "actions": strokes}])
 
     def insert(self, text):
