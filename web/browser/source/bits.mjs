@@ -3,7 +3,7 @@
 import { drawBitBox, guardInWords, inBits } from "../../page/source/bit_boxes.mjs";
 import { counted, element } from "../../page/source/element.mjs";
 
-const WORD = /^(?:cap|root|src_root|index|src_index) (\d+)(?: @\S+)?(?: (?:src_)?depth (\d+))? is looked up from /mu;
+const WORD = /^(?:cap|root|src_root|index|src_index) (\d+)(?: @\S+)?(?: (?:src_)?depth (\d+)(?: @\S+)?)? is looked up from /mu;
 const MISMATCH = /^its guard is (\d+) of size (\d+); the next \d+ of the (\d+) bits left read/mu;
 const SHORT = /^its guard has size (\d+); bits left: (\d+)/mu;
 const RADIX = /^its radix is (\d+); bits left behind the guard: (\d+)/mu;

@@ -104,7 +104,8 @@ def each_by_touch(test, _):
     browser.call("Emulation.setTouchEmulationEnabled", enabled=True)
     asked_anew(test)
     browser.value("sel4sim.page.lecture.project(true)")
-    tap(test, f"{INSIDE}.getElementById('more')")
+    if not browser.value(f"{INSIDE}.body.hasAttribute('data-more')"):
+        tap(test, f"{INSIDE}.getElementById('more')")
     for thread, operation, slot, to, fields, reply, told in EACH:
         tap(test, f"{INSIDE}.getElementById('ask')")
         test.until(f"!{FORM}.hidden", "a finger does not open what if")

@@ -1,6 +1,10 @@
 """What the drawings of the steps look like: what differs looks different, in both themes and at any size of a window."""
+import json
+import pathlib
+import subprocess
+
 from nothing_lost import FRAME, INSIDE, steps_come
-from tester import pick
+from tester import TOP, pick
 
 # The contrast of two colours, each as the browser tells it; of none with the one behind it, that is with itself.
 CONTRAST = """
@@ -212,6 +216,58 @@ def ways_in_bits(test, _):
     test.wanted(told["ways"] == [] and told["reason"] > 10, f"of a right that is missing {told} is shown")
 
 
+# Those that are folded, when they are opened.
+FOLDED = f"""(async () => {{
+  const fold = {INSIDE}.querySelector("#changed > .fold");
+  fold.open = true;
+  await new Promise((done) => setTimeout(done, 50));
+  return [fold.querySelector("summary").textContent, [...fold.querySelectorAll(".lookup")].map((row) => [...[...row.querySelectorAll(".bits")]
+    .map((it) => [it.classList[1], it.dataset.bits]), row.querySelector(".end").textContent])];
+}})()"""
+ROOT_GUARD = 60 * "0"
+
+
+def each_word_in_bits(test, _):
+    """The words that lead through the root CNode alone are in bits as well, behind a fold; and an index of a retype, one of 64 bits of which some are left
+    over, and one whose depth is out of range are drawn as the program reads them."""
+    at_call(test, "examples", "guarded_address_space", 1)
+    folded = test.browser.value(FOLDED)
+    wanted = ["cap 5, root 1: in bits", [[["passed", ROOT_GUARD], ["slot-bits", "0101"], "→ root[5]"], [["passed", ROOT_GUARD], ["slot-bits", "0001"], "→ root[1]"]]]
+    test.wanted(folded == wanted, f"of words through the root CNode is told {folded}")
+    at_call(test, "mistakes", "index_without_its_depth", 2)
+    told = [it for it in test.browser.value(WAYS)["ways"] if it[0] == "index 3"]
+    boxes = [[look, bits] for look, bits, _ in told[0][1]] if told else []
+    test.wanted(boxes == [["slot-bits", "00"], ["refused-bits", 60 * "0" + "11"]] and told[0][2] == "✕ no slot", f"an index with bits left over is drawn as {told}")
+    at_call(test, "why_lookups", "retype_with_bits_left", 3)
+    told = [it for it in test.browser.value(WAYS)["ways"] if it[0] == "index 12"]
+    boxes = [[look, bits] for look, bits, _ in told[0][1]] if told else []
+    test.wanted(boxes == [["slot-bits", "00"], ["refused-bits", 26 * "0" + "1100"]], f"the index of a retype is drawn as {told}")
+    at_call(test, "why_depths", "retype_at_depth_65", 2)
+    told = test.browser.value(WAYS)["ways"]
+    test.wanted(not any(it[0].startswith("index") for it in told), f"an index of 65 bits is drawn as {told}")
+
+
+# The traces of the set-ups in the page, but for long ones.
+TRACES = """(async () => {
+  const told = {};
+  for (const { topic, setups } of sel4sim.page.data.topics) {
+    for (const { name, text } of setups.filter((it) => it.text.length < 40000)) {
+      const { status, output } = await sel4sim.run(["trace", name], name, new TextEncoder().encode(text));
+      if (status < 2) told[`${topic}/${name}`] = new TextDecoder().decode(output);
+    }
+  }
+  return told;
+})()"""
+
+
+def ways_agree(test, _):
+    """The ways of all words of all calls of the set-ups in the page agree with what the program says of them."""
+    path = pathlib.Path(test.folder, "traces.json")
+    path.write_text(json.dumps(test.browser.value(TRACES)))
+    ran = subprocess.run(["node", TOP / "web" / "page" / "test" / "ways_agree.mjs", path], capture_output=True, text=True, check=False)
+    test.wanted(ran.returncode == 0, f"{ran.stdout[-600:]}{ran.stderr[-600:]}")
+
+
 NAMED = f"""(() => {{
   const inside = {INSIDE};
   const texts = (wanted) => [...inside.querySelectorAll(wanted)].map((it) => it.textContent.replace(/\\s+/gu, " ").trim());
@@ -235,4 +291,4 @@ def names(test, _):
             test.wanted(any(text in it for it in found[where]), f"{name}: no {where} have {text!r}: {found[where]}")
 
 
-CHECKS = (empty_and_far, contrasts, contrasts_of_parts, projected_sizes, resized, ways_in_bits, names)
+CHECKS = (empty_and_far, contrasts, contrasts_of_parts, projected_sizes, resized, ways_in_bits, each_word_in_bits, ways_agree, names)

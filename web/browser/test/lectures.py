@@ -169,13 +169,13 @@ def embedded_steps(test, _):
 LOOKUPS = """[...document.querySelectorAll('#panel-why .reasoned')].map((it) => [it.querySelector('.reason').innerText,
   [...it.querySelectorAll('.lookup .bits')].map((part) => [part.classList[1], part.dataset.bits])])"""
 LEFT = re.compile(r"the next (\d+) of the (\d+) bits left read (\d+)|bits left(?: over| behind the guard)?: (\d+)")
-WORD = re.compile(r"^\w+ (\d+)(?: @\S+)?(?: (?:src_)?depth (\d+))? is looked up from", re.M)
+WORD = re.compile(r"^\w+ (\d+)(?: @\S+)?(?: (?:src_)?depth (\d+)(?: @\S+)?)? is looked up from", re.M)
 
 
 def lookup_bits(test, _):
     """Where a lookup fails in the middle of a word, its bits are drawn: all of them, and as many left as the program says."""
     browser, drawn = test.browser, 0
-    named = "sel4sim.page.data.topics.filter(({ topic }) => /^why_|^narrow$|^examples$/u.test(topic)).flatMap(({ topic, setups }) => setups.map(({ name }) => [topic, name]))"
+    named = "sel4sim.page.data.topics.filter(({ topic }) => /^why_|^narrow$|^names$|^examples$/u.test(topic)).flatMap(({ topic, setups }) => setups.map(({ name }) => [topic, name]))"
     browser.value("document.getElementById('tab-why').click()")
     for topic, name in browser.value(named):
         browser.value(f"sel4sim.page.openExample({json.dumps(topic)}, {json.dumps(name)})")

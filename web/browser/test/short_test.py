@@ -31,9 +31,9 @@ import sheets  # noqa: E402
 import what_if  # noqa: E402
 from tester import Tester, option  # noqa: E402
 
-# Those that take a browser of their own, or most of a minute, are left to browser_test.py; and so are those of commands that are newer than
-# the page that was made last.
-LEFT = (nothing_lost.with_scroll_bars, drawn.contrasts_of_parts)
+# Those that take a browser of their own, most of a minute, or node are left to browser_test.py; and so are those of commands that are newer
+# than the page that was made last.
+LEFT = (nothing_lost.with_scroll_bars, drawn.contrasts_of_parts, drawn.ways_agree)
 CHECKS = (*first_minute.CHECKS, *(it for it in nothing_lost.CHECKS if it not in LEFT), *gives_nothing_away.CHECKS,
           *helped.CHECKS, sheets.in_turn, sheets.low_window, sheets.printed_state, lectures.embedded_steps, *(it for it in drawn.CHECKS if it not in LEFT),
           *what_if.CHECKS, *asked_by_hand.CHECKS, *goals_reached.CHECKS, *in_bits.CHECKS, browser_test.nothing_leaves)

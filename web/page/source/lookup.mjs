@@ -116,8 +116,9 @@ export function slotsFrom(places, root) {
   return [...found.values()];
 }
 
-/** The way of a word through CNodes: for each its guard and its slot in bits, with the slot's address; and where it ends, or null. */
-export function wayOf(state, machine, root, word, bits) {
+/** The way of a word through CNodes: for each its guard and its slot in bits, with the slot's address; and where it ends, or null. What is
+    left of a word that names a capability to invoke is ignored where no CNode follows; of an index nothing may be left. */
+function wayOf(state, machine, root, word, { bits, isIndex }) {
   const text = inBits(lowBits(word, bits), bits);
   const parts = [];
   let capability = root;
@@ -139,8 +140,7 @@ export function wayOf(state, machine, root, word, bits) {
     if (!isWhole) return { parts, address: null };
     at += radix;
     capability = state.slot.get(address)?.capability;
-    // What is left of a word that names a capability to invoke is ignored where no CNode follows.
-    if (bits === machine.wordBits && capability?.kind !== "cnode") break;
+    if (!isIndex && capability?.kind !== "cnode") break;
   }
   return { parts, address };
 }
@@ -150,19 +150,21 @@ export function waysOf(state, machine, step) {
   const { cap, root, index, depth, src_root: sourceRoot, src_index: sourceIndex, src_depth: sourceDepth } = step.words;
   if (cap === undefined) return [];
   const space = state.thread.has(Number(step.thread)) ? state.slot.get(Number(step.thread))?.capability : undefined;
-  const at = (address) => state.slot.get(address)?.capability;
   const ways = [];
-  const add = (name, start, word, bits) => {
-    const way = wayOf(state, machine, start, word, bits);
+  const add = (name, start, word, how) => {
+    const way = wayOf(state, machine, start, word, how);
     ways.push({ name, word, ...way });
-    return at(way.address);
+    return state.slot.get(way.address)?.capability;
   };
-  const invoked = add("cap", space, cap, machine.wordBits);
-  if (root !== undefined) add("root", space, root, machine.wordBits);
-  if (sourceIndex !== undefined) {
-    const from = add("src_root", space, sourceRoot, machine.wordBits);
-    if (from?.kind === "cnode") add("src_index", from, sourceIndex, Number(sourceDepth));
-  }
-  if (step.operation !== "retype" && index !== undefined && invoked?.kind === "cnode") add("index", invoked, index, Number(depth));
+  const addWord = (name, word) => add(name, space, word, { bits: machine.wordBits, isIndex: false });
+  const addIndex = (name, start, word, told) => {
+    const bits = Number(told);
+    // A depth that is out of range is refused before anything is looked up; and a retype with none fills the CNode of its root.
+    if (word !== undefined && start?.kind === "cnode" && bits >= 1 && bits <= machine.wordBits) add(name, start, word, { bits, isIndex: true });
+  };
+  const invoked = addWord("cap", cap);
+  const into = root === undefined ? undefined : addWord("root", root);
+  if (sourceIndex !== undefined) addIndex("src_index", addWord("src_root", sourceRoot), sourceIndex, sourceDepth);
+  addIndex("index", step.operation === "retype" ? into : invoked, index, depth);
   return ways;
 }

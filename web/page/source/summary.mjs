@@ -5,7 +5,7 @@ import { holdsTheSame, isSummedUp } from "./changes.mjs";
 import { meaningOf } from "./refusals.mjs";
 import { sentenceOf } from "./sentence.mjs";
 import { sumsOf } from "./sums.mjs";
-import { drawWaysOfWords } from "./ways.mjs";
+import { drawOtherWays, drawWaysOfWords } from "./ways.mjs";
 import { wasAskedFor } from "./calls_to_ask.mjs";
 
 // Of more changes of one kind than this, the first few are told and the others counted.
@@ -172,8 +172,9 @@ export function drawSentence(view) {
   return [...shown, element("ul", { class: "reasons", "aria-label": "Why it is refused" }, reasons)];
 }
 
-/** What changed, one line for each thing. */
+/** The ways of words that are no news, folded; and what changed, one line for each thing. */
 export function drawChanges(view) {
-  const changed = view.step.number === 0 ? [] : changeItems(view);
-  return changed.length === 0 ? [] : [element("ul", { class: "changes", "aria-label": "What changed" }, changed)];
+  if (view.step.number === 0 || view.isAsked) return [];
+  const changed = changeItems(view);
+  return [drawOtherWays(view), changed.length === 0 ? null : element("ul", { class: "changes", "aria-label": "What changed" }, changed)];
 }
