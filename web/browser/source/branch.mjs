@@ -36,8 +36,10 @@ export function withCalls(text, at, calls) {
 }
 
 export class Branch {
-  constructor(page) {
-    Object.assign(this, { page, at: 0, calls: [] });
+  /** `steps` show the run of the set-up that `told` gives, as `{ text, title }`, and `trace` gives what the program answers to another text.
+      What is kept is told to `keep`, with the number of its last call; where there is none, nothing can be kept. */
+  constructor({ steps, told, trace, keep }) {
+    Object.assign(this, { steps, told, trace, keepText: keep, at: 0, calls: [] });
   }
 
   get isOpen() {
@@ -52,22 +54,30 @@ export class Branch {
 
   /** Runs calls behind the first few of the set-up, and shows the last of them. */
   async run(at, calls) {
-    const { page } = this;
-    const text = withCalls(page.editor.text, at, calls);
+    const { steps } = this;
+    const { text: before, title } = this.told();
+    const text = withCalls(before, at, calls);
     if (text === null) {
-      page.steps.tell({ fault: "Here a call can be added only where each stands on lines of its own." });
+      steps.tell({ fault: "Here a call can be added only where each stands on lines of its own." });
       return;
     }
-    const answer = await page.runs.answerAlso(["trace"], text);
+    const answer = await this.trace(text);
     if (answer === STOPPED) return;
     const [output, errors] = [answer.output, answer.errors].map((it) => new TextDecoder().decode(it));
     if (answer.status !== 0 && answer.status !== 1) {
-      page.steps.tell({ fault: errors.split("\n")[0] || output });
+      steps.tell({ fault: errors.split("\n")[0] || output });
       return;
     }
     Object.assign(this, { at, calls });
-    page.steps.tell({ trace: traceBefore(output, at + calls.length + 1), name: page.title, number: at + calls.length, branch: at, canAsk: true,
-      own: page.steps.told.trace });
+    steps.tell({ trace: traceBefore(output, at + calls.length + 1), name: title, number: at + calls.length, branch: at, canAsk: true,
+      canKeep: this.keepText !== undefined, own: steps.told.trace });
+  }
+
+  /** Does what is asked for in the steps: one call more, or what is to come of those that were. */
+  do({ asked, pairs, number }) {
+    if (asked === "keep") this.keep();
+    else if (asked === "take back") this.takeBack();
+    else this.ask(pairs, number);
   }
 
   /** The call that is shown is another one: before the branch it is left. */
@@ -78,7 +88,7 @@ export class Branch {
   /** Shows the set-up's own run again. */
   leave(number = this.at) {
     this.close();
-    this.page.steps.showAgain(number);
+    this.steps.showAgain(number);
   }
 
   close() {
@@ -93,13 +103,12 @@ export class Branch {
     return null;
   }
 
-  /** Makes the calls those of the set-up; the editor can undo it. */
+  /** Makes the calls those of the set-up. */
   keep() {
-    const { page, at, calls } = this;
-    if (!this.isOpen) return;
-    const text = withCalls(page.editor.text, at, calls);
+    const { at, calls } = this;
+    if (!this.isOpen || !this.keepText) return;
+    const text = withCalls(this.told().text, at, calls);
     this.close();
-    page.firstCall = at + calls.length;
-    page.editor.mirror.setValue(text);
+    this.keepText(text, at + calls.length);
   }
 }

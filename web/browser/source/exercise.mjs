@@ -1,6 +1,7 @@
 // An exercise on the page: its sheet, and beside it the state that its questions begin in. What the program answers is shown
 // once every answer is given and marked, by the program itself: an answer is right where its expectation is met.
 import { ASKED, MARKED, SHOWN, Sheet } from "./sheet.mjs";
+import { Branch } from "./branch.mjs";
 import { Goal } from "./goal.mjs";
 import { STEPS_OF_HELP } from "./card.mjs";
 import { STOPPED } from "./program.mjs";
@@ -106,6 +107,7 @@ export class Exercise {
 
   close() {
     this.told = null;
+    this.branch?.close();
     this.goal.close();
     document.body.classList.remove("exercise");
   }
@@ -151,12 +153,28 @@ export class Exercise {
 
   /** Shows a trace beside the sheet, at a call; `how` says what else there is to do with it. */
   showTrace(trace, number, how = { canAsk: false }) {
+    this.steps ??= this.newSteps();
     const { page } = this;
-    this.steps ??= new Steps({ viewer: page.viewer, title: "The run, call by call",
-      listen: (frame) => page.keys.listenInFrame(frame), shown: () => {}, asked: (told) => this.goal.asked(told) });
+    this.branch.close();
     if (!this.steps.frame.isConnected) this.beside.append(this.steps.frame);
     this.trace = trace;
     this.steps.show(trace, page.title, number, how);
+  }
+
+  /** The steps beside the sheet. In an exercise with a goal calls are asked for there; in another one what if, once its answers are shown. */
+  newSteps() {
+    const { page } = this;
+    const steps = new Steps({ viewer: page.viewer, title: "The run, call by call", listen: (frame) => page.keys.listenInFrame(frame),
+      shown: (number) => this.branch.shown(number), asked: (told) => (this.goal.isOpen ? this.goal.asked(told) : this.branch.do(told)) });
+    this.branch = new Branch({ steps, told: () => ({ text: this.answeredText, title: page.title }), trace: (text) => this.alone(() => this.traceOf(text)) });
+    return steps;
+  }
+
+  /** What the program answers to another set-up, asked for its trace. */
+  async traceOf(text) {
+    const { told, name } = this;
+    const answer = await this.page.program.run(["trace", name], name, new TextEncoder().encode(text));
+    return told === this.told ? answer : STOPPED;
   }
 
   /** Puts the state that the questions begin in on the print, while no answer is shown. */
@@ -169,7 +187,8 @@ export class Exercise {
 
   /** Shows what a call changed. */
   showStep(number) {
-    this.steps.go(number);
+    if (this.branch.isOpen) this.branch.leave(number);
+    else this.steps.go(number);
     if (matchMedia(NARROW).matches) this.heading.scrollIntoView();
   }
 
@@ -227,10 +246,10 @@ export class Exercise {
   /** Does one thing at a time: what is pressed while the program marks is not done. */
   async alone(act) {
     const { marking } = this.sheet;
-    if (marking.inert) return;
+    if (marking.inert) return STOPPED;
     marking.inert = true;
     try {
-      await act();
+      return await act();
     } finally {
       marking.inert = false;
     }
@@ -342,7 +361,7 @@ export class Exercise {
     if (!shown) return;
     this.keep({});
     this.heading.textContent = "The run, call by call";
-    this.showTrace(shown, this.sheet.first);
+    this.showTrace(shown, this.sheet.first, { canAsk: true });
   }
 
   /** Shows what the calls before one are answered: the trace, or null. */

@@ -54,7 +54,12 @@ class Page {
     this.steps = new Steps({ viewer: this.viewer, title: "The run, call by call",
       listen: (frame) => { this.keys.listenInFrame(frame); this.lecture.drawProjected(); },
       shown: (number) => this.showCall(number), asked: (told) => this.askWhatIf(told) });
-    this.branch = new Branch(this);
+    // What is kept the editor can undo.
+    this.branch = new Branch({ steps: this.steps, told: () => ({ text: this.editor.text, title: this.title }),
+      trace: (text) => this.runs.answerAlso(["trace"], text), keep: (text, number) => {
+        this.firstCall = number;
+        this.editor.mirror.setValue(text);
+      } });
     this.visits = new Visits(this, (setup, chosen) => this.addresses.openVisited(setup, chosen));
     const places = { list: byId("examples"), dialog: byId("all"), field: byId("search"), found: byId("found") };
     this.examples = new Examples(places, data.topics, { open: (...place) => this.visits.go(() => this.openExample(...place)),
@@ -316,10 +321,8 @@ class Page {
   }
 
   /** A call that the set-up does not have is asked for in the steps, or what is to come of those that were. */
-  askWhatIf({ asked, pairs, number }) {
-    if (asked === "keep") this.branch.keep();
-    else if (asked === "take back") this.branch.takeBack();
-    else if (this.isAtRest) this.branch.ask(pairs, number);
+  askWhatIf(told) {
+    if (told.asked !== "call" || this.isAtRest) this.branch.do(told);
   }
 
   /** Opens a set-up in a tab. */

@@ -4,8 +4,10 @@ import json
 import tomllib
 
 from drawn import at_call, at_each_size, in_themes
+from gives_nothing_away import answer_all, at_rest
 from hearing import value
 from nothing_lost import EDITOR, FRAME, INSIDE
+from sheets import answers_of
 from what_if import ASKED, EACH, FORM, POSITION, SAID, ask, button, centre, choose, open_form, root
 
 WAS = f"{INSIDE}.getElementById('was')"
@@ -222,6 +224,36 @@ def beside_what_was(test, _):
     test.wanted("after call 2, the last one" in browser.value(f"{WAS}.textContent"), f"behind the last call stands {browser.value(f'{WAS}.textContent')!r}")
 
 
+def free_play(test, _):
+    """Once the answers of an exercise are shown, what if can be asked beside its sheet too: nothing is kept, the answers stay, and a link to what a call
+    changed leads back to the run."""
+    browser, frame = test.browser, "document.querySelector('.beside iframe')"
+    inside, position = f"{frame}.contentDocument", f"{frame}?.contentDocument?.getElementById('position')?.textContent"
+    form = f"{inside}.getElementById('what-if')"
+    test.forget()
+    answer_all(test, "06_whose_child", wrong=(min(answers_of("06_whose_child")),))
+    test.press_with_mouse("mark my answers")
+    test.until("document.querySelector('.card.wrong')", "nothing is marked")
+    at_rest(test)
+    test.wanted(browser.value(f"{inside}.getElementById('ask').hidden"), "what if can be asked before the answers are shown")
+    test.press_with_mouse("show the answers")
+    test.until(f"document.querySelector('.answered') && !{inside}.getElementById('ask').hidden", "what if cannot be asked once the answers are shown")
+    at_rest(test)
+    story, calls = browser.value("sel4sim.page.exercise.story"), browser.value("sel4sim.page.exercise.told.calls.length")
+    browser.value(f"{inside}.getElementById('last').click()")
+    test.until(f"{position} === 'call {calls} of {calls}'", "the steps do not go to the last call")
+    browser.value(f"{inside}.getElementById('ask').click()")
+    choose(test, "operation", "delete", form)
+    choose(test, "slot", str(root(1)), form)
+    browser.value(f"{button('try it', form)}.click()")
+    test.until(f"{position} === 'call {calls + 1} of {calls + 1}'", "what if is not run beside a sheet")
+    told = browser.value(f"[{inside}.getElementById('said').textContent, {button('keep', form)}.hidden, {button('take back', form)}.hidden, {inside}.getElementById('was').hidden]")
+    test.wanted(told[0].startswith("what if") and told[1:] == [True, False, False], f"beside a sheet {told} is told")
+    test.wanted(browser.value("sel4sim.page.exercise.story") == story, "what if changes what is handed in")
+    browser.value("[...document.querySelectorAll('.card.asks .outcome .link')].at(-1).click()")
+    test.until(f"{position}.endsWith(' of {calls}') && {inside}.getElementById('was').hidden", "a link to what a call changed leads not back to the run")
+
+
 def told_to_a_reader(test, _):
     """In the accessibility tree the form is a part with a name, each list and field has its name, the call that would be made is a status, and what was
     is a part of its own."""
@@ -297,4 +329,4 @@ def lecture_on_revocation(test, _):
     test.wanted(browser.value(f"{EDITOR}.text") == text, "the lecture changes the set-up")
 
 
-CHECKS = (each_by_keys, each_by_touch, kept_by_hand, at_sizes, beside_what_was, told_to_a_reader, lecture_on_revocation)
+CHECKS = (each_by_keys, each_by_touch, kept_by_hand, at_sizes, beside_what_was, free_play, told_to_a_reader, lecture_on_revocation)

@@ -217,8 +217,8 @@ def by_keys(test, _):
     test.wanted(live == ["polite", "status"], f"what is asked for is told to a screen reader as {live}")
     browser.value("sel4sim.page.openExample('exercises', '09_badges')")
     frame = "document.querySelector('.beside iframe')?.contentDocument"
-    test.until(f"{frame}?.getElementById('ask')", "no exercise")
-    test.wanted(browser.value(f"{frame}.getElementById('ask').hidden"), "an exercise can be asked what if")
+    test.until(f"sel4sim.page.exercise.name === '09_badges.toml' && !document.querySelector('.sheet').inert && {frame}?.getElementById('ask')", "no exercise")
+    test.until(f"{frame}.getElementById('ask').hidden", "an exercise can be asked what if")
     pick(test, "examples", "send_then_receive")
 
 

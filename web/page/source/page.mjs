@@ -87,11 +87,11 @@ class Page {
 
   /** Opens what the page around this one tells; calls may be asked for, and those behind `branch` were, while `own` is the trace of the
       set-up as it is. In an exercise with a goal they are those of its reader, `yours`. */
-  openTold({ trace, number, name, branch, canAsk, yours, own }) {
+  openTold({ trace, number, name, branch, canAsk, canKeep, yours, own }) {
     byId("ask").hidden = !canAsk;
     byId("ask").textContent = yours ? "your call" : "what if";
     Object.assign(this, { branchFrom: branch, yours, ownViews: own === undefined ? null : new Views(readTrace(own)) });
-    this.whatIf.take(yours, canAsk);
+    this.whatIf.take(yours, canAsk, canKeep);
     this.open(trace, number ?? this.number, name);
   }
 

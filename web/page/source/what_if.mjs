@@ -96,8 +96,9 @@ export class WhatIf {
   }
 
   /** Takes what the form is for: what if, or the calls of an exercise with a goal, `yours`, of some threads or of all; for these it is
-      open at first. */
-  take(yours, canAsk) {
+      open at first. And whether calls can be kept. */
+  take(yours, canAsk, canKeep) {
+    this.canKeep = canKeep;
     const isNew = this.yours === undefined && yours !== undefined;
     if (isNew || !canAsk) this.setOpen(isNew && canAsk);
     this.yours = yours;
@@ -130,7 +131,7 @@ export class WhatIf {
     fill(this.slot, slots);
     fill(this.to, slots);
     const isAsked = wasAskedFor(view.trace, view.step.number);
-    this.keeper.hidden = !isAsked || this.yours !== undefined;
+    this.keeper.hidden = !isAsked || !this.canKeep;
     this.taker.hidden = !isAsked;
     this.tell();
   }
