@@ -102,6 +102,13 @@ def named_by_the_thread(test, _):
     got = ask(test, 2048, "delete", 16512 + 3 * 32)
     test.wanted(got and got[0] == "done" and "16512[3]" in got[1], f"a slot behind two guards is deleted as {got}")
     test.wanted("cap = 9, index = 3, depth = 2" in browser.value(ASKED), f"a slot behind two guards is named as {browser.value(ASKED)}")
+    at_call(test, "examples", "guarded_address_space", 1)
+    open_form(test)
+    for label, value in (("operation", "mint"), ("slot", str(root(8))), ("slot to fill", str(root(10))), ("badge or guard", "323")):
+        choose(test, label, value)
+    test.wanted("word = 323 (guard 101)" in browser.value(ASKED), f"a guard word is told as {browser.value(ASKED)}")
+    choose(test, "slot", str(root(4)))
+    test.wanted("word = 323" in browser.value(ASKED) and "guard 101" not in browser.value(ASKED), f"a badge is told as {browser.value(ASKED)}")
     at_call(test, "examples", "layout_of_three_components", 9)
     open_form(test)
     got = ask(test, 4096, "send", 16384 + 32)

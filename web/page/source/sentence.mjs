@@ -6,13 +6,14 @@ import { KINDS_BY_NUMBER, capabilityName, kindWord, nameOfWord, slotName, thread
 const RIGHTS = "wrgp";
 const MOST_MEMORY_BITS = 20;
 
-/** The guard that a guard word sets: its size stands in the low bits, its value above them. */
-function guardOf(word, machine) {
+/** The guard that a guard word sets, in bits: its size stands in the low bits, its value above them. */
+export function guardIn(word, machine) {
   const sizeBits = machine.wordBits === 64 ? 6n : 5n;
   const size = BigInt(word) & ((1n << sizeBits) - 1n);
-  const value = (BigInt(word) >> sizeBits) & ((1n << size) - 1n);
-  return ["the guard word ", code(word), dim(` (guard ${guardInWords(value, size)})`)];
+  return guardInWords((BigInt(word) >> sizeBits) & ((1n << size) - 1n), size);
 }
+
+const guardOf = (word, machine) => ["the guard word ", code(word), dim(` (guard ${guardIn(word, machine)})`)];
 
 /** Rights by their bits, as the trace writes them. */
 function rightsOf(bits) {

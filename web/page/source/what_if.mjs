@@ -2,6 +2,7 @@
 // around this one has it run behind the calls so far.
 import { OPERATIONS, callOf, wasAskedFor } from "./calls_to_ask.mjs";
 import { button, dim, element } from "./element.mjs";
+import { guardIn } from "./sentence.mjs";
 
 /** CNodes of more slots than this have their full slots alone in the lists. */
 const MOST_EMPTY = 64;
@@ -191,6 +192,14 @@ export class WhatIf {
     return callOf(this.view.after, { operation, thread, slot: Number(this.slot.value), to, fields: { ...values, rights } });
   }
 
+  /** A key of the call with its value; a guard word with the guard that it sets, too. */
+  inWords([key, value]) {
+    const { after, trace: { machine } } = this.view;
+    const isGuard = key === "word" && Number(value) !== 0
+      && (this.operation.value === "set_space" || after.state.slot.get(Number(this.slot.value))?.capability.kind === "cnode");
+    return `${key} = ${value}${isGuard ? ` (guard ${guardIn(value.replaceAll('"', ""), machine)})` : ""}`;
+  }
+
   /** Says the call that would be made. */
   tell(fault) {
     const told = fault === undefined ? this.call : { fault };
@@ -199,7 +208,7 @@ export class WhatIf {
     const named = (list) => list.selectedOptions[0]?.textContent.split(" · ")[0] ?? "";
     const said = `${this.thread.selectedOptions[0]?.textContent.replace(/ \(\w+\)$/u, "")} asks to ${this.operation.value} ${this.slotLabel.textContent} ${named(this.slot)}`
       + `${to ? `, ${to} ${named(this.to)}` : ""}.`;
-    this.said.replaceChildren(said, " ", told.fault ?? dim((told.pairs ?? []).map(([key, value]) => `${key} = ${value}`).join(", ")));
+    this.said.replaceChildren(said, " ", told.fault ?? dim((told.pairs ?? []).map((pair) => this.inWords(pair)).join(", ")));
     this.said.classList.toggle("fault", told.fault !== undefined);
   }
 
