@@ -283,7 +283,10 @@ def names(test, _):
     wanted = (("revocation_of_badged_copies", 8, (("forest", "root[8] kept_for_first"), ("cells", "8 kept_for_first"))),
               ("two_clients_by_badge", 4, (("threads", "sending 8192 endpoint"), ("endpoints", "8192 endpoint sending"), ("memory", "8192 endpoint"),
                                            ("calls", "send second by for_second"), ("calls", "mint server endpoint → for_first"), ("titles", "mint server 5 → 8"))),
-              ("guarded_address_space", 4, (("nodes", "16384 first 4 slots"), ("regions", "16384 memory 4096 B"), ("calls", "first → tree"))))
+              ("guarded_address_space", 4, (("nodes", "16384 first 4 slots"), ("regions", "16384 memory 4096 B"), ("calls", "first → tree"))),
+              ("three_clients", 6, (("forest", "root[5] ep"), ("endpoints", "8192 ep"), ("calls", "send first by ep"))),
+              ("layout_of_three_components", 9, (("forest", "root[6] samples"), ("nodes", "16384 of_driver"), ("endpoints", "10256 records"),
+                                                 ("calls", "loader samples → 16384[1]"))))
     for name, number, told in wanted:
         at_call(test, "examples", name, number)
         found = test.browser.value(NAMED)
