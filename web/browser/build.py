@@ -22,9 +22,10 @@ import subprocess
 import sys
 
 TOP = pathlib.Path(__file__).resolve().parent.parent.parent
-sys.path[:0] = [str(TOP / "web" / "page"), str(TOP / "web" / "browser")]
+sys.path[:0] = [str(TOP / "web" / "page"), str(TOP / "web" / "browser"), str(TOP / "tools")]
 
 import join  # noqa: E402
+from man_page import newest_version  # noqa: E402
 
 SOURCE = TOP / "web" / "browser" / "source"
 SETUPS = TOP / "tests" / "worked"
@@ -199,7 +200,7 @@ def page(made_of, module, toolchain, editor_style, codemirror):
     style = "\n" + "".join([*((join.SOURCE / it).read_text() for it in before), editor_style, *((SOURCE / it).read_text() for it in behind)])
     style, codemirror, script = join.harmless(style, codemirror, join.joined(SOURCE / "page.mjs", apart=("worker.mjs",)))
     return join.filled((SOURCE / "page.html").read_text(), policy=policy(style, codemirror, script), style=style,
-                       commit=made_of, toolchain=toolchain, data=data(module), codemirror=codemirror, script=script)
+                       version=newest_version(TOP), commit=made_of, toolchain=toolchain, data=data(module), codemirror=codemirror, script=script)
 
 
 def draft():

@@ -482,7 +482,7 @@ class Page {
 
 function start() {
   const page = new Page(JSON.parse(byId("data").textContent));
-  for (const name of ["commit", "toolchain"]) {
+  for (const name of ["version", "commit", "toolchain"]) {
     byId(name).textContent = document.querySelector(`meta[name="sel4sim-${name}"]`).content;
   }
   page.listen();
