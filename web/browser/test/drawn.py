@@ -264,7 +264,7 @@ def ways_agree(test, _):
     """The ways of all words of all calls of the set-ups in the page agree with what the program says of them."""
     path = pathlib.Path(test.folder, "traces.json")
     path.write_text(json.dumps(test.browser.value(TRACES)))
-    ran = subprocess.run(["node", TOP / "web" / "page" / "test" / "ways_agree.mjs", path], capture_output=True, text=True, check=False)
+    ran = subprocess.run(["node", TOP / "web" / "browser" / "test" / "ways_agree.mjs", path], capture_output=True, text=True, check=False)
     test.wanted(ran.returncode == 0, f"{ran.stdout[-600:]}{ran.stderr[-600:]}")
 
 

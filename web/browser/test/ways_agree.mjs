@@ -1,9 +1,9 @@
 // ways_agree.mjs FILE: FILE has traces by their names, as JSON. A lookup that the program says fails has no slot in the page's drawing of it, one that
 // leads to a slot has that one, and of a call that is not refused each word has one.
 import { readFileSync } from "node:fs";
-import { Run } from "../source/state.mjs";
-import { readTrace } from "../source/trace.mjs";
-import { waysOf } from "../source/lookup.mjs";
+import { Run } from "../../page/source/state.mjs";
+import { readTrace } from "../../page/source/trace.mjs";
+import { waysOf } from "../../page/source/lookup.mjs";
 
 const FAILS = /^(?:its guard|its radix|no CNode is there)/mu;
 const LOOKED_UP = /^(cap|root|src_root|index|src_index) \d+(?: @\S+)?(?: (?:src_)?depth \d+(?: @\S+)?)? is looked up from/mu;
