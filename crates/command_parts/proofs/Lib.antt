@@ -11,3 +11,4 @@ pub mod Held
 pub mod Alone
 pub mod Faults
 pub mod Homes
+pub mod Written

@@ -1,13 +1,14 @@
 //! The first lines: of which state a text tells, and which threads are trusted.
 ghost use Rattle.std.specs.Prelude.{◌≡◌, ◌++◌, OnOk, Some, string_bytes};
-ghost use Rattle.std.specs.List.{flat_map};
 ghost use Rattle.command_parts.specs.Telling.{part_naming_view};
 ghost use Rattle.command_parts.specs.Text as spec;
+ghost use Rattle.command_parts.specs.Private.Lines.{trusted_line};
 
 use crate::telling::PartNaming;
 use cap_core::Profile;
 use ipc_core::Waiters;
 use kernel_core::Kernel;
+use list_questions::{Line, add_each};
 use setup_format::Setup;
 use setup_values::profile_text;
 use slot_core::CapStore;
@@ -43,45 +44,6 @@ impl fmt::Display for RefusedText {
     }
 }
 
-/// How many calls a set-up has, how many of them are made, and how many of these were refused.
-#[derive(Clone, Copy)]
-struct CallsText {
-    calls: usize,
-    made: usize,
-    refused: usize,
-}
-
-impl fmt::Display for CallsText {
-    ghost output = { λ c. Some (spec.calls_text c.calls c.made c.refused) };
-
-    fn fmt<W: fmt::Write>(&self, f: &mut fmt::Formatter<W>) -> fmt::Result {
-        let calls = self.calls;
-        let made = self.made;
-        let refused = RefusedText(self.refused);
-        write!(f, " calls {calls} after {made}{refused}")
-    }
-}
-
-/// Adds the first line of a text with this name and version.
-fn add_head(
-    out: &mut String,
-    title: &str,
-    setup: &Setup,
-    made: usize,
-    refused: usize,
-) -> Result<(), AllocError>
-    ensures { OnOk result (string_bytes out.new ≡ string_bytes out.old ++ spec.parts_head_line title.now setup.now made refused) }
-{
-    let profile = profile_text(setup.profile());
-    let memory_bits = setup.plan().memory_bits();
-    let calls = CallsText {
-        calls: setup.calls().len(),
-        made,
-        refused,
-    };
-    writeln!(out, "{title} {profile} memory_bits {memory_bits}{calls}")
-}
-
 /// What is told of an object that is not there.
 pub fn none_text(live: bool) -> &'static str
     ensures { result.now ≡ spec.none_text live }
@@ -89,62 +51,24 @@ pub fn none_text(live: bool) -> &'static str
     if live { "" } else { " none" }
 }
 
-fn add_without<P: Profile, S: CapStore<P> + Drop, W: Waiters<P> + Drop>(
-    out: &mut String,
-    told: &PartNaming<'_>,
-    kernel: &Kernel<P, S, W>,
-    thread: u64,
-) -> Result<(), AllocError>
-    ensures { OnOk result (string_bytes out.new ≡ string_bytes out.old
-        ++ spec.without_line (part_naming_view told.now).texts kernel.now thread) }
-{
-    let name = told.thread(thread);
-    let none = none_text(kernel.thread_state(thread).is_some());
-    writeln!(out, "without {name}{none}")
+/// A thread that is trusted, behind a word that says how.
+#[derive(Drop)]
+struct TrustedLine<'a, P: Profile, S: CapStore<P> + Drop, W: Waiters<P> + Drop> {
+    word: &'static str,
+    told: &'a PartNaming<'a>,
+    kernel: &'a Kernel<P, S, W>,
 }
 
-fn add_all_without<P: Profile, S: CapStore<P> + Drop, W: Waiters<P> + Drop>(
-    out: &mut String,
-    told: &PartNaming<'_>,
-    kernel: &Kernel<P, S, W>,
-    without: &[u64],
-) -> Result<(), AllocError>
-    ensures { OnOk result (string_bytes out.new ≡ string_bytes out.old
-        ++ flat_map (spec.without_line (part_naming_view told.now).texts kernel.now) without.now) }
-{
-    for thread in without {
-        add_without::<P, S, W>(out, told, kernel, *thread)?;
+impl<P: Profile, S: CapStore<P> + Drop, W: Waiters<P> + Drop> Line<u64>
+    for TrustedLine<'_, P, S, W> {
+    ghost line = { λ l thread. trusted_line l.word.now (part_naming_view l.told.now).texts l.kernel.now thread };
+
+    fn add(&self, out: &mut String, thread: &u64) -> Result<(), AllocError> {
+        let word = self.word;
+        let name = self.told.thread(*thread);
+        let none = none_text(self.kernel.thread_state(*thread).is_some());
+        writeln!(out, "{word}{name}{none}")
     }
-    Ok(())
-}
-
-fn add_messenger<P: Profile, S: CapStore<P> + Drop, W: Waiters<P> + Drop>(
-    out: &mut String,
-    told: &PartNaming<'_>,
-    kernel: &Kernel<P, S, W>,
-    thread: u64,
-) -> Result<(), AllocError>
-    ensures { OnOk result (string_bytes out.new ≡ string_bytes out.old
-        ++ spec.messages_line (part_naming_view told.now).texts kernel.now thread) }
-{
-    let name = told.thread(thread);
-    let none = none_text(kernel.thread_state(thread).is_some());
-    writeln!(out, "messages {name}{none}")
-}
-
-fn add_messengers<P: Profile, S: CapStore<P> + Drop, W: Waiters<P> + Drop>(
-    out: &mut String,
-    told: &PartNaming<'_>,
-    kernel: &Kernel<P, S, W>,
-    messages: &[u64],
-) -> Result<(), AllocError>
-    ensures { OnOk result (string_bytes out.new ≡ string_bytes out.old
-        ++ flat_map (spec.messages_line (part_naming_view told.now).texts kernel.now) messages.now) }
-{
-    for thread in messages {
-        add_messenger::<P, S, W>(out, told, kernel, *thread)?;
-    }
-    Ok(())
 }
 
 /// Adds the first lines of a text with this name and version: of which state it tells, and which threads are trusted.
@@ -158,7 +82,25 @@ pub fn add_heading<P: Profile, S: CapStore<P> + Drop, W: Waiters<P> + Drop>(
     ensures { OnOk result (string_bytes out.new ≡ string_bytes out.old
         ++ spec.head_lines title.now (part_naming_view told.now).texts heading.now.setup.now heading.now.made heading.now.refused heading.now.without.now heading.now.messages.now kernel.now) }
 {
-    add_head(out, title, heading.setup, heading.made, heading.refused)?;
-    add_all_without::<P, S, W>(out, told, kernel, heading.without)?;
-    add_messengers::<P, S, W>(out, told, kernel, heading.messages)
+    let profile = profile_text(heading.setup.profile());
+    let memory_bits = heading.setup.plan().memory_bits();
+    let calls = heading.setup.calls().len();
+    let made = heading.made;
+    let refused = RefusedText(heading.refused);
+    writeln!(
+        out,
+        "{title} {profile} memory_bits {memory_bits} calls {calls} after {made}{refused}"
+    )?;
+    let without = TrustedLine {
+        word: "without ",
+        told: &*told,
+        kernel: &*kernel,
+    };
+    add_each(out, heading.without, &without)?;
+    let messages = TrustedLine {
+        word: "messages ",
+        told: &*told,
+        kernel: &*kernel,
+    };
+    add_each(out, heading.messages, &messages)
 }

@@ -1,9 +1,8 @@
 //! The lines of a part: its live threads, its memory, and the endpoints that it may use.
-ghost use Rattle.std.specs.Prelude.{◌≡◌, ◌++◌, OnOk, Some, codes, string_bytes};
-ghost use Rattle.std.specs.List.{flat_map, filter_map};
+ghost use Rattle.std.specs.Prelude.{◌≡◌, ◌++◌, OnOk, Some, string_bytes};
+ghost use Rattle.std.specs.List.{filter_map};
 ghost use Rattle.kernel_abstract.specs.Shown.{state_at};
 ghost use Rattle.query_parts.specs.Listed as listed;
-ghost use Rattle.setup_report.specs.Report.{terminated};
 ghost use Rattle.setup_report.specs.State.{threads as live_threads};
 ghost use Rattle.command_parts.specs.Telling.{home_of, part_naming_view};
 ghost use Rattle.command_parts.specs.Text as spec;
@@ -11,10 +10,11 @@ ghost use Rattle.command_parts.specs.Text as spec;
 use crate::messages::uses_held;
 use crate::sets::is_in;
 use crate::takes::PartSlot;
-use crate::telling::{Home, PartNaming, homes, threads_of};
+use crate::telling::{Home, PartNaming, threads_of};
 use cap_core::Profile;
 use ipc_core::Waiters;
 use kernel_core::{Kernel, ThreadState};
+use list_questions::{Line, add_each};
 use query_parts::{PartMemory, PartUse, Parts, part_at};
 use setup_report::RightsText;
 use slot_core::CapStore;
@@ -50,21 +50,25 @@ fn state_word(state: ThreadState) -> &'static str
     }
 }
 
-fn add_state<P: Profile, S: CapStore<P> + Drop, W: Waiters<P> + Drop>(
-    out: &mut String,
-    told: &PartNaming<'_>,
-    kernel: &Kernel<P, S, W>,
-    thread: u64,
-) -> Result<(), AllocError>
-    ensures { OnOk result (string_bytes out.new ≡ string_bytes out.old
-        ++ spec.state_line ((part_naming_view told.now).texts.about thread) (state_at kernel.now thread)) }
-{
-    match kernel.thread_state(thread) {
-        None => Ok(()),
-        Some(state) => {
-            let name = told.thread(thread);
-            let word = state_word(state);
-            writeln!(out, "  thread {name} {word}")
+/// A live thread and its state.
+#[derive(Drop)]
+struct ThreadLine<'a, P: Profile, S: CapStore<P> + Drop, W: Waiters<P> + Drop> {
+    told: &'a PartNaming<'a>,
+    kernel: &'a Kernel<P, S, W>,
+}
+
+impl<P: Profile, S: CapStore<P> + Drop, W: Waiters<P> + Drop> Line<u64>
+    for ThreadLine<'_, P, S, W> {
+    ghost line = { λ l thread. spec.state_line ((part_naming_view l.told.now).texts.about thread) (state_at l.kernel.now thread) };
+
+    fn add(&self, out: &mut String, thread: &u64) -> Result<(), AllocError> {
+        match self.kernel.thread_state(*thread) {
+            None => Ok(()),
+            Some(state) => {
+                let name = self.told.thread(*thread);
+                let word = state_word(state);
+                writeln!(out, "  thread {name} {word}")
+            }
         }
     }
 }
@@ -79,190 +83,102 @@ pub fn is_of_part(memory: &[PartMemory], part: u64, address: u64) -> bool
     }
 }
 
-fn add_threads<P: Profile, S: CapStore<P> + Drop, W: Waiters<P> + Drop>(
-    out: &mut String,
-    told: &PartNaming<'_>,
-    kernel: &Kernel<P, S, W>,
-    threads: &[u64],
-) -> Result<(), AllocError>
-    ensures { OnOk result (string_bytes out.new ≡ string_bytes out.old
-        ++ flat_map (λ thread. spec.state_line ((part_naming_view told.now).texts.about thread) (state_at kernel.now thread)) threads.now) }
-{
-    for thread in threads {
-        add_state::<P, S, W>(out, told, kernel, *thread)?;
-    }
-    Ok(())
-}
-
-fn add_stretch(out: &mut String, part: u64, stretch: &PartMemory) -> Result<(), AllocError>
-    ensures { OnOk result (string_bytes out.new ≡ string_bytes out.old ++ spec.memory_line part stretch.now) }
-{
-    let first = stretch.first;
-    let last = stretch.last;
-    if stretch.part == part {
-        writeln!(out, "  memory {first} to {last}")
-    } else {
-        Ok(())
-    }
-}
-
-fn add_memory(out: &mut String, part: u64, memory: &[PartMemory]) -> Result<(), AllocError>
-    ensures { OnOk result (string_bytes out.new ≡ string_bytes out.old ++ flat_map (spec.memory_line part) memory.now) }
-{
-    for stretch in memory {
-        add_stretch(out, part, stretch)?;
-    }
-    Ok(())
-}
-
-fn add_use(
-    out: &mut String,
-    told: &PartNaming<'_>,
+/// What is told of a part alone, of the memory and the uses of all parts.
+#[derive(Clone, Copy)]
+struct OfPart<'a> {
+    told: &'a PartNaming<'a>,
     part: u64,
-    allowed: &PartUse,
-) -> Result<(), AllocError>
-    ensures { OnOk result (string_bytes out.new ≡ string_bytes out.old ++ spec.use_line (part_naming_view told.now) part allowed.now) }
-{
-    let endpoint = told.endpoint(allowed.endpoint);
-    let badge = BadgeText(allowed.badge.0);
-    let rights = RightsText(allowed.rights);
-    if allowed.part == part {
+}
+
+impl Line<PartMemory> for OfPart<'_> {
+    ghost line = { λ l stretch. spec.memory_line l.part stretch };
+
+    fn add(&self, out: &mut String, stretch: &PartMemory) -> Result<(), AllocError> {
+        let first = stretch.first;
+        let last = stretch.last;
+        if stretch.part == self.part {
+            writeln!(out, "  memory {first} to {last}")
+        } else {
+            Ok(())
+        }
+    }
+}
+
+impl Line<PartUse> for OfPart<'_> {
+    ghost line = { λ l allowed. spec.use_line (part_naming_view l.told.now) l.part allowed };
+
+    fn add(&self, out: &mut String, allowed: &PartUse) -> Result<(), AllocError> {
+        let endpoint = self.told.endpoint(allowed.endpoint);
+        let badge = BadgeText(allowed.badge.0);
+        let rights = RightsText(allowed.rights);
+        if allowed.part == self.part {
+            writeln!(out, "  use {endpoint} badge {badge} rights {rights}")
+        } else {
+            Ok(())
+        }
+    }
+}
+
+/// A use of a part that only passes messages.
+#[derive(Clone, Copy)]
+struct HeldLine<'a> {
+    told: &'a PartNaming<'a>,
+}
+
+impl Line<PartUse> for HeldLine<'_> {
+    ghost line = { λ l held. spec.held_line (part_naming_view l.told.now) held };
+
+    fn add(&self, out: &mut String, held: &PartUse) -> Result<(), AllocError> {
+        let endpoint = self.told.endpoint(held.endpoint);
+        let badge = held.badge.0;
+        let rights = RightsText(held.rights);
         writeln!(out, "  use {endpoint} badge {badge} rights {rights}")
-    } else {
-        Ok(())
     }
 }
 
-fn add_uses(
-    out: &mut String,
-    told: &PartNaming<'_>,
-    part: u64,
-    uses: &[PartUse],
-) -> Result<(), AllocError>
-    ensures { OnOk result (string_bytes out.new ≡ string_bytes out.old ++ flat_map (spec.use_line (part_naming_view told.now) part) uses.now) }
-{
-    for allowed in uses {
-        add_use(out, told, part, allowed)?;
-    }
-    Ok(())
+/// What the lines of parts tell: the parts and their numbers, the full slots of the kernel, the parts that only pass messages, and
+/// where the live threads lie.
+#[derive(Drop)]
+pub struct PartLines<'a, P: Profile, S: CapStore<P> + Drop, W: Waiters<P> + Drop> {
+    pub alloc: Global,
+    pub told: &'a PartNaming<'a>,
+    pub kernel: &'a Kernel<P, S, W>,
+    pub parts: &'a Parts,
+    pub numbers: &'a [u64],
+    pub slots: &'a [PartSlot],
+    pub alone: &'a [u64],
+    pub homes: &'a [Home],
+    ghost numbered: { numbers.now ≡ spec.parts_of parts.now.memory.items },
+    ghost housed: { homes.now ≡ filter_map (home_of parts.now.memory.items) (live_threads P.profile kernel.now) },
 }
 
-fn add_held_use(out: &mut String, told: &PartNaming<'_>, held: &PartUse) -> Result<(), AllocError>
-    ensures { OnOk result (string_bytes out.new ≡ string_bytes out.old ++ spec.held_line (part_naming_view told.now) held.now) }
-{
-    let endpoint = told.endpoint(held.endpoint);
-    let badge = held.badge.0;
-    let rights = RightsText(held.rights);
-    writeln!(out, "  use {endpoint} badge {badge} rights {rights}")
-}
-
-fn add_held_uses(
-    out: &mut String,
-    told: &PartNaming<'_>,
-    held: &[PartUse],
-) -> Result<(), AllocError>
-    ensures { OnOk result (string_bytes out.new ≡ string_bytes out.old ++ flat_map (spec.held_line (part_naming_view told.now)) held.now) }
-{
-    for u in held {
-        add_held_use(out, told, u)?;
-    }
-    Ok(())
-}
-
-fn add_held(
-    alloc: Global,
-    out: &mut String,
-    told: &PartNaming<'_>,
-    part_slots: &[PartSlot],
-    part: u64,
-) -> Result<(), AllocError>
-    ensures { OnOk result (string_bytes out.new ≡ string_bytes out.old ++ spec.held_lines (part_naming_view told.now) part_slots.now part) }
-{
-    let held = uses_held(alloc, part_slots, part)?;
-    writeln!(out, "  only messages")?;
-    add_held_uses(out, told, held.as_slice())
-}
-
-/// Adds the uses of a part; of one that only passes messages what it has, below a line that says so.
-fn add_uses_told(
-    alloc: Global,
-    out: &mut String,
-    told: &PartNaming<'_>,
-    part_slots: &[PartSlot],
-    alone: &[u64],
-    uses: &[PartUse],
-    part: u64,
-) -> Result<(), AllocError>
-    ensures { OnOk result (string_bytes out.new ≡ string_bytes out.old
-        ++ spec.use_lines (part_naming_view told.now) part_slots.now alone.now uses.now part) }
-{
-    if is_in(alone, part) {
-        add_held(alloc, out, told, part_slots, part)
-    } else {
-        add_uses(out, told, part, uses)
+impl<P: Profile, S: CapStore<P> + Drop, W: Waiters<P> + Drop> PartLines<'_, P, S, W> {
+    /// Adds the uses of a part; of one that only passes messages what it has, below a line that says so.
+    fn add_uses(&self, out: &mut String, part: u64) -> Result<(), AllocError>
+        ensures { OnOk result (string_bytes out.new ≡ string_bytes out.old
+            ++ spec.use_lines (part_naming_view self.now.told.now) self.now.slots.now self.now.alone.now self.now.parts.now.uses.items part) }
+    {
+        let told = self.told;
+        if is_in(self.alone, part) {
+            let held = uses_held(self.alloc, self.slots, part)?;
+            writeln!(out, "  only messages")?;
+            add_each(out, held.as_slice(), &HeldLine { told })
+        } else {
+            add_each(out, self.parts.uses.as_slice(), &OfPart { told, part })
+        }
     }
 }
 
-fn add_number(out: &mut String, told: &PartNaming<'_>, part: u64) -> Result<(), AllocError>
-    ensures { OnOk result (string_bytes out.new ≡ string_bytes out.old ++ terminated (codes "part " ++ (part_naming_view told.now).part part)) }
-{
-    let part = told.part(part)?;
-    writeln!(out, "part {part}")
-}
+impl<P: Profile, S: CapStore<P> + Drop, W: Waiters<P> + Drop> Line<u64> for PartLines<'_, P, S, W> {
+    ghost line = { λ l part. spec.part_lines P.profile (part_naming_view l.told.now) l.parts.now.memory.items l.parts.now.uses.items l.kernel.now l.slots.now l.alone.now part };
 
-/// Adds the lines of a part, by where the live threads lie.
-fn add_part<P: Profile, S: CapStore<P> + Drop, W: Waiters<P> + Drop>(
-    alloc: Global,
-    out: &mut String,
-    told: &PartNaming<'_>,
-    kernel: &Kernel<P, S, W>,
-    homes: &[Home],
-    parts: &Parts,
-    part_slots: &[PartSlot],
-    alone: &[u64],
-    part: u64,
-) -> Result<(), AllocError>
-    requires { homes.now ≡ filter_map (home_of parts.now.memory.items) (live_threads P.profile kernel.now) }
-    ensures { OnOk result (string_bytes out.new ≡ string_bytes out.old
-        ++ spec.part_lines P.profile (part_naming_view told.now) parts.now.memory.items parts.now.uses.items kernel.now part_slots.now alone.now part) }
-{
-    add_number(out, told, part)?;
-    let threads = threads_of(alloc, homes, part)?;
-    add_threads::<P, S, W>(out, told, kernel, threads.as_slice())?;
-    add_memory(out, part, parts.memory.as_slice())?;
-    add_uses_told(
-        alloc,
-        out,
-        told,
-        part_slots,
-        alone,
-        parts.uses.as_slice(),
-        part,
-    )
-}
-
-/// Adds the lines of parts, by their numbers.
-pub fn add_parts<P: Profile, S: CapStore<P> + Drop, W: Waiters<P> + Drop>(
-    alloc: Global,
-    out: &mut String,
-    told: &PartNaming<'_>,
-    kernel: &Kernel<P, S, W>,
-    threads: &[u64],
-    parts: &Parts,
-    part_slots: &[PartSlot],
-    alone: &[u64],
-    numbers: &[u64],
-) -> Result<(), AllocError>
-    requires { threads.now ≡ live_threads P.profile kernel.now }
-    ensures { OnOk result (string_bytes out.new ≡ string_bytes out.old
-        ++ flat_map (spec.part_lines P.profile (part_naming_view told.now) parts.now.memory.items parts.now.uses.items kernel.now part_slots.now alone.now) numbers.now) }
-{
-    let homes = homes(alloc, parts.memory.as_slice(), threads)?;
-    let homes = homes.as_slice();
-    for part in numbers {
-        add_part::<P, S, W>(
-            alloc, out, told, kernel, homes, parts, part_slots, alone, *part,
-        )?;
+    fn add(&self, out: &mut String, part: &u64) -> Result<(), AllocError> {
+        let (told, kernel, part) = (self.told, self.kernel, *part);
+        let name = told.part(part)?;
+        writeln!(out, "part {name}")?;
+        let threads = threads_of(self.alloc, self.homes, part)?;
+        add_each(out, threads.as_slice(), &ThreadLine { told, kernel })?;
+        add_each(out, self.parts.memory.as_slice(), &OfPart { told, part })?;
+        self.add_uses(out, part)
     }
-    Ok(())
 }

@@ -5,16 +5,6 @@ ghost use Rattle.setup_report.specs.State.{is_in as is_in_list, rising as rising
 use std::alloc::{AllocError, Global};
 use std::collections::BTreeSet;
 
-fn set_of(alloc: Global, numbers: &[u64]) -> Result<BTreeSet<u64>, AllocError>
-    ensures { IfOk result (λ set. set.keys ≡ rising_of numbers.now) }
-{
-    let mut set = BTreeSet::new(alloc);
-    for number in numbers {
-        set.insert(*number)?;
-    }
-    Ok(set)
-}
-
 /// The numbers of a set, in rising order.
 pub fn listed(alloc: Global, set: &BTreeSet<u64>) -> Result<Vec<u64>, AllocError>
     ensures { IfOk result (λ v. v.items ≡ set.now.keys) }
@@ -30,7 +20,10 @@ pub fn listed(alloc: Global, set: &BTreeSet<u64>) -> Result<Vec<u64>, AllocError
 pub fn rising(alloc: Global, numbers: &[u64]) -> Result<Vec<u64>, AllocError>
     ensures { IfOk result (λ v. v.items ≡ rising_of numbers.now) }
 {
-    let set = set_of(alloc, numbers)?;
+    let mut set = BTreeSet::new(alloc);
+    for number in numbers {
+        set.insert(*number)?;
+    }
     listed(alloc, &set)
 }
 
@@ -38,5 +31,10 @@ pub fn rising(alloc: Global, numbers: &[u64]) -> Result<Vec<u64>, AllocError>
 pub fn is_in(list: &[u64], number: u64) -> bool
     ensures { result ≡ is_in_list number list.now }
 {
-    list.iter().any(|other| number == *other)
+    for other in list {
+        if number == *other {
+            return true;
+        }
+    }
+    false
 }

@@ -1,6 +1,5 @@
 //! Which parts may take slots from which: a revoke clears what stands below a slot, whoever has it.
-ghost use Rattle.std.specs.Prelude.{◌≡◌, ◌++◌, ◌∷◌, ◌||◌, [], ℕ, IfOk, List, OnOk, cond, map, string_bytes};
-ghost use Rattle.std.specs.List.{flat_map};
+ghost use Rattle.std.specs.Prelude.{◌≡◌, ◌++◌, ◌∷◌, [], ℕ, IfOk, List, OnOk, cond, string_bytes};
 ghost use Rattle.slot_core.specs.Calls.{derivation_view};
 ghost use Rattle.setup_report.specs.State.{rising as rising_of};
 ghost use Rattle.command_parts.specs.Takes as spec;
@@ -13,6 +12,7 @@ use crate::ways::others;
 use cap_core::{Cap, Profile};
 use ipc_core::Waiters;
 use kernel_core::Kernel;
+use list_questions::Line;
 use query_parts::{PartMemory, part_at};
 use slot_core::{Derivation, DerivationStore};
 use std::alloc::{AllocError, Global};
@@ -53,19 +53,6 @@ fn part_slot<P: Profile>(memory: &[PartMemory], derivation: &Derivation) -> Part
     }
 }
 
-fn part_slots_of<P: Profile>(
-    alloc: Global,
-    memory: &[PartMemory],
-    derivations: &[Derivation],
-) -> Result<Vec<PartSlot>, AllocError>
-    ensures { IfOk result (λ v. v.items ≡ map (λ d. spec.part_slot memory.now (derivation_view P.profile d)) derivations.now) }
-{
-    derivations
-        .iter()
-        .map(|d| part_slot::<P>(memory, d))
-        .collect(alloc)
-}
-
 /// The full slots of a kernel, each before those below it.
 pub fn part_slots<P: Profile, S: DerivationStore<P> + Drop, W: Waiters<P> + Drop>(
     alloc: Global,
@@ -75,7 +62,11 @@ pub fn part_slots<P: Profile, S: DerivationStore<P> + Drop, W: Waiters<P> + Drop
     ensures { IfOk result (λ v. v.items ≡ spec.part_slots memory.now kernel.now.derivations) }
 {
     let derivations = kernel.derivations(alloc)?;
-    part_slots_of::<P>(alloc, memory, derivations.as_slice())
+    let mut slots = Vec::new(alloc);
+    for derivation in &derivations {
+        slots.push(part_slot::<P>(memory, derivation))?;
+    }
+    Ok(slots)
 }
 
 /// Whether a slot stands right below one of some.
@@ -97,13 +88,6 @@ pub fn is_number(of: Option<u64>, part: u64) -> bool
         Some(number) => number == part,
         None => false,
     }
-}
-
-/// Whether a slot is of a part, or stands below one that is.
-fn is_kept(under: bool, part: u64, of: Option<u64>) -> bool
-    ensures { result ≡ (under || spec.is_part part of) }
-{
-    under || is_number(of, part)
 }
 
 /// Adds a slot to a set, where it is to be kept.
@@ -139,7 +123,7 @@ fn look_at(
     ensures below { OnOk result ((all : List ℕ) → slots.old.keys ≡ rising_of all → below.new.items ≡ below.old.items ++ spec.part_below all part_slot.now) }
 {
     let under = is_beneath(slots, part_slot.above);
-    let keeps = is_kept(under, part, part_slot.part);
+    let keeps = under || is_number(part_slot.part, part);
     keep_slot(slots, part_slot.slot, keeps)?;
     keep_part(below, part_slot.part, under)
 }
@@ -165,15 +149,6 @@ fn taken_by(alloc: Global, part_slots: &[PartSlot], part: u64) -> Result<Vec<u64
     others(alloc, each.as_slice(), part)
 }
 
-fn add_takes_by(takes: &mut Vec<Take>, by: u64, taken: &[u64]) -> Result<(), AllocError>
-    ensures { OnOk result (takes.new.items ≡ takes.old.items ++ map (spec.taking by) taken.now) }
-{
-    for of in taken {
-        takes.push(Take { by, of: *of })?;
-    }
-    Ok(())
-}
-
 /// Of each of some parts, the parts from which it may take slots.
 pub fn takes(alloc: Global, part_slots: &[PartSlot], parts: &[u64]) -> Result<Vec<Take>, AllocError>
     ensures { IfOk result (λ v. v.items ≡ spec.takes part_slots.now parts.now) }
@@ -181,27 +156,27 @@ pub fn takes(alloc: Global, part_slots: &[PartSlot], parts: &[u64]) -> Result<Ve
     let mut takes = Vec::new(alloc);
     for part in parts {
         let taken = taken_by(alloc, part_slots, *part)?;
-        add_takes_by(&mut takes, *part, taken.as_slice())?;
+        for of in &taken {
+            takes.push(Take { by: *part, of: *of })?;
+        }
     }
     Ok(takes)
 }
 
-fn add_take(out: &mut String, told: &PartNaming<'_>, by: u64, of: u64) -> Result<(), AllocError>
-    ensures { OnOk result (string_bytes out.new ≡ string_bytes out.old ++ text.take_line (part_naming_view told.now) (spec.taking by of)) }
-{
-    let by = told.part(by)?;
-    let of = told.part(of)?;
-    writeln!(out, "take {by} -> {of}")
+/// How it is told that a part may take slots from another.
+#[derive(Clone, Copy)]
+pub struct TakeLine<'a> {
+    pub told: &'a PartNaming<'a>,
 }
 
-/// Adds a line for each of some parts, and a part from which it may take slots.
-pub fn add_takes(out: &mut String, told: &PartNaming<'_>, takes: &[Take]) -> Result<(), AllocError>
-    ensures { OnOk result (string_bytes out.new ≡ string_bytes out.old ++ flat_map (text.take_line (part_naming_view told.now)) takes.now) }
-{
-    for take in takes {
-        add_take(out, told, take.by, take.of)?;
+impl Line<Take> for TakeLine<'_> {
+    ghost line = { λ l take. text.take_line (part_naming_view l.told.now) take };
+
+    fn add(&self, out: &mut String, take: &Take) -> Result<(), AllocError> {
+        let by = self.told.part(take.by)?;
+        let of = self.told.part(take.of)?;
+        writeln!(out, "take {by} -> {of}")
     }
-    Ok(())
 }
 
 /// Adds a line where a part may take slots from another.
@@ -217,7 +192,8 @@ pub fn add_take_of(
 {
     let taken = taken_by(alloc, part_slots, by)?;
     if is_in(taken.as_slice(), of) {
-        add_take(out, told, by, of)
+        let line = TakeLine { told: &*told };
+        line.add(out, &Take { by, of })
     } else {
         Ok(())
     }

@@ -1,12 +1,13 @@
 //! How a text of parts tells threads, endpoints and parts.
-ghost use Rattle.std.specs.Prelude.{◌≡◌, ◌++◌, ℕ, [], IfOk, OnOk, Some, cond, string_bytes};
-ghost use Rattle.std.specs.List.{flat_map, filter_map};
+ghost use Rattle.std.specs.Prelude.{◌≡◌, ℕ, [], IfOk, Some, cond, string_bytes};
+ghost use Rattle.std.specs.List.{filter_map};
 ghost use Rattle.setup_report.specs.Naming.{naming_view, told_as};
 ghost use Rattle.setup_report.specs.Text.{held_slot_text};
 ghost use Rattle.setup_report.specs.declared.objects.Object.TheVariants as objects;
 ghost use Rattle.command_parts.specs.Telling as spec;
 
 use cap_core::Cap;
+use list_questions::{Line, add_each};
 use query_parts::{PartMemory, part_at};
 use setup_report::{HeldSlot, Naming, Object, Told};
 use std::alloc::{AllocError, Global};
@@ -49,23 +50,18 @@ impl fmt::Display for PartTold {
     }
 }
 
-fn home_of(memory: &[PartMemory], thread: u64) -> Option<Home>
-    ensures { result ≡ spec.home_of memory.now thread }
-{
-    match part_at(memory, thread) {
-        None => None,
-        Some(part) => Some(Home { thread, part }),
-    }
-}
-
 /// Where some threads lie, each in a part's memory.
 pub fn homes(alloc: Global, memory: &[PartMemory], threads: &[u64]) -> Result<Vec<Home>, AllocError>
     ensures { IfOk result (λ homes. homes.items ≡ filter_map (spec.home_of memory.now) threads.now) }
 {
-    threads
-        .iter()
-        .filter_map(|thread| home_of(memory, *thread))
-        .collect(alloc)
+    let mut homes = Vec::new(alloc);
+    for thread in threads {
+        if let Some(part) = part_at(memory, *thread) {
+            let thread = *thread;
+            homes.push(Home { thread, part })?;
+        }
+    }
+    Ok(homes)
 }
 
 /// The same, if names stand in place of addresses; else none.
@@ -88,21 +84,28 @@ fn homes_told(
 pub fn threads_of(alloc: Global, homes: &[Home], part: u64) -> Result<Vec<u64>, AllocError>
     ensures { IfOk result (λ threads. threads.items ≡ spec.threads_at_home homes.now part) }
 {
-    homes
-        .iter()
-        .filter(|home| home.part == part)
-        .map(|home| home.thread)
-        .collect(alloc)
+    let mut threads = Vec::new(alloc);
+    for home in homes {
+        if home.part == part {
+            threads.push(home.thread)?;
+        }
+    }
+    Ok(threads)
 }
 
-fn add_behind(out: &mut String, naming: &Naming<'_>, threads: &[u64]) -> Result<(), AllocError>
-    ensures { OnOk result (string_bytes out.new ≡ string_bytes out.old ++ flat_map (spec.thread_behind (naming_view naming.now)) threads.now) }
-{
-    for thread in threads {
-        let told = naming.about(*thread);
-        write!(out, "+{told}")?;
+/// A thread of a part, behind another.
+#[derive(Clone, Copy)]
+struct ThreadBehind<'a> {
+    naming: &'a Naming<'a>,
+}
+
+impl Line<u64> for ThreadBehind<'_> {
+    ghost line = { λ l thread. spec.thread_behind (naming_view l.naming.now) thread };
+
+    fn add(&self, out: &mut String, thread: &u64) -> Result<(), AllocError> {
+        let told = self.naming.about(*thread);
+        write!(out, "+{told}")
     }
-    Ok(())
 }
 
 impl<'a> PartNaming<'a> {
@@ -162,7 +165,7 @@ impl<'a> PartNaming<'a> {
             [] => Ok(PartTold::Number(part)),
             [first, rest @ ..] => {
                 let mut text = format!(in alloc; "{}", naming.about(*first))?;
-                add_behind(&mut text, naming, rest)?;
+                add_each(&mut text, rest, &ThreadBehind { naming })?;
                 Ok(PartTold::Threads(text))
             }
         }

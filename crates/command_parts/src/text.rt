@@ -11,195 +11,141 @@ ghost use Rattle.command_parts.specs.Ever.{AreRightParts, IsPartsText};
 
 use crate::head::{Heading, add_heading};
 use crate::messages::messengers;
-use crate::parts::add_parts;
+use crate::parts::PartLines;
 use crate::sets::listed;
-use crate::takes::{PartSlot, add_takes, part_slots, takes};
-use crate::telling::PartNaming;
+use crate::takes::{TakeLine, part_slots, takes};
+use crate::telling::{PartNaming, homes};
 use crate::threads::callers;
-use crate::ways::{Passing, add_messages, add_ways, message_ways, parts_of, ways_by};
+use crate::ways::{MessageLine, Passing, PassingLine, message_ways, parts_of, ways_by};
 use cap_core::Profile;
 use ipc_core::Waiters;
 use kernel_core::Kernel;
+use list_questions::{Line, add_each};
 use query_parts::{Parts, PartsFault, parts_around};
 use setup_report::{Naming, StateRows, state_rows, waiting_threads};
 use slot_core::{CapStore, DerivationStore};
 use std::alloc::{AllocError, Global};
 use std::fmt::Write;
 
-fn add_offer<P: Profile, S: CapStore<P> + Drop, W: Waiters<P> + Drop>(
-    out: &mut String,
-    told: &PartNaming<'_>,
-    kernel: &Kernel<P, S, W>,
+/// A send that waits on an endpoint.
+#[derive(Drop)]
+struct OfferLine<'a, P: Profile, S: CapStore<P> + Drop, W: Waiters<P> + Drop> {
+    told: &'a PartNaming<'a>,
+    kernel: &'a Kernel<P, S, W>,
     endpoint: u64,
-    thread: u64,
-) -> Result<(), AllocError>
-    ensures { OnOk result (string_bytes out.new ≡ string_bytes out.old
-        ++ spec.waiting_line (part_naming_view told.now) kernel.now endpoint thread) }
-{
-    match kernel.offer(thread) {
-        None => Ok(()),
-        Some(offer) => {
-            let name = told.thread(thread);
-            let endpoint = told.endpoint(endpoint);
-            let badge = offer.badge.0;
-            writeln!(out, "waiting {name} -> {endpoint} badge {badge}")
+}
+
+impl<P: Profile, S: CapStore<P> + Drop, W: Waiters<P> + Drop> Line<u64> for OfferLine<'_, P, S, W> {
+    ghost line = { λ l thread. spec.waiting_line (part_naming_view l.told.now) l.kernel.now l.endpoint thread };
+
+    fn add(&self, out: &mut String, thread: &u64) -> Result<(), AllocError> {
+        match self.kernel.offer(*thread) {
+            None => Ok(()),
+            Some(offer) => {
+                let name = self.told.thread(*thread);
+                let endpoint = self.told.endpoint(self.endpoint);
+                let badge = offer.badge.0;
+                writeln!(out, "waiting {name} -> {endpoint} badge {badge}")
+            }
         }
     }
 }
 
-fn add_offers<P: Profile, S: CapStore<P> + Drop, W: Waiters<P> + Drop>(
-    out: &mut String,
-    told: &PartNaming<'_>,
-    kernel: &Kernel<P, S, W>,
-    endpoint: u64,
-    threads: &[u64],
-) -> Result<(), AllocError>
-    ensures { OnOk result (string_bytes out.new ≡ string_bytes out.old
-        ++ flat_map (spec.waiting_line (part_naming_view told.now) kernel.now endpoint) threads.now) }
-{
-    for thread in threads {
-        add_offer::<P, S, W>(out, told, kernel, endpoint, *thread)?;
+/// The sends that wait on an endpoint.
+#[derive(Drop)]
+struct WaitingLines<'a, P: Profile, S: CapStore<P> + Drop, W: Waiters<P> + Drop> {
+    alloc: Global,
+    told: &'a PartNaming<'a>,
+    kernel: &'a Kernel<P, S, W>,
+}
+
+impl<P: Profile, S: CapStore<P> + Drop, W: Waiters<P> + Drop> Line<u64>
+    for WaitingLines<'_, P, S, W> {
+    ghost line = { λ l endpoint. spec.waiting_lines (part_naming_view l.told.now) l.kernel.now endpoint };
+
+    fn add(&self, out: &mut String, endpoint: &u64) -> Result<(), AllocError> {
+        let (told, kernel, endpoint) = (self.told, self.kernel, *endpoint);
+        let threads = waiting_threads::<P, S, W>(self.alloc, endpoint, kernel)?;
+        let offer = OfferLine {
+            told,
+            kernel,
+            endpoint,
+        };
+        add_each(out, threads.as_slice(), &offer)
     }
-    Ok(())
 }
 
-fn add_waiting_on<P: Profile, S: CapStore<P> + Drop, W: Waiters<P> + Drop>(
-    alloc: Global,
-    out: &mut String,
-    told: &PartNaming<'_>,
-    kernel: &Kernel<P, S, W>,
-    endpoint: u64,
-) -> Result<(), AllocError>
-    ensures { OnOk result (string_bytes out.new ≡ string_bytes out.old
-        ++ spec.waiting_lines (part_naming_view told.now) kernel.now endpoint) }
-{
-    let threads = waiting_threads::<P, S, W>(alloc, endpoint, kernel)?;
-    add_offers::<P, S, W>(out, told, kernel, endpoint, threads.as_slice())
-}
-
-/// Adds a line for each send that waits.
-fn add_waiting<P: Profile, S: CapStore<P> + Drop, W: Waiters<P> + Drop>(
-    alloc: Global,
-    out: &mut String,
-    told: &PartNaming<'_>,
-    kernel: &Kernel<P, S, W>,
-    endpoints: &[u64],
-) -> Result<(), AllocError>
-    ensures { OnOk result (string_bytes out.new ≡ string_bytes out.old
-        ++ flat_map (spec.waiting_lines (part_naming_view told.now) kernel.now) endpoints.now) }
-{
-    for endpoint in endpoints {
-        add_waiting_on::<P, S, W>(alloc, out, told, kernel, *endpoint)?;
+impl<P: Profile, S: DerivationStore<P> + Drop, W: Waiters<P> + Drop> PartLines<'_, P, S, W> {
+    /// Adds the lines of the ways by which something passes, and tells how many there are.
+    fn add_passing(&self, out: &mut String, passing: Passing) -> Result<usize, AllocError>
+        ensures lines { OnOk result (string_bytes out.new ≡ string_bytes out.old
+            ++ spec.way_lines (part_naming_view self.now.told.now) passing P.profile self.now.parts.now.memory.items self.now.parts.now.uses.items) }
+        ensures count { IfOk result (λ n. n ≡ length (spec.ways passing P.profile self.now.parts.now.memory.items self.now.parts.now.uses.items)) }
+    {
+        let memory = self.parts.memory.as_slice();
+        let uses = self.parts.uses.as_slice();
+        let ways = ways_by::<P>(self.alloc, memory, uses, self.numbers, passing)?;
+        let told = self.told;
+        add_each(out, ways.as_slice(), &PassingLine { told, passing })?;
+        Ok(ways.len())
     }
-    Ok(())
+
+    /// Adds the lines of the ways by which messages pass, and tells how many there are.
+    fn add_message_passing(&self, out: &mut String) -> Result<usize, AllocError>
+        ensures lines { OnOk result (string_bytes out.new ≡ string_bytes out.old
+            ++ flat_map (spec.message_line (part_naming_view self.now.told.now) self.now.alone.now)
+            (spec.message_ways P.profile self.now.parts.now.memory.items self.now.parts.now.uses.items self.now.slots.now self.now.alone.now)) }
+        ensures count { IfOk result (λ n. n
+            ≡ length (spec.message_ways P.profile self.now.parts.now.memory.items self.now.parts.now.uses.items self.now.slots.now self.now.alone.now)) }
+    {
+        let (parts, numbers, alone) = (self.parts, self.numbers, self.alone);
+        let ways = message_ways::<P>(self.alloc, parts, numbers, self.slots, alone)?;
+        let told = self.told;
+        add_each(out, ways.as_slice(), &MessageLine { told, alone })?;
+        Ok(ways.len())
+    }
+
+    /// Adds the lines of the parts from which others may take slots, and tells how many there are.
+    fn add_taken(&self, out: &mut String) -> Result<usize, AllocError>
+        ensures lines { OnOk result (string_bytes out.new ≡ string_bytes out.old
+            ++ flat_map (spec.take_line (part_naming_view self.now.told.now)) (spec_takes self.now.slots.now self.now.numbers.now)) }
+        ensures count { IfOk result (λ n. n ≡ length (spec_takes self.now.slots.now self.now.numbers.now)) }
+    {
+        let taken = takes(self.alloc, self.slots, self.numbers)?;
+        let told = self.told;
+        add_each(out, taken.as_slice(), &TakeLine { told })?;
+        Ok(taken.len())
+    }
+
+    /// Adds the lines of parts, of the ways between them, of who may take slots from whom, and of the sends that wait.
+    #[tactic(auto, unfolding(crate::specs::Text::lines_by_slots))]
+    fn add_all(&self, out: &mut String, endpoints: &[u64]) -> Result<(), AllocError>
+        requires { endpoints.now ≡ state.endpoints P.profile self.now.kernel.now }
+        ensures { OnOk result (string_bytes out.new ≡ string_bytes out.old
+            ++ spec.lines_by_slots P.profile (part_naming_view self.now.told.now) self.now.parts.now.memory.items self.now.parts.now.uses.items
+            self.now.kernel.now self.now.slots.now self.now.alone.now) }
+    {
+        let (alloc, told, kernel) = (self.alloc, self.told, self.kernel);
+        add_each(out, self.numbers, self)?;
+        let ways = self.add_message_passing(out)?;
+        let grants = self.add_passing(out, Passing::Grant)?;
+        let replies = self.add_passing(out, Passing::Answer)?;
+        let takes = self.add_taken(out)?;
+        let waiting = WaitingLines {
+            alloc,
+            told,
+            kernel,
+        };
+        add_each(out, endpoints, &waiting)?;
+        let parts = self.numbers.len();
+        writeln!(
+            out,
+            "parts {parts} ways {ways} grants {grants} replies {replies} takes {takes}"
+        )
+    }
 }
 
-fn add_count(
-    out: &mut String,
-    parts: usize,
-    ways: usize,
-    grants: usize,
-    replies: usize,
-    takes: usize,
-) -> Result<(), AllocError>
-    ensures { OnOk result (string_bytes out.new ≡ string_bytes out.old ++ spec.parts_count_line parts ways grants replies takes) }
-{
-    writeln!(
-        out,
-        "parts {parts} ways {ways} grants {grants} replies {replies} takes {takes}"
-    )
-}
-
-/// Adds the lines of the ways by which something passes, and tells how many there are.
-fn add_passing<P: Profile>(
-    alloc: Global,
-    out: &mut String,
-    told: &PartNaming<'_>,
-    parts: &Parts,
-    numbers: &[u64],
-    passing: Passing,
-) -> Result<usize, AllocError>
-    requires { numbers.now ≡ spec.parts_of parts.now.memory.items }
-    ensures lines { OnOk result (string_bytes out.new ≡ string_bytes out.old
-        ++ spec.way_lines (part_naming_view told.now) passing P.profile parts.now.memory.items parts.now.uses.items) }
-    ensures count { IfOk result (λ n. n ≡ length (spec.ways passing P.profile parts.now.memory.items parts.now.uses.items)) }
-{
-    let memory = parts.memory.as_slice();
-    let ways = ways_by::<P>(alloc, memory, parts.uses.as_slice(), numbers, passing)?;
-    add_ways(out, told, passing, ways.as_slice())?;
-    Ok(ways.len())
-}
-
-/// Adds the lines of the ways by which messages pass, and tells how many there are.
-fn add_message_passing<P: Profile>(
-    alloc: Global,
-    out: &mut String,
-    told: &PartNaming<'_>,
-    parts: &Parts,
-    numbers: &[u64],
-    part_slots: &[PartSlot],
-    alone: &[u64],
-) -> Result<usize, AllocError>
-    requires { numbers.now ≡ spec.parts_of parts.now.memory.items }
-    ensures lines { OnOk result (string_bytes out.new ≡ string_bytes out.old
-        ++ flat_map (spec.message_line (part_naming_view told.now) alone.now) (spec.message_ways P.profile parts.now.memory.items parts.now.uses.items part_slots.now alone.now)) }
-    ensures count { IfOk result (λ n. n ≡ length (spec.message_ways P.profile parts.now.memory.items parts.now.uses.items part_slots.now alone.now)) }
-{
-    let memory = parts.memory.as_slice();
-    let uses = parts.uses.as_slice();
-    let ways = message_ways::<P>(alloc, memory, uses, numbers, part_slots, alone)?;
-    add_messages(out, told, alone, ways.as_slice())?;
-    Ok(ways.len())
-}
-
-/// Adds the lines of the parts from which others may take slots, and tells how many there are.
-fn add_taken(
-    alloc: Global,
-    out: &mut String,
-    told: &PartNaming<'_>,
-    part_slots: &[PartSlot],
-    numbers: &[u64],
-) -> Result<usize, AllocError>
-    ensures lines { OnOk result (string_bytes out.new ≡ string_bytes out.old ++ flat_map (spec.take_line (part_naming_view told.now)) (spec_takes part_slots.now numbers.now)) }
-    ensures count { IfOk result (λ n. n ≡ length (spec_takes part_slots.now numbers.now)) }
-{
-    let taken = takes(alloc, part_slots, numbers)?;
-    add_takes(out, told, taken.as_slice())?;
-    Ok(taken.len())
-}
-
-/// Adds the lines by the full slots, and the parts that only pass messages.
-#[tactic(auto, unfolding(crate::specs::Text::lines_by_slots))]
-fn add_lines_by_slots<P: Profile, S: DerivationStore<P> + Drop, W: Waiters<P> + Drop>(
-    alloc: Global,
-    out: &mut String,
-    told: &PartNaming<'_>,
-    kernel: &Kernel<P, S, W>,
-    threads: &[u64],
-    endpoints: &[u64],
-    parts: &Parts,
-    numbers: &[u64],
-    part_slots: &[PartSlot],
-    alone: &[u64],
-) -> Result<(), AllocError>
-    requires threads { threads.now ≡ state.threads P.profile kernel.now }
-    requires endpoints { endpoints.now ≡ state.endpoints P.profile kernel.now }
-    requires numbers { numbers.now ≡ spec.parts_of parts.now.memory.items }
-    ensures { OnOk result (string_bytes out.new ≡ string_bytes out.old
-        ++ spec.lines_by_slots P.profile (part_naming_view told.now) parts.now.memory.items parts.now.uses.items kernel.now part_slots.now alone.now) }
-{
-    add_parts::<P, S, W>(
-        alloc, out, told, kernel, threads, parts, part_slots, alone, numbers,
-    )?;
-    let ways = add_message_passing::<P>(alloc, out, told, parts, numbers, part_slots, alone)?;
-    let grants = add_passing::<P>(alloc, out, told, parts, numbers, Passing::Grant)?;
-    let replies = add_passing::<P>(alloc, out, told, parts, numbers, Passing::Answer)?;
-    let taken = add_taken(alloc, out, told, part_slots, numbers)?;
-    add_waiting::<P, S, W>(alloc, out, told, kernel, endpoints)?;
-    add_count(out, numbers.len(), ways, grants, replies, taken)
-}
-
-/// Adds the lines of parts, of the ways between them, of who may take slots from whom, and of the sends that wait.
+/// Adds the lines of parts, where the live threads and endpoints are known.
 #[tactic(auto, unfolding(crate::specs::Text::ever_lines))]
 fn add_lines<P: Profile, S: DerivationStore<P> + Drop, W: Waiters<P> + Drop>(
     alloc: Global,
@@ -217,14 +163,20 @@ fn add_lines<P: Profile, S: DerivationStore<P> + Drop, W: Waiters<P> + Drop>(
 {
     let memory = parts.memory.as_slice();
     let numbers = parts_of(alloc, memory)?;
-    let numbers = numbers.as_slice();
     let slots = part_slots::<P, S, W>(alloc, memory, kernel)?;
-    let slots = slots.as_slice();
-    let alone = messengers::<P>(alloc, slots, numbers)?;
-    let alone = alone.as_slice();
-    add_lines_by_slots::<P, S, W>(
-        alloc, out, told, kernel, threads, endpoints, parts, numbers, slots, alone,
-    )
+    let alone = messengers::<P>(alloc, slots.as_slice(), numbers.as_slice())?;
+    let homes = homes(alloc, memory, threads)?;
+    let lines = PartLines {
+        alloc,
+        told: &*told,
+        kernel: &*kernel,
+        parts: &*parts,
+        numbers: numbers.as_slice(),
+        slots: slots.as_slice(),
+        alone: alone.as_slice(),
+        homes: homes.as_slice(),
+    };
+    lines.add_all(out, endpoints)
 }
 
 /// The text of parts that are given.
@@ -244,19 +196,13 @@ fn text_of_parts<P: Profile, S: DerivationStore<P> + Drop, W: Waiters<P> + Drop>
         parts.now.memory.items parts.now.uses.items kernel.now) }
 {
     let threads = listed(alloc, &rows.threads)?;
+    let threads = threads.as_slice();
     let endpoints = listed(alloc, &rows.endpoints)?;
-    let told = PartNaming::new(alloc, naming, parts.memory.as_slice(), threads.as_slice())?;
+    let endpoints = endpoints.as_slice();
+    let told = PartNaming::new(alloc, naming, parts.memory.as_slice(), threads)?;
     let mut out = String::new(alloc);
     add_heading::<P, S, W>(&mut out, "ever 3", &told, heading, kernel)?;
-    add_lines::<P, S, W>(
-        alloc,
-        &mut out,
-        &told,
-        kernel,
-        threads.as_slice(),
-        endpoints.as_slice(),
-        parts,
-    )?;
+    add_lines::<P, S, W>(alloc, &mut out, &told, kernel, threads, endpoints, parts)?;
     Ok(out.into_bytes())
 }
 
@@ -285,7 +231,7 @@ pub fn parts_of_callers<P: Profile, S: DerivationStore<P> + Drop, W: Waiters<P> 
 pub fn all_trusted(alloc: Global, heading: &Heading<'_>) -> Result<Vec<u64>, AllocError>
     ensures { IfOk result (λ v. v.items ≡ heading.now.without.now ++ heading.now.messages.now) }
 {
-    let mut trusted: Vec<u64> = heading.without.iter().copied().collect(alloc)?;
+    let mut trusted = Vec::from_slice(alloc, heading.without)?;
     trusted.extend_from_slice(heading.messages)?;
     Ok(trusted)
 }

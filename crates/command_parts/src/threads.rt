@@ -134,9 +134,11 @@ pub fn named<P: Profile, S: CapStore<P> + Drop, W: Waiters<P> + Drop>(
 pub fn callers(alloc: Global, threads: &[u64], trusted: &[u64]) -> Result<Vec<u64>, AllocError>
     ensures { IfOk result (λ v. v.items ≡ filter (λ thread. not (is_in_list thread trusted.now)) threads.now) }
 {
-    threads
-        .iter()
-        .filter(|thread| !is_in(trusted, **thread))
-        .copied()
-        .collect(alloc)
+    let mut callers = Vec::new(alloc);
+    for thread in threads {
+        if !is_in(trusted, *thread) {
+            callers.push(*thread)?;
+        }
+    }
+    Ok(callers)
 }

@@ -6,7 +6,7 @@ ghost use Rattle.query_parts.specs.Keyed.{AreByKey};
 ghost use Rattle.query_parts.specs.declared.keyed.UseKey.TheVariants.{Endpoint};
 ghost use Rattle.command_parts.specs.Telling.{part_naming_view};
 ghost use Rattle.command_parts.specs.Text as spec;
-ghost use Rattle.command_parts.specs.Private.Used.{all_used, meets_endpoint, memory_on as memory_of, used_on, used_view};
+ghost use Rattle.command_parts.specs.Private.Used.{all_used, is_use_for, may_do, meets_endpoint, memory_on as memory_of, used_on, used_view, way_where};
 
 use crate::messages::uses_held;
 use crate::parts::BadgeText;
@@ -15,9 +15,11 @@ use crate::takes::PartSlot;
 use crate::telling::PartNaming;
 use bitflags::Flags;
 use cap_core::{Profile, Rights};
-use query_parts::{PartMemory, PartUse, UseKey, owns_endpoint, uses_at, uses_by_key};
+use list_questions::{Asks, Line, any, those};
+use query_parts::{PartMemory, PartUse, Parts, UseKey, owns_endpoint, uses_at, uses_by_key};
 use std::alloc::{AllocError, Global};
 use std::fmt::Write;
+use std::marker::PhantomData;
 
 /// A way: a part may send to an endpoint, with this badge, or with any where it is 0; another may receive there.
 #[derive(Clone, Copy)]
@@ -51,145 +53,110 @@ pub enum Passing {
 pub fn parts_of(alloc: Global, memory: &[PartMemory]) -> Result<Vec<u64>, AllocError>
     ensures { IfOk result (λ v. v.items ≡ spec.parts_of memory.now) }
 {
-    let parts: Vec<u64> = memory.iter().map(|m| m.part).collect(alloc)?;
+    let mut parts = Vec::new(alloc);
+    for stretch in memory {
+        parts.push(stretch.part)?;
+    }
     rising(alloc, parts.as_slice())
 }
 
 fn endpoints_used(alloc: Global, uses: &[PartUse]) -> Result<Vec<u64>, AllocError>
     ensures { IfOk result (λ v. v.items ≡ spec.endpoints_used uses.now) }
 {
-    let endpoints: Vec<u64> = uses.iter().map(|u| u.endpoint).collect(alloc)?;
+    let mut endpoints = Vec::new(alloc);
+    for allowed in uses {
+        endpoints.push(allowed.endpoint)?;
+    }
     rising(alloc, endpoints.as_slice())
 }
 
-fn may_send(allowed: &PartUse, part: u64, endpoint: u64) -> bool
-    ensures { result ≡ spec.is_use write_bit part endpoint allowed.now }
-{
-    allowed.part == part && allowed.endpoint == endpoint && allowed.rights.contains(Rights::WRITE)
+/// What a part may do with an endpoint by a use.
+#[derive(Clone, Copy)]
+enum Right {
+    /// Send to it, so that this passes.
+    Pass(Passing),
+    /// Send to it with any badge.
+    SendAny,
+    /// Receive on it.
+    Receive,
 }
 
-fn may_hear(allowed: &PartUse, part: u64, endpoint: u64) -> bool
-    ensures { result ≡ spec.is_use read_bit part endpoint allowed.now }
-{
-    allowed.part == part && allowed.endpoint == endpoint && allowed.rights.contains(Rights::READ)
+/// Whether a part may do this with an endpoint by a use.
+#[derive(Clone, Copy)]
+struct UseFor {
+    right: Right,
+    part: u64,
+    endpoint: u64,
 }
 
-fn has_use_for_any(uses: &[PartUse], part: u64, endpoint: u64) -> bool
-    ensures { result ≡ list_any (spec.sends_with_any part endpoint) uses.now }
-{
-    uses.iter()
-        .any(|u| may_send(u, part, endpoint) && u.badge.0 == 0)
+impl Asks<PartUse> for UseFor {
+    ghost holds = { λ q allowed. is_use_for q.right q.part q.endpoint allowed };
+
+    fn holds(&self, allowed: &PartUse) -> bool {
+        let read = allowed.rights.contains(Rights::READ);
+        let write = allowed.rights.contains(Rights::WRITE);
+        let grant = allowed.rights.contains(Rights::GRANT);
+        let grant_reply = allowed.rights.contains(Rights::GRANT_REPLY);
+        allowed.part == self.part
+            && allowed.endpoint == self.endpoint
+            && match self.right {
+                Right::Pass(Passing::Message) => write,
+                Right::Pass(Passing::Grant) => write && grant,
+                Right::Pass(Passing::Answer) => write && (grant || grant_reply),
+                Right::SendAny => write && allowed.badge.0 == 0,
+                Right::Receive => read,
+            }
+    }
 }
 
 /// Whether a part has a use to send to an endpoint.
 pub fn has_use_to_send(uses: &[PartUse], part: u64, endpoint: u64) -> bool
     ensures { result ≡ list_any (spec.is_use write_bit part endpoint) uses.now }
 {
-    uses.iter().any(|u| may_send(u, part, endpoint))
+    let right = Right::Pass(Passing::Message);
+    let to_send = UseFor {
+        right,
+        part,
+        endpoint,
+    };
+    any(uses, &to_send)
 }
 
 /// Whether a part has a use to receive on an endpoint.
 pub fn has_use_to_receive(uses: &[PartUse], part: u64, endpoint: u64) -> bool
     ensures { result ≡ list_any (spec.is_use read_bit part endpoint) uses.now }
 {
-    uses.iter().any(|u| may_hear(u, part, endpoint))
+    let right = Right::Receive;
+    let to_receive = UseFor {
+        right,
+        part,
+        endpoint,
+    };
+    any(uses, &to_receive)
 }
 
-fn may_receive<P: Profile>(
-    memory: &[PartMemory],
-    uses: &[PartUse],
-    endpoint: u64,
-    part: u64,
-) -> bool
-    ensures { result ≡ spec.may_part_receive P.profile memory.now uses.now endpoint part }
-{
-    owns_endpoint::<P>(memory, part, endpoint) || has_use_to_receive(uses, part, endpoint)
-}
-
-fn own_badges(
+/// The badges with which a part may send to an endpoint by some uses.
+fn badges_held(
     alloc: Global,
     uses: &[PartUse],
     part: u64,
     endpoint: u64,
 ) -> Result<Vec<u64>, AllocError>
-    ensures { IfOk result (λ v. v.items ≡ map (λ u. u.badge.0) (filter (spec.is_use write_bit part endpoint) uses.now)) }
+    ensures { IfOk result (λ v. v.items ≡ spec.badges_held uses.now part endpoint) }
 {
-    uses.iter()
-        .filter(|u| may_send(u, part, endpoint))
-        .map(|u| u.badge.0)
-        .collect(alloc)
-}
-
-fn may_send_any<P: Profile>(
-    memory: &[PartMemory],
-    uses: &[PartUse],
-    part: u64,
-    endpoint: u64,
-) -> bool
-    ensures { result ≡ spec.may_send_any P.profile memory.now uses.now part endpoint }
-{
-    owns_endpoint::<P>(memory, part, endpoint) || has_use_for_any(uses, part, endpoint)
-}
-
-/// The badges with which a part may send to an endpoint, 0 alone where it may be any.
-fn badges<P: Profile>(
-    alloc: Global,
-    memory: &[PartMemory],
-    uses: &[PartUse],
-    part: u64,
-    endpoint: u64,
-) -> Result<Vec<u64>, AllocError>
-    ensures { IfOk result (λ v. v.items ≡ spec.badges P.profile memory.now uses.now part endpoint) }
-{
-    if may_send_any::<P>(memory, uses, part, endpoint) {
-        let mut any = Vec::new(alloc);
-        any.push(0)?;
-        return Ok(any);
+    let right = Right::Pass(Passing::Message);
+    let to_send = UseFor {
+        right,
+        part,
+        endpoint,
+    };
+    let mut badges = Vec::new(alloc);
+    for allowed in uses {
+        if to_send.holds(allowed) {
+            badges.push(allowed.badge.0)?;
+        }
     }
-    let own = own_badges(alloc, uses, part, endpoint)?;
-    rising(alloc, own.as_slice())
-}
-
-fn may_hand_over(allowed: &PartUse, part: u64, endpoint: u64) -> bool
-    ensures { result ≡ spec.hands_over part endpoint allowed.now }
-{
-    may_send(allowed, part, endpoint) && allowed.rights.contains(Rights::GRANT)
-}
-
-fn may_be_answered(allowed: &PartUse, part: u64, endpoint: u64) -> bool
-    ensures { result ≡ spec.is_answered part endpoint allowed.now }
-{
-    may_send(allowed, part, endpoint)
-        && (allowed.rights.contains(Rights::GRANT) || allowed.rights.contains(Rights::GRANT_REPLY))
-}
-
-/// Whether it passes by a use, which is of the part and of the endpoint.
-fn passes(allowed: &PartUse, passing: Passing, part: u64, endpoint: u64) -> bool
-    ensures { result ≡ spec.passes_by passing part endpoint allowed.now }
-{
-    match passing {
-        Passing::Message => may_send(allowed, part, endpoint),
-        Passing::Grant => may_hand_over(allowed, part, endpoint),
-        Passing::Answer => may_be_answered(allowed, part, endpoint),
-    }
-}
-
-fn has_use_that_passes(uses: &[PartUse], passing: Passing, part: u64, endpoint: u64) -> bool
-    ensures { result ≡ list_any (spec.passes_by passing part endpoint) uses.now }
-{
-    uses.iter().any(|u| passes(u, passing, part, endpoint))
-}
-
-fn may_pass<P: Profile>(
-    memory: &[PartMemory],
-    uses: &[PartUse],
-    passing: Passing,
-    part: u64,
-    endpoint: u64,
-) -> bool
-    ensures { result ≡ spec.may_pass passing P.profile memory.now uses.now part endpoint }
-{
-    owns_endpoint::<P>(memory, part, endpoint) || has_use_that_passes(uses, passing, part, endpoint)
+    rising(alloc, badges.as_slice())
 }
 
 fn badge_where(alloc: Global, passes: bool) -> Result<Vec<u64>, AllocError>
@@ -202,38 +169,86 @@ fn badge_where(alloc: Global, passes: bool) -> Result<Vec<u64>, AllocError>
     Ok(badges)
 }
 
-/// The badges of the ways by which something passes; where it is not messages, 0 alone.
-fn badges_by<P: Profile>(
-    alloc: Global,
-    memory: &[PartMemory],
-    uses: &[PartUse],
-    passing: Passing,
-    part: u64,
-    endpoint: u64,
-) -> Result<Vec<u64>, AllocError>
-    ensures { IfOk result (λ v. v.items ≡ spec.badges_by passing P.profile memory.now uses.now part endpoint) }
-{
-    match passing {
-        Passing::Message => badges::<P>(alloc, memory, uses, part, endpoint),
-        Passing::Grant => badge_where(
-            alloc,
-            may_pass::<P>(memory, uses, Passing::Grant, part, endpoint),
-        ),
-        Passing::Answer => badge_where(
-            alloc,
-            may_pass::<P>(memory, uses, Passing::Answer, part, endpoint),
-        ),
+/// The memory of parts, and uses of endpoints by them.
+#[derive(Clone, Copy)]
+struct Access<'a> {
+    memory: &'a [PartMemory],
+    uses: &'a [PartUse],
+}
+
+impl Access<'_> {
+    /// Whether a part may do this with an endpoint: it owns the endpoint, or has such a use of it.
+    fn may<P: Profile>(&self, right: Right, part: u64, endpoint: u64) -> bool
+        ensures { result ≡ may_do P.profile right self.now.memory.now self.now.uses.now part endpoint }
+    {
+        let by_use = UseFor {
+            right,
+            part,
+            endpoint,
+        };
+        owns_endpoint::<P>(self.memory, part, endpoint) || any(self.uses, &by_use)
+    }
+
+    /// Those of some parts that may receive on an endpoint.
+    fn receivers<P: Profile>(
+        &self,
+        alloc: Global,
+        parts: &[u64],
+        endpoint: u64,
+    ) -> Result<Vec<u64>, AllocError>
+        ensures { IfOk result (λ v. v.items ≡ filter (spec.may_part_receive P.profile self.now.memory.now self.now.uses.now endpoint) parts.now) }
+    {
+        let mut receivers = Vec::new(alloc);
+        for part in parts {
+            if self.may::<P>(Right::Receive, *part, endpoint) {
+                receivers.push(*part)?;
+            }
+        }
+        Ok(receivers)
+    }
+
+    /// The badges of the ways by which something passes; where it is not messages, or with any badge, 0 alone.
+    fn badges_by<P: Profile>(
+        &self,
+        alloc: Global,
+        passing: Passing,
+        part: u64,
+        endpoint: u64,
+    ) -> Result<Vec<u64>, AllocError>
+        ensures { IfOk result (λ v. v.items ≡ spec.badges_by passing P.profile self.now.memory.now self.now.uses.now part endpoint) }
+    {
+        match passing {
+            Passing::Message => {
+                if self.may::<P>(Right::SendAny, part, endpoint) {
+                    badge_where(alloc, true)
+                } else {
+                    badges_held(alloc, self.uses, part, endpoint)
+                }
+            }
+            Passing::Grant => {
+                let passes = self.may::<P>(Right::Pass(Passing::Grant), part, endpoint);
+                badge_where(alloc, passes)
+            }
+            Passing::Answer => {
+                let passes = self.may::<P>(Right::Pass(Passing::Answer), part, endpoint);
+                badge_where(alloc, passes)
+            }
+        }
     }
 }
 
-/// The uses that a part has.
-fn uses_of(alloc: Global, uses: &[PartUse], part: u64) -> Result<Vec<PartUse>, AllocError>
-    ensures { IfOk result (λ v. v.items ≡ filter (spec.is_of_part part) uses.now) }
-{
-    uses.iter()
-        .filter(|u| u.part == part)
-        .copied()
-        .collect(alloc)
+/// Whether a use is of a part.
+#[derive(Clone, Copy)]
+struct UseOf {
+    part: u64,
+}
+
+impl Asks<PartUse> for UseOf {
+    ghost holds = { λ q allowed. spec.is_of_part q.part allowed };
+
+    fn holds(&self, allowed: &PartUse) -> bool {
+        allowed.part == self.part
+    }
 }
 
 /// The uses of an endpoint, of uses by rising endpoint.
@@ -242,23 +257,6 @@ pub fn uses_on(uses: &[PartUse], endpoint: u64) -> &[PartUse]
     ensures { result.now ≡ filter (spec.is_of_endpoint endpoint) uses.entry.now }
 {
     uses_at(uses, UseKey::Endpoint, u128::from(endpoint))
-}
-
-/// Those of some parts that may receive on an endpoint.
-fn parts_that_receive<P: Profile>(
-    alloc: Global,
-    memory: &[PartMemory],
-    uses: &[PartUse],
-    parts: &[u64],
-    endpoint: u64,
-) -> Result<Vec<u64>, AllocError>
-    ensures { IfOk result (λ v. v.items ≡ filter (spec.may_part_receive P.profile memory.now uses.now endpoint) parts.now) }
-{
-    parts
-        .iter()
-        .filter(|part| may_receive::<P>(memory, uses, endpoint, **part))
-        .copied()
-        .collect(alloc)
 }
 
 /// Whether a stretch of memory has an address of an endpoint.
@@ -276,11 +274,13 @@ fn memory_on<P: Profile>(
 ) -> Result<Vec<PartMemory>, AllocError>
     ensures { IfOk result (λ v. v.items ≡ memory_of P.profile memory.now endpoint) }
 {
-    memory
-        .iter()
-        .filter(|stretch| meets::<P>(stretch, endpoint))
-        .copied()
-        .collect(alloc)
+    let mut near = Vec::new(alloc);
+    for stretch in memory {
+        if meets::<P>(stretch, endpoint) {
+            near.push(*stretch)?;
+        }
+    }
+    Ok(near)
 }
 
 /// What is known of an endpoint, by uses by rising endpoint.
@@ -296,8 +296,11 @@ fn used_endpoint<P: Profile>(
     ensures { IfOk result (λ used. used_view used ≡ used_on P.profile memory.now uses.now address) }
 {
     let memory = memory_on::<P>(alloc, memory, address)?;
-    let here = uses_on(uses, address);
-    let receivers = parts_that_receive::<P>(alloc, memory.as_slice(), here, parts, address)?;
+    let access = Access {
+        memory: memory.as_slice(),
+        uses: uses_on(uses, address),
+    };
+    let receivers = access.receivers::<P>(alloc, parts, address)?;
     Ok(UsedEndpoint {
         address,
         memory,
@@ -305,140 +308,148 @@ fn used_endpoint<P: Profile>(
     })
 }
 
-/// The endpoints that are used, rising.
-fn used_endpoints<P: Profile>(
-    alloc: Global,
-    memory: &[PartMemory],
-    uses: &[PartUse],
-    parts: &[u64],
-) -> Result<Vec<UsedEndpoint>, AllocError>
-    requires { parts.now ≡ spec.parts_of memory.now }
-    ensures { IfOk result (λ all. map used_view all.items ≡ all_used P.profile memory.now uses.now) }
-{
-    let endpoints = endpoints_used(alloc, uses)?;
-    let list = uses_by_key(alloc, uses, UseKey::Endpoint)?;
-    let mut all = Vec::new(alloc);
-    for endpoint in &endpoints {
-        all.push(used_endpoint::<P>(alloc, memory, list.as_slice(), parts, *endpoint)?)?;
-    }
-    Ok(all)
-}
-
 /// The others of some parts.
 pub fn others(alloc: Global, parts: &[u64], from: u64) -> Result<Vec<u64>, AllocError>
     ensures { IfOk result (λ v. v.items ≡ filter (λ other. not (other == from)) parts.now) }
 {
-    parts
-        .iter()
-        .filter(|part| **part != from)
-        .copied()
-        .collect(alloc)
-}
-
-fn add_ways_to(
-    ways: &mut Vec<Way>,
-    receivers: &[u64],
-    from: u64,
-    endpoint: u64,
-    badge: u64,
-) -> Result<(), AllocError>
-    ensures { OnOk result (ways.new.items ≡ ways.old.items ++ map (spec.way from endpoint badge) receivers.now) }
-{
-    for to in receivers {
-        ways.push(Way {
-            from,
-            endpoint,
-            badge,
-            to: *to,
-        })?;
+    let mut others = Vec::new(alloc);
+    for part in parts {
+        if *part != from {
+            others.push(*part)?;
+        }
     }
-    Ok(())
+    Ok(others)
 }
 
-fn add_ways_with(
-    ways: &mut Vec<Way>,
-    badges: &[u64],
-    receivers: &[u64],
-    from: u64,
-    endpoint: u64,
-) -> Result<(), AllocError>
-    ensures { OnOk result (ways.new.items ≡ ways.old.items
-        ++ flat_map (λ badge. map (spec.way from endpoint badge) receivers.now) badges.now) }
-{
-    for badge in badges {
-        add_ways_to(ways, receivers, from, endpoint, *badge)?;
-    }
-    Ok(())
-}
-
-/// Adds the ways from a part by an endpoint, by the uses that the part has of it.
-fn add_ways_on<P: Profile>(
+/// Adds the ways from a part with some badges, by an endpoint.
+fn add_ways_on(
     alloc: Global,
     ways: &mut Vec<Way>,
-    own: &[PartUse],
+    badges: &[u64],
     used: &UsedEndpoint,
-    passing: Passing,
     from: u64,
 ) -> Result<(), AllocError>
     ensures { OnOk result (ways.new.items ≡ ways.old.items
-        ++ flat_map (λ badge. map (spec.way from used.now.address badge) (filter (λ other. not (other == from)) used.now.receivers.items))
-        (spec.badges_by passing P.profile used.now.memory.items own.now from used.now.address)) }
+        ++ flat_map (λ badge. map (spec.way from used.now.address badge) (filter (λ other. not (other == from)) used.now.receivers.items)) badges.now) }
 {
-    let endpoint = used.address;
-    let badges = badges_by::<P>(alloc, used.memory.as_slice(), own, passing, from, endpoint)?;
     if badges.is_empty() {
         return Ok(());
     }
-    let receivers = others(alloc, used.receivers.as_slice(), from)?;
-    add_ways_with(
-        ways,
-        badges.as_slice(),
-        receivers.as_slice(),
-        from,
-        endpoint,
-    )
-}
-
-/// Adds the ways from a part, by the endpoints that are used. Only the clauses speak of `_memory`.
-fn add_ways_from<P: Profile>(
-    alloc: Global,
-    ways: &mut Vec<Way>,
-    _memory: &[PartMemory],
-    uses: &[PartUse],
-    used: &[UsedEndpoint],
-    passing: Passing,
-    from: u64,
-) -> Result<(), AllocError>
-    requires { map used_view used.now ≡ all_used P.profile _memory.now uses.now }
-    ensures { OnOk result (ways.new.items ≡ ways.old.items ++ spec.ways_from passing P.profile _memory.now uses.now from) }
-{
-    let own = uses_of(alloc, uses, from)?;
-    let by_endpoint = uses_by_key(alloc, own.as_slice(), UseKey::Endpoint)?;
-    for endpoint in used {
-        let here = uses_on(by_endpoint.as_slice(), endpoint.address);
-        add_ways_on::<P>(alloc, ways, here, endpoint, passing, from)?;
+    let endpoint = used.address;
+    let others = others(alloc, used.receivers.as_slice(), from)?;
+    let receivers = others.as_slice();
+    for badge in badges {
+        for to in receivers {
+            ways.push(Way {
+                from,
+                endpoint,
+                badge: *badge,
+                to: *to,
+            })?;
+        }
     }
     Ok(())
 }
 
-/// Adds the ways between parts, by the part that sends, then the endpoint, the badge, and the part that receives.
-fn add_ways_between<P: Profile>(
-    alloc: Global,
-    ways: &mut Vec<Way>,
-    memory: &[PartMemory],
-    uses: &[PartUse],
-    parts: &[u64],
-    used: &[UsedEndpoint],
-    passing: Passing,
-) -> Result<(), AllocError>
-    requires parts { parts.now ≡ spec.parts_of memory.now }
-    requires used { map used_view used.now ≡ all_used P.profile memory.now uses.now }
-    ensures { OnOk result (ways.new.items ≡ ways.old.items ++ spec.ways passing P.profile memory.now uses.now) }
-{
-    for from in parts {
-        add_ways_from::<P>(alloc, ways, memory, uses, used, passing, *from)?;
+/// The endpoints that are used, rising, by the memory and the uses of parts.
+#[derive(Drop)]
+struct Endpoints<'a, P: Profile> {
+    memory: &'a [PartMemory],
+    uses: &'a [PartUse],
+    used: Vec<UsedEndpoint>,
+    profile: PhantomData<P>,
+    ghost found: { map used_view used.items ≡ all_used P.profile memory.now uses.now },
+}
+
+impl<'a, P: Profile> Endpoints<'a, P> {
+    fn new(
+        alloc: Global,
+        memory: &'a [PartMemory],
+        uses: &'a [PartUse],
+        parts: &[u64],
+    ) -> Result<Endpoints<'a, P>, AllocError>
+        requires { parts.now ≡ spec.parts_of memory.now }
+        ensures memory { IfOk result (λ all. all.memory.now ≡ memory.now) }
+        ensures uses { IfOk result (λ all. all.uses.now ≡ uses.now) }
+    {
+        let endpoints = endpoints_used(alloc, uses)?;
+        let list = uses_by_key(alloc, uses, UseKey::Endpoint)?;
+        let mut used = Vec::new(alloc);
+        for endpoint in &endpoints {
+            used.push(used_endpoint::<P>(alloc, memory, list.as_slice(), parts, *endpoint)?)?;
+        }
+        Ok(Endpoints {
+            memory,
+            uses,
+            used,
+            profile: PhantomData,
+        })
     }
-    Ok(())
+
+    /// Adds the ways from a part by which something passes.
+    fn add_from(
+        &self,
+        alloc: Global,
+        ways: &mut Vec<Way>,
+        passing: Passing,
+        from: u64,
+    ) -> Result<(), AllocError>
+        ensures { OnOk result (ways.new.items ≡ ways.old.items ++ spec.ways_from passing P.profile self.now.memory.now self.now.uses.now from) }
+    {
+        let own = those(alloc, self.uses, &UseOf { part: from })?;
+        let by_endpoint = uses_by_key(alloc, own.as_slice(), UseKey::Endpoint)?;
+        let by_endpoint = by_endpoint.as_slice();
+        for endpoint in &self.used {
+            let memory = endpoint.memory.as_slice();
+            let uses = uses_on(by_endpoint, endpoint.address);
+            let access = Access { memory, uses };
+            let badges = access.badges_by::<P>(alloc, passing, from, endpoint.address)?;
+            let badges = badges.as_slice();
+            add_ways_on(alloc, ways, badges, endpoint, from)?;
+        }
+        Ok(())
+    }
+
+    /// Adds the ways of messages from a part that has only these uses.
+    fn add_held(
+        &self,
+        alloc: Global,
+        ways: &mut Vec<Way>,
+        held: &[PartUse],
+        from: u64,
+    ) -> Result<(), AllocError>
+        ensures { OnOk result (ways.new.items ≡ ways.old.items ++ spec.held_ways_from P.profile self.now.memory.now self.now.uses.now held.now from) }
+    {
+        let by_endpoint = uses_by_key(alloc, held, UseKey::Endpoint)?;
+        let by_endpoint = by_endpoint.as_slice();
+        for endpoint in &self.used {
+            let uses = uses_on(by_endpoint, endpoint.address);
+            let badges = badges_held(alloc, uses, from, endpoint.address)?;
+            let badges = badges.as_slice();
+            add_ways_on(alloc, ways, badges, endpoint, from)?;
+        }
+        Ok(())
+    }
+
+    /// Adds the ways of messages from a part; from one of those that only pass messages by what it has.
+    fn add_messages_from(
+        &self,
+        alloc: Global,
+        ways: &mut Vec<Way>,
+        slots: &[PartSlot],
+        alone: &[u64],
+        from: u64,
+    ) -> Result<(), AllocError>
+        ensures { OnOk result (ways.new.items ≡ ways.old.items
+            ++ spec.message_ways_from P.profile self.now.memory.now self.now.uses.now slots.now alone.now from) }
+    {
+        if is_in(alone, from) {
+            let held = uses_held(alloc, slots, from)?;
+            self.add_held(alloc, ways, held.as_slice(), from)
+        } else {
+            self.add_from(alloc, ways, Passing::Message, from)
+        }
+    }
 }
 
 /// The ways between parts by which something passes.
@@ -452,268 +463,133 @@ pub fn ways_by<P: Profile>(
     requires { parts.now ≡ spec.parts_of memory.now }
     ensures { IfOk result (λ v. v.items ≡ spec.ways passing P.profile memory.now uses.now) }
 {
+    let endpoints = Endpoints::<P>::new(alloc, &*memory, &*uses, parts)?;
     let mut ways = Vec::new(alloc);
-    let used = used_endpoints::<P>(alloc, memory, uses, parts)?;
-    let used = used.as_slice();
-    add_ways_between::<P>(alloc, &mut ways, memory, uses, parts, used, passing)?;
-    Ok(ways)
-}
-
-/// The badges with which a part that only passes messages may send to an endpoint, by the capabilities that it has.
-fn badges_held(
-    alloc: Global,
-    held: &[PartUse],
-    part: u64,
-    endpoint: u64,
-) -> Result<Vec<u64>, AllocError>
-    ensures { IfOk result (λ v. v.items ≡ spec.badges_held held.now part endpoint) }
-{
-    let own = own_badges(alloc, held, part, endpoint)?;
-    rising(alloc, own.as_slice())
-}
-
-fn add_held_ways_on(
-    alloc: Global,
-    ways: &mut Vec<Way>,
-    held: &[PartUse],
-    receivers: &[u64],
-    from: u64,
-    endpoint: u64,
-) -> Result<(), AllocError>
-    ensures { OnOk result (ways.new.items ≡ ways.old.items
-        ++ flat_map (λ badge. map (spec.way from endpoint badge) (filter (λ other. not (other == from)) receivers.now))
-        (spec.badges_held held.now from endpoint)) }
-{
-    let badges = badges_held(alloc, held, from, endpoint)?;
-    let receivers = others(alloc, receivers, from)?;
-    add_ways_with(
-        ways,
-        badges.as_slice(),
-        receivers.as_slice(),
-        from,
-        endpoint,
-    )
-}
-
-/// Adds the ways of messages from a part that has only these uses, by the endpoints that are used.
-/// Only the clauses speak of `_memory` and `_uses`.
-fn add_held_ways<P: Profile>(
-    alloc: Global,
-    ways: &mut Vec<Way>,
-    _memory: &[PartMemory],
-    _uses: &[PartUse],
-    held: &[PartUse],
-    used: &[UsedEndpoint],
-    from: u64,
-) -> Result<(), AllocError>
-    requires { map used_view used.now ≡ all_used P.profile _memory.now _uses.now }
-    ensures { OnOk result (ways.new.items ≡ ways.old.items ++ spec.held_ways_from P.profile _memory.now _uses.now held.now from) }
-{
-    let by_endpoint = uses_by_key(alloc, held, UseKey::Endpoint)?;
-    for endpoint in used {
-        let here = uses_on(by_endpoint.as_slice(), endpoint.address);
-        let heard = endpoint.receivers.as_slice();
-        add_held_ways_on(alloc, ways, here, heard, from, endpoint.address)?;
-    }
-    Ok(())
-}
-
-fn add_message_ways_from<P: Profile>(
-    alloc: Global,
-    ways: &mut Vec<Way>,
-    memory: &[PartMemory],
-    uses: &[PartUse],
-    used: &[UsedEndpoint],
-    part_slots: &[PartSlot],
-    alone: &[u64],
-    from: u64,
-) -> Result<(), AllocError>
-    requires { map used_view used.now ≡ all_used P.profile memory.now uses.now }
-    ensures { OnOk result (ways.new.items ≡ ways.old.items
-        ++ spec.message_ways_from P.profile memory.now uses.now part_slots.now alone.now from) }
-{
-    if is_in(alone, from) {
-        let held = uses_held(alloc, part_slots, from)?;
-        let held = held.as_slice();
-        return add_held_ways::<P>(alloc, ways, memory, uses, held, used, from);
-    }
-    let passing = Passing::Message;
-    add_ways_from::<P>(alloc, ways, memory, uses, used, passing, from)
-}
-
-fn add_message_ways<P: Profile>(
-    alloc: Global,
-    ways: &mut Vec<Way>,
-    memory: &[PartMemory],
-    uses: &[PartUse],
-    parts: &[u64],
-    used: &[UsedEndpoint],
-    part_slots: &[PartSlot],
-    alone: &[u64],
-) -> Result<(), AllocError>
-    requires parts { parts.now ≡ spec.parts_of memory.now }
-    requires used { map used_view used.now ≡ all_used P.profile memory.now uses.now }
-    ensures { OnOk result (ways.new.items ≡ ways.old.items
-        ++ spec.message_ways P.profile memory.now uses.now part_slots.now alone.now) }
-{
     for from in parts {
-        add_message_ways_from::<P>(alloc, ways, memory, uses, used, part_slots, alone, *from)?;
+        endpoints.add_from(alloc, &mut ways, passing, *from)?;
     }
-    Ok(())
+    Ok(ways)
 }
 
 /// The ways between parts by which messages pass, where some parts only pass messages: these send by what they have.
 pub fn message_ways<P: Profile>(
     alloc: Global,
-    memory: &[PartMemory],
-    uses: &[PartUse],
-    parts: &[u64],
-    part_slots: &[PartSlot],
+    parts: &Parts,
+    numbers: &[u64],
+    slots: &[PartSlot],
     alone: &[u64],
 ) -> Result<Vec<Way>, AllocError>
-    requires { parts.now ≡ spec.parts_of memory.now }
-    ensures { IfOk result (λ v. v.items ≡ spec.message_ways P.profile memory.now uses.now part_slots.now alone.now) }
+    requires { numbers.now ≡ spec.parts_of parts.now.memory.items }
+    ensures { IfOk result (λ v. v.items ≡ spec.message_ways P.profile parts.now.memory.items parts.now.uses.items slots.now alone.now) }
 {
+    let memory = parts.memory.as_slice();
+    let endpoints = Endpoints::<P>::new(alloc, memory, parts.uses.as_slice(), numbers)?;
     let mut ways = Vec::new(alloc);
-    let used = used_endpoints::<P>(alloc, memory, uses, parts)?;
-    let used = used.as_slice();
-    add_message_ways::<P>(
-        alloc, &mut ways, memory, uses, parts, used, part_slots, alone,
-    )?;
+    for from in numbers {
+        endpoints.add_messages_from(alloc, &mut ways, slots, alone, *from)?;
+    }
     Ok(ways)
 }
 
-fn add_held_way(out: &mut String, told: &PartNaming<'_>, way: &Way) -> Result<(), AllocError>
-    ensures { OnOk result (string_bytes out.new ≡ string_bytes out.old ++ spec.held_way_line (part_naming_view told.now) way.now) }
-{
-    let from = told.part(way.from)?;
-    let endpoint = told.endpoint(way.endpoint);
-    let badge = way.badge;
-    let to = told.part(way.to)?;
-    writeln!(out, "way {from} -> {endpoint} badge {badge} -> {to}")
+/// How a way of messages is told, where some parts only pass messages.
+#[derive(Clone, Copy)]
+pub struct MessageLine<'a> {
+    pub told: &'a PartNaming<'a>,
+    pub alone: &'a [u64],
 }
 
-fn add_message_told(
-    out: &mut String,
-    told: &PartNaming<'_>,
-    alone: &[u64],
-    way: &Way,
-) -> Result<(), AllocError>
-    ensures { OnOk result (string_bytes out.new ≡ string_bytes out.old ++ spec.message_line (part_naming_view told.now) alone.now way.now) }
-{
-    if is_in(alone, way.from) {
-        add_held_way(out, told, way)
-    } else {
-        add_message(out, told, way)
+impl Line<Way> for MessageLine<'_> {
+    ghost line = { λ l way. spec.message_line (part_naming_view l.told.now) l.alone.now way };
+
+    fn add(&self, out: &mut String, way: &Way) -> Result<(), AllocError> {
+        let from = self.told.part(way.from)?;
+        let endpoint = self.told.endpoint(way.endpoint);
+        let to = self.told.part(way.to)?;
+        if is_in(self.alone, way.from) {
+            let badge = way.badge;
+            writeln!(out, "way {from} -> {endpoint} badge {badge} -> {to}")
+        } else {
+            let badge = BadgeText(way.badge);
+            writeln!(out, "way {from} -> {endpoint} badge {badge} -> {to}")
+        }
     }
 }
 
-/// Adds a line for each way by which messages pass, where some parts only pass messages.
-pub fn add_messages(
-    out: &mut String,
-    told: &PartNaming<'_>,
-    alone: &[u64],
-    ways: &[Way],
-) -> Result<(), AllocError>
-    ensures { OnOk result (string_bytes out.new ≡ string_bytes out.old ++ flat_map (spec.message_line (part_naming_view told.now) alone.now) ways.now) }
-{
-    for way in ways {
-        add_message_told(out, told, alone, way)?;
-    }
-    Ok(())
+/// How a way by which something passes is told.
+#[derive(Clone, Copy)]
+pub struct PassingLine<'a> {
+    pub told: &'a PartNaming<'a>,
+    pub passing: Passing,
 }
 
-fn add_message(out: &mut String, told: &PartNaming<'_>, way: &Way) -> Result<(), AllocError>
-    ensures { OnOk result (string_bytes out.new ≡ string_bytes out.old ++ spec.way_line (part_naming_view told.now) way.now) }
-{
-    let from = told.part(way.from)?;
-    let endpoint = told.endpoint(way.endpoint);
-    let badge = BadgeText(way.badge);
-    let to = told.part(way.to)?;
-    writeln!(out, "way {from} -> {endpoint} badge {badge} -> {to}")
-}
+impl Line<Way> for PassingLine<'_> {
+    ghost line = { λ l way. spec.passing_line (part_naming_view l.told.now) l.passing way };
 
-fn add_way(
-    out: &mut String,
-    told: &PartNaming<'_>,
-    passing: Passing,
-    way: &Way,
-) -> Result<(), AllocError>
-    ensures { OnOk result (string_bytes out.new ≡ string_bytes out.old ++ spec.passing_line (part_naming_view told.now) passing way.now) }
-{
-    let from = told.part(way.from)?;
-    let endpoint = told.endpoint(way.endpoint);
-    let to = told.part(way.to)?;
-    match passing {
-        Passing::Message => add_message(out, told, way),
-        Passing::Grant => writeln!(out, "grant {from} -> {endpoint} -> {to}"),
-        Passing::Answer => writeln!(out, "reply {to} -> {endpoint} -> {from}"),
+    fn add(&self, out: &mut String, way: &Way) -> Result<(), AllocError> {
+        let told = self.told;
+        let from = told.part(way.from)?;
+        let endpoint = told.endpoint(way.endpoint);
+        let to = told.part(way.to)?;
+        match self.passing {
+            Passing::Message => {
+                let badge = BadgeText(way.badge);
+                writeln!(out, "way {from} -> {endpoint} badge {badge} -> {to}")
+            }
+            Passing::Grant => writeln!(out, "grant {from} -> {endpoint} -> {to}"),
+            Passing::Answer => writeln!(out, "reply {to} -> {endpoint} -> {from}"),
+        }
     }
 }
 
-/// Adds a line for each way by which something passes.
-pub fn add_ways(
-    out: &mut String,
-    told: &PartNaming<'_>,
-    passing: Passing,
-    ways: &[Way],
-) -> Result<(), AllocError>
-    ensures { OnOk result (string_bytes out.new ≡ string_bytes out.old ++ flat_map (spec.passing_line (part_naming_view told.now) passing) ways.now) }
-{
-    for way in ways {
-        add_way(out, told, passing, way)?;
-    }
-    Ok(())
-}
-
-fn add_between<P: Profile>(
-    out: &mut String,
-    told: &PartNaming<'_>,
-    memory: &[PartMemory],
-    uses: &[PartUse],
-    passing: Passing,
-    from: u64,
-    to: u64,
-    endpoint: u64,
-) -> Result<(), AllocError>
-    ensures { OnOk result (string_bytes out.new ≡ string_bytes out.old
-        ++ spec.between_line (part_naming_view told.now) passing P.profile memory.now uses.now from to endpoint) }
-{
-    let way = Way {
-        from,
-        endpoint,
-        badge: 0,
-        to,
-    };
-    if may_pass::<P>(memory, uses, passing, from, endpoint)
-        && may_receive::<P>(memory, uses, endpoint, to)
+impl PassingLine<'_> {
+    /// Adds the line of a way, if something passes by it.
+    fn add_where<P: Profile>(
+        &self,
+        out: &mut String,
+        access: &Access<'_>,
+        way: Way,
+    ) -> Result<(), AllocError>
+        ensures { OnOk result (string_bytes out.new ≡ string_bytes out.old
+            ++ way_where (part_naming_view self.now.told.now) self.now.passing P.profile access.now.memory.now access.now.uses.now way) }
     {
-        add_way(out, told, passing, &way)
-    } else {
+        if access.may::<P>(Right::Pass(self.passing), way.from, way.endpoint)
+            && access.may::<P>(Right::Receive, way.to, way.endpoint)
+        {
+            self.add(out, &way)
+        } else {
+            Ok(())
+        }
+    }
+
+    /// Adds a line for each endpoint by which something passes from one part to another.
+    fn add_of_two<P: Profile>(
+        &self,
+        alloc: Global,
+        out: &mut String,
+        access: &Access<'_>,
+        from: u64,
+        to: u64,
+    ) -> Result<(), AllocError>
+        ensures { OnOk result (string_bytes out.new ≡ string_bytes out.old
+            ++ spec.lines_of_two (part_naming_view self.now.told.now) self.now.passing P.profile access.now.memory.now access.now.uses.now from to) }
+    {
+        let endpoints = endpoints_used(alloc, access.uses)?;
+        let by_endpoint = uses_by_key(alloc, access.uses, UseKey::Endpoint)?;
+        for endpoint in &endpoints {
+            let here = Access {
+                memory: access.memory,
+                uses: uses_on(by_endpoint.as_slice(), *endpoint),
+            };
+            let way = Way {
+                from,
+                endpoint: *endpoint,
+                badge: 0,
+                to,
+            };
+            self.add_where::<P>(out, &here, way)?;
+        }
         Ok(())
     }
-}
-
-fn add_of_two<P: Profile>(
-    alloc: Global,
-    out: &mut String,
-    told: &PartNaming<'_>,
-    memory: &[PartMemory],
-    uses: &[PartUse],
-    passing: Passing,
-    from: u64,
-    to: u64,
-) -> Result<(), AllocError>
-    ensures { OnOk result (string_bytes out.new ≡ string_bytes out.old
-        ++ spec.lines_of_two (part_naming_view told.now) passing P.profile memory.now uses.now from to) }
-{
-    let endpoints = endpoints_used(alloc, uses)?;
-    let by_endpoint = uses_by_key(alloc, uses, UseKey::Endpoint)?;
-    for endpoint in &endpoints {
-        let here = uses_on(by_endpoint.as_slice(), *endpoint);
-        add_between::<P>(out, told, memory, here, passing, from, to, *endpoint)?;
-    }
-    Ok(())
 }
 
 /// Adds a line for each endpoint by which capabilities or answers pass between two parts in seL4, either way.
@@ -729,8 +605,20 @@ pub fn add_sel4_lines<P: Profile>(
     ensures { OnOk result (string_bytes out.new ≡ string_bytes out.old
         ++ spec.sel4_lines (part_naming_view told.now) P.profile memory.now uses.now one other) }
 {
-    add_of_two::<P>(alloc, out, told, memory, uses, Passing::Grant, one, other)?;
-    add_of_two::<P>(alloc, out, told, memory, uses, Passing::Grant, other, one)?;
-    add_of_two::<P>(alloc, out, told, memory, uses, Passing::Answer, one, other)?;
-    add_of_two::<P>(alloc, out, told, memory, uses, Passing::Answer, other, one)
+    let access = &Access {
+        memory: &*memory,
+        uses: &*uses,
+    };
+    let grants = PassingLine {
+        told: &*told,
+        passing: Passing::Grant,
+    };
+    let answers = PassingLine {
+        told: &*told,
+        passing: Passing::Answer,
+    };
+    grants.add_of_two::<P>(alloc, out, access, one, other)?;
+    grants.add_of_two::<P>(alloc, out, access, other, one)?;
+    answers.add_of_two::<P>(alloc, out, access, one, other)?;
+    answers.add_of_two::<P>(alloc, out, access, other, one)
 }

@@ -1,11 +1,35 @@
--- Endpoints that are used: the memory that has an address of each, and the parts that may receive on it.
-use Rattle.std.specs.Prelude.{ℕ, ◌-◌, ◌^◌, Bool, ◌&&◌, nat_le, nat_lt, List, map, filter}
+-- What parts may do with endpoints; and the endpoints that are used: the memory that has an address of each, and the parts that may
+-- receive on it.
+use Rattle.std.specs.Prelude.{ℕ, ◌-◌, ◌^◌, Bool, ◌&&◌, ◌||◌, cond, nat_le, nat_lt, List, [], map, filter}
+use Rattle.std.specs.List.{list_any}
 use Rattle.cap_core.specs.declared.profile.ProfileName.{ProfileName}
 use Rattle.cap_core.specs.Numbers.{endpoint_bits}
+use Rattle.cap_core.specs.Rights.{read_bit}
 use Rattle.query_parts.specs.declared.listed.PartMemory.{PartMemory}
 use Rattle.query_parts.specs.declared.listed.PartUse.{PartUse}
 use Rattle.command_parts.specs.declared.ways.UsedEndpoint.{UsedEndpoint}
-use Rattle.command_parts.specs.Text.{endpoints_used, receivers_on}
+use Rattle.query_parts.specs.Order.{owns_endpoint}
+use Rattle.command_parts.specs.declared.ways.Passing.{Passing}
+use Rattle.command_parts.specs.declared.ways.Right.{Right}
+use Rattle.command_parts.specs.declared.ways.Right.TheVariants.{Pass, SendAny, Receive}
+use Rattle.command_parts.specs.declared.ways.Way.{Way}
+use Rattle.command_parts.specs.Telling.{PartTexts}
+use Rattle.command_parts.specs.Text.{endpoints_used, is_use, may_part_receive, may_pass, passes_by, passing_line, receivers_on, sends_with_any}
+
+-- a use by which a part may do this with an endpoint
+abbrev pub is_use_for : Right → ℕ → ℕ → PartUse → Bool
+is_use_for (Pass passing) part endpoint u = passes_by passing part endpoint u
+is_use_for SendAny part endpoint u = sends_with_any part endpoint u
+is_use_for Receive part endpoint u = is_use read_bit part endpoint u
+
+-- by such a use, or as the one who owns the endpoint
+abbrev pub may_do : ProfileName → Right → List PartMemory → List PartUse → ℕ → ℕ → Bool
+may_do p right memory uses part endpoint = owns_endpoint p memory part endpoint || list_any (is_use_for right part endpoint) uses
+
+-- the line of a way, if something passes by it
+abbrev pub way_where : PartTexts → Passing → ProfileName → List PartMemory → List PartUse → Way → List ℕ
+way_where told passing p memory uses w =
+    cond (may_pass passing p memory uses w.from w.endpoint && may_part_receive p memory uses w.endpoint w.to) (passing_line told passing w) []
 
 -- a stretch has an address of the endpoint at an address
 abbrev pub meets_endpoint : ProfileName → ℕ → PartMemory → Bool

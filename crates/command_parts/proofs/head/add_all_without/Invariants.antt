@@ -1,8 +1,0 @@
-use Rattle.std.proofs.Common.{◌≡◌, ◌++◌, take, string_bytes}
-use Rattle.std.specs.List.{flat_map}
-use Rattle.command_parts.specs.Telling.{part_naming_view}
-use Rattle.command_parts.specs.Text.{without_line}
-use Rattle.command_parts.proofs.head.add_all_without.Given as goal
-
-abbrev pub invariant-loop-thread : goal.invariant-loop-thread
-invariant-loop-thread g l = string_bytes l.out ≡ string_bytes l.initial.out ++ flat_map (without_line (part_naming_view l.told).texts l.kernel) (take l.thread-index l.without)

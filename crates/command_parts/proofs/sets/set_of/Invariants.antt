@@ -1,6 +1,0 @@
-use Rattle.std.proofs.Common.{◌≡◌, take}
-use Rattle.setup_report.specs.State.{rising}
-use Rattle.command_parts.proofs.sets.set_of.Given as goal
-
-abbrev pub invariant-loop-number : goal.invariant-loop-number
-invariant-loop-number l = l.set.keys ≡ rising (take l.number-index l.numbers)

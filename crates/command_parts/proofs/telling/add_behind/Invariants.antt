@@ -1,8 +1,0 @@
-use Rattle.std.proofs.Common.{◌≡◌, ◌++◌, take, string_bytes}
-use Rattle.std.specs.List.{flat_map}
-use Rattle.setup_report.specs.Naming.{naming_view}
-use Rattle.command_parts.specs.Telling.{thread_behind}
-use Rattle.command_parts.proofs.telling.add_behind.Given as goal
-
-abbrev pub invariant-loop-thread : goal.invariant-loop-thread
-invariant-loop-thread l = string_bytes l.out ≡ string_bytes l.initial.out ++ flat_map (thread_behind (naming_view l.naming)) (take l.thread-index l.threads)

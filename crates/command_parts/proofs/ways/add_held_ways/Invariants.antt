@@ -1,9 +1,0 @@
--- The proof of `add_held_ways`: the loop's invariant.
-use Rattle.std.proofs.Common.{◌≡◌, ◌++◌, take}
-use Rattle.std.specs.List.{flat_map}
-use Rattle.command_parts.specs.Text.{endpoints_used, held_ways_on}
-use Rattle.command_parts.proofs.ways.add_held_ways.Given as goal
-
-abbrev pub invariant-loop-endpoint : goal.invariant-loop-endpoint
-invariant-loop-endpoint g l =
-    l.ways.items ≡ l.initial.ways.items ++ flat_map (held_ways_on g.P.Profile.profile l._memory l._uses l.held l.from) (take l.endpoint-index (endpoints_used l._uses))
