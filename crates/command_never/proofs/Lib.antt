@@ -6,3 +6,4 @@ pub mod Kept
 pub mod OpenOnes
 pub mod StillTested
 pub mod Answered
+pub mod Written

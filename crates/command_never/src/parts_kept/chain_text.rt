@@ -1,6 +1,5 @@
 //! The text of chains: through which slots a thread comes to what is open.
 ghost use Rattle.std.specs.Prelude.{◌≡◌, ◌++◌, IfOk, OnOk, find, string_bytes};
-ghost use Rattle.std.specs.List.{flat_map};
 ghost use Rattle.kernel_forest.specs.Forest.{Forest};
 ghost use Rattle.kernel_forest.specs.Entries.{Entry};
 ghost use Rattle.query_reach.specs.FullSlots.{AreFullSlots};
@@ -12,6 +11,7 @@ ghost use Rattle.command_never.specs.Chains as spec;
 use crate::parts_kept::never::{Between, Layout, endpoint_size, has_bytes, open_endpoints};
 use cap_core::Profile;
 use command_parts::PartNaming;
+use list_questions::{Line, add_each};
 use query_parts::PartMemory;
 use query_reach::{FullSlot, Target, shortest_chain};
 use setup_report::Object;
@@ -26,33 +26,19 @@ fn tcb_size<P: Profile>() -> u64
     1u64 << P::TCB_BITS
 }
 
-fn add_slot(out: &mut String, told: &PartNaming<'_>, slot: &FullSlot) -> Result<(), AllocError>
-    ensures { OnOk result (string_bytes out.new ≡ string_bytes out.old ++ spec.chain_slot_line (part_naming_view told.now).texts slot.now) }
-{
-    let held = told.held(slot.address, slot.cap);
-    writeln!(out, "  slot {held}")
+/// A slot of a chain, with what it holds.
+#[derive(Clone, Copy)]
+struct SlotLine<'a> {
+    told: &'a PartNaming<'a>,
 }
 
-fn add_slots(out: &mut String, told: &PartNaming<'_>, chain: &[FullSlot]) -> Result<(), AllocError>
-    ensures { OnOk result (string_bytes out.new ≡ string_bytes out.old ++ flat_map (spec.chain_slot_line (part_naming_view told.now).texts) chain.now) }
-{
-    for slot in chain {
-        add_slot(out, told, slot)?;
+impl Line<FullSlot> for SlotLine<'_> {
+    ghost line = { λ l slot. spec.chain_slot_line (part_naming_view l.told.now).texts slot };
+
+    fn add(&self, out: &mut String, slot: &FullSlot) -> Result<(), AllocError> {
+        let held = self.told.held(slot.address, slot.cap);
+        writeln!(out, "  slot {held}")
     }
-    Ok(())
-}
-
-fn add_head(
-    out: &mut String,
-    told: &PartNaming<'_>,
-    thread: u64,
-    object: Object,
-) -> Result<(), AllocError>
-    ensures { OnOk result (string_bytes out.new ≡ string_bytes out.old ++ spec.chain_line (part_naming_view told.now).texts thread object) }
-{
-    let name = told.thread(thread);
-    let object = told.object(object);
-    writeln!(out, "chain {name} -> {object}")
 }
 
 /// Adds the lines of a chain, where it has slots.
@@ -68,8 +54,10 @@ fn add_chain(
     if chain.is_empty() {
         return Ok(());
     }
-    add_head(out, told, thread, object)?;
-    add_slots(out, told, chain)
+    let name = told.thread(thread);
+    let object = told.object(object);
+    writeln!(out, "chain {name} -> {object}")?;
+    add_each(out, chain, &SlotLine { told: &*told })
 }
 
 /// The text of a shortest chain from a thread's root slot to a capability that is sought, to an object; nothing where there is no chain.

@@ -1,6 +1,5 @@
 //! Whether one part is kept from another, but for the endpoints that are named.
 ghost use Rattle.std.specs.Prelude.{◌≡◌, ℕ, IfOk, filter};
-ghost use Rattle.std.specs.List.{list_any};
 ghost use Rattle.cap_core.specs.Numbers.{endpoint_size as endpoint_size_of};
 ghost use Rattle.query_parts.specs.declared.keyed.UseKey.TheVariants as UseKeyOf;
 ghost use Rattle.query_parts.specs.Keyed.{AreByKey, has_key};
@@ -10,6 +9,7 @@ ghost use Rattle.command_never.specs.Never as spec;
 use crate::parts_kept::waits::Wait;
 use cap_core::Profile;
 use command_parts::{has_use_to_receive, has_use_to_send, is_in, is_of_part, rising, uses_on};
+use list_questions::{Asks, any};
 use query_parts::{PartMemory, PartUse, UseKey, part_at, uses_by_key};
 use std::alloc::{AllocError, Global};
 
@@ -52,89 +52,122 @@ pub fn endpoint_size<P: Profile>() -> u64
     1u64 << P::ENDPOINT_BITS
 }
 
-/// Whether a stretch is of the part, and has one of so many bytes.
-pub fn has_some(memory: &PartMemory, part: u64, first: u64, size: u64) -> bool
-    ensures { result ≡ spec.has_some part first size memory.now }
-{
-    memory.part == part
-        && (memory.first < first || memory.first - first < size)
-        && first <= memory.last
+/// Whether a stretch is of a part, and has one of so many bytes.
+#[derive(Clone, Copy)]
+pub struct HasSome {
+    pub part: u64,
+    pub first: u64,
+    pub size: u64,
 }
 
-fn has_some_of_all(memory: &[PartMemory], part: u64, first: u64, size: u64) -> bool
-    ensures { result ≡ list_any (spec.has_some part first size) memory.now }
-{
-    memory.iter().any(|m| has_some(m, part, first, size))
+impl Asks<PartMemory> for HasSome {
+    ghost holds = { λ q memory. spec.has_some q.part q.first q.size memory };
+
+    fn holds(&self, memory: &PartMemory) -> bool {
+        memory.part == self.part
+            && (memory.first < self.first || memory.first - self.first < self.size)
+            && self.first <= memory.last
+    }
 }
 
 /// Whether some byte of the endpoint is memory of the part.
 pub fn has_bytes<P: Profile>(memory: &[PartMemory], part: u64, endpoint: u64) -> bool
     ensures { result ≡ spec.has_bytes P.profile memory.now part endpoint }
 {
-    has_some_of_all(memory, part, endpoint, endpoint_size::<P>())
+    let some = HasSome {
+        part,
+        first: endpoint,
+        size: endpoint_size::<P>(),
+    };
+    any(memory, &some)
 }
 
-/// Whether a use is of the part and of the endpoint.
-pub fn is_use_of(allowed: &PartUse, part: u64, endpoint: u64) -> bool
-    ensures { result ≡ spec.is_use_of part endpoint allowed.now }
-{
-    allowed.part == part && allowed.endpoint == endpoint
+/// Whether a use is of a part and of an endpoint.
+#[derive(Clone, Copy)]
+pub struct UseOf {
+    pub part: u64,
+    pub endpoint: u64,
 }
 
-fn has_use_of(uses: &[PartUse], part: u64, endpoint: u64) -> bool
-    ensures { result ≡ list_any (spec.is_use_of part endpoint) uses.now }
-{
-    uses.iter().any(|u| is_use_of(u, part, endpoint))
+impl Asks<PartUse> for UseOf {
+    ghost holds = { λ q allowed. spec.is_use_of q.part q.endpoint allowed };
+
+    fn holds(&self, allowed: &PartUse) -> bool {
+        allowed.part == self.part && allowed.endpoint == self.endpoint
+    }
 }
 
-/// Whether a thread of the part waits on the endpoint to send.
-pub fn is_sender(memory: &[PartMemory], wait: &Wait, part: u64, endpoint: u64) -> bool
-    ensures { result ≡ spec.is_waiting_sender memory.now part endpoint wait.now }
-{
-    wait.sends && wait.endpoint == endpoint && is_of_part(memory, part, wait.thread)
+/// Whether a thread of a part waits on an endpoint to send.
+#[derive(Clone, Copy)]
+pub struct SenderOn<'a> {
+    pub memory: &'a [PartMemory],
+    pub part: u64,
+    pub endpoint: u64,
 }
 
-/// Whether a thread of the part waits on the endpoint to receive.
-pub fn is_receiver(memory: &[PartMemory], wait: &Wait, part: u64, endpoint: u64) -> bool
-    ensures { result ≡ spec.is_waiting_receiver memory.now part endpoint wait.now }
-{
-    !wait.sends && wait.endpoint == endpoint && is_of_part(memory, part, wait.thread)
+impl Asks<Wait> for SenderOn<'_> {
+    ghost holds = { λ q wait. spec.is_waiting_sender q.memory.now q.part q.endpoint wait };
+
+    fn holds(&self, wait: &Wait) -> bool {
+        wait.sends
+            && wait.endpoint == self.endpoint
+            && is_of_part(self.memory, self.part, wait.thread)
+    }
 }
 
-fn has_sender(memory: &[PartMemory], waits: &[Wait], part: u64, endpoint: u64) -> bool
-    ensures { result ≡ list_any (spec.is_waiting_sender memory.now part endpoint) waits.now }
-{
-    waits.iter().any(|w| is_sender(memory, w, part, endpoint))
+/// Whether a thread of a part waits on an endpoint to receive.
+#[derive(Clone, Copy)]
+pub struct ReceiverOn<'a> {
+    pub memory: &'a [PartMemory],
+    pub part: u64,
+    pub endpoint: u64,
 }
 
-fn has_receiver(memory: &[PartMemory], waits: &[Wait], part: u64, endpoint: u64) -> bool
-    ensures { result ≡ list_any (spec.is_waiting_receiver memory.now part endpoint) waits.now }
-{
-    waits.iter().any(|w| is_receiver(memory, w, part, endpoint))
+impl Asks<Wait> for ReceiverOn<'_> {
+    ghost holds = { λ q wait. spec.is_waiting_receiver q.memory.now q.part q.endpoint wait };
+
+    fn holds(&self, wait: &Wait) -> bool {
+        !wait.sends
+            && wait.endpoint == self.endpoint
+            && is_of_part(self.memory, self.part, wait.thread)
+    }
 }
 
 fn may_send_to<P: Profile>(layout: &Layout<'_>, part: u64, endpoint: u64) -> bool
     ensures { result ≡ spec.may_send_to P.profile layout.now.memory.now layout.now.uses.now layout.now.waits.now part endpoint }
 {
+    let sender = SenderOn {
+        memory: layout.memory,
+        part,
+        endpoint,
+    };
     has_bytes::<P>(layout.memory, part, endpoint)
         || has_use_to_send(layout.uses, part, endpoint)
-        || has_sender(layout.memory, layout.waits, part, endpoint)
+        || any(layout.waits, &sender)
 }
 
 fn may_receive_on<P: Profile>(layout: &Layout<'_>, part: u64, endpoint: u64) -> bool
     ensures { result ≡ spec.may_receive_on P.profile layout.now.memory.now layout.now.uses.now layout.now.waits.now part endpoint }
 {
+    let receiver = ReceiverOn {
+        memory: layout.memory,
+        part,
+        endpoint,
+    };
     has_bytes::<P>(layout.memory, part, endpoint)
         || has_use_to_receive(layout.uses, part, endpoint)
-        || has_receiver(layout.memory, layout.waits, part, endpoint)
+        || any(layout.waits, &receiver)
 }
 
 /// Whether an endpoint that is not named is open from the one part to the other.
 fn is_open<P: Profile>(layout: &Layout<'_>, between: &Between<'_>, endpoint: u64) -> bool
     ensures { result ≡ spec.is_open P.profile layout.now.memory.now layout.now.uses.now layout.now.waits.now between.now.by.now between.now.from between.now.to endpoint }
 {
-    let takes = has_use_of(layout.uses, between.from, endpoint)
-        && has_bytes::<P>(layout.memory, between.to, endpoint);
+    let of_sender = UseOf {
+        part: between.from,
+        endpoint,
+    };
+    let takes = any(layout.uses, &of_sender) && has_bytes::<P>(layout.memory, between.to, endpoint);
     let passes = may_send_to::<P>(layout, between.from, endpoint)
         && may_receive_on::<P>(layout, between.to, endpoint);
     !is_in(between.by, endpoint) && (takes || passes)
@@ -144,9 +177,13 @@ fn is_open<P: Profile>(layout: &Layout<'_>, between: &Between<'_>, endpoint: u64
 fn endpoints_met(alloc: Global, layout: &Layout<'_>) -> Result<Vec<u64>, AllocError>
     ensures { IfOk result (λ v. v.items ≡ spec.endpoints_met layout.now.uses.now layout.now.waits.now) }
 {
-    let mut endpoints: Vec<u64> = layout.uses.iter().map(|u| u.endpoint).collect(alloc)?;
-    let waited: Vec<u64> = layout.waits.iter().map(|w| w.endpoint).collect(alloc)?;
-    endpoints.extend_from_slice(waited.as_slice())?;
+    let mut endpoints = Vec::new(alloc);
+    for allowed in layout.uses {
+        endpoints.push(allowed.endpoint)?;
+    }
+    for wait in layout.waits {
+        endpoints.push(wait.endpoint)?;
+    }
     rising(alloc, endpoints.as_slice())
 }
 
@@ -168,25 +205,6 @@ fn is_open_by<P: Profile>(
     is_open::<P>(&here, between, endpoint)
 }
 
-/// Those of some endpoints that are open.
-fn open_of<P: Profile>(
-    alloc: Global,
-    layout: &Layout<'_>,
-    between: &Between<'_>,
-    endpoints: &[u64],
-) -> Result<Vec<u64>, AllocError>
-    ensures { IfOk result (λ v. v.items ≡ filter (spec.is_open P.profile layout.now.memory.now layout.now.uses.now layout.now.waits.now between.now.by.now between.now.from between.now.to) endpoints.now) }
-{
-    let by_endpoint = uses_by_key(alloc, layout.uses, UseKey::Endpoint)?;
-    let mut open = Vec::new(alloc);
-    for endpoint in endpoints {
-        if is_open_by::<P>(layout, by_endpoint.as_slice(), between, *endpoint) {
-            open.push(*endpoint)?;
-        }
-    }
-    Ok(open)
-}
-
 /// The endpoints that are open from the one part to the other.
 pub fn open_endpoints<P: Profile>(
     alloc: Global,
@@ -196,7 +214,14 @@ pub fn open_endpoints<P: Profile>(
     ensures { IfOk result (λ v. v.items ≡ spec.open_endpoints P.profile layout.now.memory.now layout.now.uses.now layout.now.waits.now between.now.by.now between.now.from between.now.to) }
 {
     let endpoints = endpoints_met(alloc, layout)?;
-    open_of::<P>(alloc, layout, between, endpoints.as_slice())
+    let by_endpoint = uses_by_key(alloc, layout.uses, UseKey::Endpoint)?;
+    let mut open = Vec::new(alloc);
+    for endpoint in &endpoints {
+        if is_open_by::<P>(layout, by_endpoint.as_slice(), between, *endpoint) {
+            open.push(*endpoint)?;
+        }
+    }
+    Ok(open)
 }
 
 /// Whether they are one part, or an endpoint is open from the one to the other.

@@ -2,7 +2,6 @@
 ghost use Rattle.std.specs.Prelude.{◌≡◌, ◌++◌, ℕ, false, IfErr, IfOk, OnOk, Some, string_bytes};
 ghost use Rattle.std.specs.List.{flat_map};
 ghost use Rattle.kernel_abstract.specs.Memory.{IsInMemory};
-ghost use Rattle.kernel_abstract.specs.Waiting.{offer_at};
 ghost use Rattle.query_reach.specs.FullSlots.{AreFullSlots};
 ghost use Rattle.setup_report.specs.Naming.{naming_view};
 ghost use Rattle.command_parts.specs.Telling.{part_naming_view};
@@ -15,8 +14,8 @@ ghost use Rattle.command_never.specs.Open as spec;
 use crate::parts_kept::answering::{answer_of, state_parts};
 use crate::parts_kept::chain_text::chains_between;
 use crate::parts_kept::never::{
-    Between, Layout, Never, endpoint_size, has_some, is_receiver, is_sender, is_use_of,
-    never_of_parts, open_endpoints,
+    Between, HasSome, Layout, Never, ReceiverOn, SenderOn, UseOf, endpoint_size, never_of_parts,
+    open_endpoints,
 };
 use crate::parts_kept::still::Callers;
 use crate::parts_kept::waits::Wait;
@@ -27,6 +26,7 @@ use command_parts::{
 };
 use ipc_core::Waiters;
 use kernel_core::Kernel;
+use list_questions::{Asks, Line, add_each};
 use query_parts::{PartMemory, PartUse, PartsFault, UseKey, part_at, uses_by_key};
 use query_reach::{FullSlot, full_slots};
 use setup_report::{Naming, RightsText};
@@ -34,6 +34,7 @@ use slot_core::{CapStore, DerivationStore};
 use std::alloc::{AllocError, Global};
 use std::fmt;
 use std::fmt::Write;
+use std::marker::PhantomData;
 
 /// A part, or that there is none.
 #[derive(Drop)]
@@ -75,365 +76,141 @@ fn never_word(answer: Never) -> &'static str
     }
 }
 
-fn add_answer(
-    out: &mut String,
-    told: &PartNaming<'_>,
-    memory: &[PartMemory],
-    from: u64,
-    to: u64,
-    answer: Never,
-) -> Result<(), AllocError>
-    ensures { OnOk result (string_bytes out.new ≡ string_bytes out.old
-        ++ spec.answer_line (part_naming_view told.now) memory.now from to answer) }
-{
-    let sender = told.thread(from);
-    let receiver = told.thread(to);
-    let first = part_text(told, memory, from)?;
-    let second = part_text(told, memory, to)?;
-    let word = never_word(answer);
-    writeln!(
-        out,
-        "never {sender} part {first} -> {receiver} part {second} {word}"
-    )
-}
-
-fn add_bytes<P: Profile>(
-    out: &mut String,
-    told: &PartNaming<'_>,
+/// What a part has of an endpoint that is open.
+#[derive(Drop)]
+struct HadLines<'a, P: Profile> {
+    told: &'a PartNaming<'a>,
+    memory: &'a [PartMemory],
     part: u64,
     endpoint: u64,
-    stretch: &PartMemory,
-) -> Result<(), AllocError>
-    ensures { OnOk result (string_bytes out.new ≡ string_bytes out.old
-        ++ spec.bytes_line (part_naming_view told.now) P.profile part endpoint stretch.now) }
-{
-    let first = stretch.first;
-    let last = stretch.last;
-    if has_some(stretch, part, endpoint, endpoint_size::<P>()) {
-        let part = told.part(part)?;
-        writeln!(out, "  part {part} memory {first} to {last}")
-    } else {
-        Ok(())
-    }
+    profile: PhantomData<P>,
 }
 
-fn add_all_bytes<P: Profile>(
-    out: &mut String,
-    told: &PartNaming<'_>,
-    part: u64,
-    endpoint: u64,
-    memory: &[PartMemory],
-) -> Result<(), AllocError>
-    ensures { OnOk result (string_bytes out.new ≡ string_bytes out.old
-        ++ flat_map (spec.bytes_line (part_naming_view told.now) P.profile part endpoint) memory.now) }
-{
-    for stretch in memory {
-        add_bytes::<P>(out, told, part, endpoint, stretch)?;
-    }
-    Ok(())
-}
+impl<P: Profile> Line<PartMemory> for HadLines<'_, P> {
+    ghost line = { λ l stretch. spec.bytes_line (part_naming_view l.told.now) P.profile l.part l.endpoint stretch };
 
-fn add_used(
-    out: &mut String,
-    told: &PartNaming<'_>,
-    part: u64,
-    endpoint: u64,
-    allowed: &PartUse,
-) -> Result<(), AllocError>
-    ensures { OnOk result (string_bytes out.new ≡ string_bytes out.old ++ spec.used_line (part_naming_view told.now) part endpoint allowed.now) }
-{
-    let badge = BadgeText(allowed.badge.0);
-    let rights = RightsText(allowed.rights);
-    if is_use_of(allowed, part, endpoint) {
-        let part = told.part(part)?;
-        let endpoint = told.endpoint(endpoint);
-        writeln!(
-            out,
-            "  part {part} use {endpoint} badge {badge} rights {rights}"
-        )
-    } else {
-        Ok(())
-    }
-}
-
-fn add_all_used(
-    out: &mut String,
-    told: &PartNaming<'_>,
-    part: u64,
-    endpoint: u64,
-    uses: &[PartUse],
-) -> Result<(), AllocError>
-    ensures { OnOk result (string_bytes out.new ≡ string_bytes out.old
-        ++ flat_map (spec.used_line (part_naming_view told.now) part endpoint) uses.now) }
-{
-    for allowed in uses {
-        add_used(out, told, part, endpoint, allowed)?;
-    }
-    Ok(())
-}
-
-/// Adds what a part has of an endpoint by its memory and by its uses.
-fn add_had<P: Profile>(
-    out: &mut String,
-    told: &PartNaming<'_>,
-    layout: &Layout<'_>,
-    part: u64,
-    endpoint: u64,
-) -> Result<(), AllocError>
-    ensures { OnOk result (string_bytes out.new ≡ string_bytes out.old
-        ++ spec.had_lines (part_naming_view told.now) P.profile layout.now.memory.now layout.now.uses.now part endpoint) }
-{
-    add_all_bytes::<P>(out, told, part, endpoint, layout.memory)?;
-    add_all_used(out, told, part, endpoint, layout.uses)
-}
-
-fn add_offered<P: Profile, S: CapStore<P> + Drop, W: Waiters<P> + Drop>(
-    out: &mut String,
-    told: &PartNaming<'_>,
-    kernel: &Kernel<P, S, W>,
-    thread: u64,
-    part: u64,
-    endpoint: u64,
-) -> Result<(), AllocError>
-    ensures { OnOk result (string_bytes out.new ≡ string_bytes out.old
-        ++ spec.offered_line (part_naming_view told.now) thread part endpoint (offer_at kernel.now thread)) }
-{
-    match kernel.offer(thread) {
-        None => Ok(()),
-        Some(offer) => {
-            let name = told.thread(thread);
-            let part = told.part(part)?;
-            let endpoint = told.endpoint(endpoint);
-            let badge = offer.badge.0;
-            writeln!(
-                out,
-                "  part {part} waiting {name} -> {endpoint} badge {badge}"
-            )
+    fn add(&self, out: &mut String, stretch: &PartMemory) -> Result<(), AllocError> {
+        let some = HasSome {
+            part: self.part,
+            first: self.endpoint,
+            size: endpoint_size::<P>(),
+        };
+        let first = stretch.first;
+        let last = stretch.last;
+        if some.holds(stretch) {
+            let part = self.told.part(self.part)?;
+            writeln!(out, "  part {part} memory {first} to {last}")
+        } else {
+            Ok(())
         }
     }
 }
 
-fn add_sender<P: Profile, S: CapStore<P> + Drop, W: Waiters<P> + Drop>(
-    out: &mut String,
-    told: &PartNaming<'_>,
-    memory: &[PartMemory],
-    kernel: &Kernel<P, S, W>,
-    part: u64,
-    endpoint: u64,
-    wait: &Wait,
-) -> Result<(), AllocError>
-    ensures { OnOk result (string_bytes out.new ≡ string_bytes out.old
-        ++ spec.sender_line (part_naming_view told.now) memory.now kernel.now part endpoint wait.now) }
-{
-    if is_sender(memory, wait, part, endpoint) {
-        add_offered::<P, S, W>(out, told, kernel, wait.thread, part, endpoint)
-    } else {
-        Ok(())
+impl<P: Profile> Line<PartUse> for HadLines<'_, P> {
+    ghost line = { λ l allowed. spec.used_line (part_naming_view l.told.now) l.part l.endpoint allowed };
+
+    fn add(&self, out: &mut String, allowed: &PartUse) -> Result<(), AllocError> {
+        let (part, endpoint) = (self.part, self.endpoint);
+        let badge = BadgeText(allowed.badge.0);
+        let rights = RightsText(allowed.rights);
+        if (UseOf { part, endpoint }).holds(allowed) {
+            let part = self.told.part(part)?;
+            let endpoint = self.told.endpoint(endpoint);
+            writeln!(
+                out,
+                "  part {part} use {endpoint} badge {badge} rights {rights}"
+            )
+        } else {
+            Ok(())
+        }
     }
 }
 
-fn add_senders<P: Profile, S: CapStore<P> + Drop, W: Waiters<P> + Drop>(
-    out: &mut String,
-    told: &PartNaming<'_>,
-    layout: &Layout<'_>,
-    kernel: &Kernel<P, S, W>,
-    part: u64,
-    endpoint: u64,
-) -> Result<(), AllocError>
-    ensures { OnOk result (string_bytes out.new ≡ string_bytes out.old
-        ++ flat_map (spec.sender_line (part_naming_view told.now) layout.now.memory.now kernel.now part endpoint) layout.now.waits.now) }
-{
-    for wait in layout.waits {
-        add_sender::<P, S, W>(out, told, layout.memory, kernel, part, endpoint, wait)?;
-    }
-    Ok(())
-}
+impl<P: Profile> Line<Wait> for HadLines<'_, P> {
+    ghost line = { λ l wait. spec.open_receiver_line (part_naming_view l.told.now) l.memory.now l.part l.endpoint wait };
 
-fn add_receiver(
-    out: &mut String,
-    told: &PartNaming<'_>,
-    memory: &[PartMemory],
-    part: u64,
-    endpoint: u64,
-    wait: &Wait,
-) -> Result<(), AllocError>
-    ensures { OnOk result (string_bytes out.new ≡ string_bytes out.old
-        ++ spec.open_receiver_line (part_naming_view told.now) memory.now part endpoint wait.now) }
-{
-    if is_receiver(memory, wait, part, endpoint) {
-        let name = told.thread(wait.thread);
-        let part = told.part(part)?;
-        let endpoint = told.endpoint(endpoint);
-        writeln!(out, "  part {part} waiting {endpoint} -> {name}")
-    } else {
-        Ok(())
-    }
-}
-
-fn add_receivers(
-    out: &mut String,
-    told: &PartNaming<'_>,
-    layout: &Layout<'_>,
-    part: u64,
-    endpoint: u64,
-) -> Result<(), AllocError>
-    ensures { OnOk result (string_bytes out.new ≡ string_bytes out.old
-        ++ flat_map (spec.open_receiver_line (part_naming_view told.now) layout.now.memory.now part endpoint) layout.now.waits.now) }
-{
-    for wait in layout.waits {
-        add_receiver(out, told, layout.memory, part, endpoint, wait)?;
-    }
-    Ok(())
-}
-
-fn add_number(out: &mut String, told: &PartNaming<'_>, endpoint: u64) -> Result<(), AllocError>
-    ensures { OnOk result (string_bytes out.new ≡ string_bytes out.old ++ spec.open_endpoint_line (part_naming_view told.now) endpoint) }
-{
-    let endpoint = told.endpoint(endpoint);
-    writeln!(out, "open {endpoint}")
-}
-
-/// Adds what two parts have of an endpoint: the one to send there, and the other to receive.
-fn add_endpoint<P: Profile, S: CapStore<P> + Drop, W: Waiters<P> + Drop>(
-    out: &mut String,
-    told: &PartNaming<'_>,
-    layout: &Layout<'_>,
-    kernel: &Kernel<P, S, W>,
-    between: &Between<'_>,
-    endpoint: u64,
-) -> Result<(), AllocError>
-    requires { layout.now.waits.now ≡ waits_of P.profile kernel.now }
-    ensures { OnOk result (string_bytes out.new ≡ string_bytes out.old
-        ++ spec.open_endpoint_lines P.profile (part_naming_view told.now) layout.now.memory.now layout.now.uses.now kernel.now between.now.from between.now.to endpoint) }
-{
-    add_number(out, told, endpoint)?;
-    add_had::<P>(out, told, layout, between.from, endpoint)?;
-    add_senders::<P, S, W>(out, told, layout, kernel, between.from, endpoint)?;
-    add_had::<P>(out, told, layout, between.to, endpoint)?;
-    add_receivers(out, told, layout, between.to, endpoint)
-}
-
-/// Adds some endpoints that are open, each with what the two parts have of it.
-fn add_all_open<P: Profile, S: CapStore<P> + Drop, W: Waiters<P> + Drop>(
-    alloc: Global,
-    out: &mut String,
-    told: &PartNaming<'_>,
-    layout: &Layout<'_>,
-    kernel: &Kernel<P, S, W>,
-    between: &Between<'_>,
-    open: &[u64],
-) -> Result<(), AllocError>
-    requires { layout.now.waits.now ≡ waits_of P.profile kernel.now }
-    ensures { OnOk result (string_bytes out.new ≡ string_bytes out.old
-        ++ flat_map (spec.open_endpoint_lines P.profile (part_naming_view told.now) layout.now.memory.now layout.now.uses.now kernel.now between.now.from between.now.to) open.now) }
-{
-    let by_endpoint = uses_by_key(alloc, layout.uses, UseKey::Endpoint)?;
-    for endpoint in open {
-        let here = Layout {
-            uses: uses_on(by_endpoint.as_slice(), *endpoint),
-            ..*layout
+    fn add(&self, out: &mut String, wait: &Wait) -> Result<(), AllocError> {
+        let receiver = ReceiverOn {
+            memory: self.memory,
+            part: self.part,
+            endpoint: self.endpoint,
         };
-        add_endpoint::<P, S, W>(out, told, &here, kernel, between, *endpoint)?;
+        if receiver.holds(wait) {
+            let name = self.told.thread(wait.thread);
+            let part = self.told.part(self.part)?;
+            let endpoint = self.told.endpoint(self.endpoint);
+            writeln!(out, "  part {part} waiting {endpoint} -> {name}")
+        } else {
+            Ok(())
+        }
     }
-    Ok(())
 }
 
-/// Adds the endpoints that are open between the parts of two threads, where these are two.
-fn add_between<P: Profile, S: CapStore<P> + Drop, W: Waiters<P> + Drop>(
-    alloc: Global,
-    out: &mut String,
-    told: &PartNaming<'_>,
-    layout: &Layout<'_>,
-    kernel: &Kernel<P, S, W>,
-    by: &[u64],
-    from: Option<u64>,
-    to: Option<u64>,
-) -> Result<(), AllocError>
-    requires { layout.now.waits.now ≡ waits_of P.profile kernel.now }
-    ensures { OnOk result (string_bytes out.new ≡ string_bytes out.old
-        ++ spec.lines_between P.profile (part_naming_view told.now) layout.now.memory.now layout.now.uses.now kernel.now by.now from to) }
-{
-    let (Some(from), Some(to)) = (from, to) else {
-        return Ok(());
-    };
-    if from == to {
-        return Ok(());
+impl<P: Profile> HadLines<'_, P> {
+    /// Adds what a part has of an endpoint by its memory and by its uses.
+    fn add_had(&self, out: &mut String, uses: &[PartUse]) -> Result<(), AllocError>
+        ensures { OnOk result (string_bytes out.new ≡ string_bytes out.old
+            ++ spec.had_lines (part_naming_view self.now.told.now) P.profile self.now.memory.now uses.now self.now.part self.now.endpoint) }
+    {
+        add_each(out, self.memory, self)?;
+        add_each(out, uses, self)
     }
-    let between = Between { from, to, by };
-    let open = open_endpoints::<P>(alloc, layout, &between)?;
-    add_all_open::<P, S, W>(alloc, out, told, layout, kernel, &between, open.as_slice())
 }
 
-/// Adds what passes between the parts of two threads in seL4, beside messages, where these are two.
-fn add_sel4_between<P: Profile>(
-    alloc: Global,
-    out: &mut String,
-    told: &PartNaming<'_>,
-    layout: &Layout<'_>,
-    from: Option<u64>,
-    to: Option<u64>,
-) -> Result<(), AllocError>
-    ensures { OnOk result (string_bytes out.new ≡ string_bytes out.old
-        ++ spec.sel4_between (part_naming_view told.now) P.profile layout.now.memory.now layout.now.uses.now from to) }
-{
-    let (Some(from), Some(to)) = (from, to) else {
-        return Ok(());
-    };
-    if from == to {
-        return Ok(());
-    }
-    add_sel4_lines::<P>(alloc, out, told, layout.memory, layout.uses, from, to)
-}
-
-/// Adds a line where one of the parts of two threads may take slots from the other.
-fn add_taken_between<P: Profile, S: DerivationStore<P> + Drop, W: Waiters<P> + Drop>(
-    alloc: Global,
-    out: &mut String,
-    told: &PartNaming<'_>,
-    memory: &[PartMemory],
-    kernel: &Kernel<P, S, W>,
-    from: Option<u64>,
-    to: Option<u64>,
-) -> Result<(), AllocError>
-    ensures { OnOk result (string_bytes out.new ≡ string_bytes out.old ++ spec.taken_between (part_naming_view told.now) memory.now kernel.now from to) }
-{
-    let (Some(from), Some(to)) = (from, to) else {
-        return Ok(());
-    };
-    if from == to {
-        return Ok(());
-    }
-    let part_slots = part_slots::<P, S, W>(alloc, memory, kernel)?;
-    add_take_of(alloc, out, told, part_slots.as_slice(), from, to)?;
-    add_take_of(alloc, out, told, part_slots.as_slice(), to, from)
-}
-
-fn add_allowed(
-    out: &mut String,
-    told: &PartNaming<'_>,
-    live: &[u64],
+/// A thread of a part that waits to send to an endpoint that is open.
+#[derive(Drop)]
+struct SenderLine<'a, P: Profile, S: CapStore<P> + Drop, W: Waiters<P> + Drop> {
+    told: &'a PartNaming<'a>,
+    kernel: &'a Kernel<P, S, W>,
+    memory: &'a [PartMemory],
+    part: u64,
     endpoint: u64,
-) -> Result<(), AllocError>
-    ensures { OnOk result (string_bytes out.new ≡ string_bytes out.old ++ spec.allowed_line (part_naming_view told.now) live.now endpoint) }
-{
-    let none = none_text(is_in(live, endpoint));
-    let endpoint = told.endpoint(endpoint);
-    writeln!(out, "by {endpoint}{none}")
 }
 
-/// Adds a line for each endpoint that is allowed. `live` has the live endpoints.
-fn add_all_allowed(
-    out: &mut String,
-    told: &PartNaming<'_>,
-    live: &[u64],
-    by: &[u64],
-) -> Result<(), AllocError>
-    ensures { OnOk result (string_bytes out.new ≡ string_bytes out.old ++ flat_map (spec.allowed_line (part_naming_view told.now) live.now) by.now) }
-{
-    for endpoint in by {
-        add_allowed(out, told, live, *endpoint)?;
+impl<P: Profile, S: CapStore<P> + Drop, W: Waiters<P> + Drop> Line<Wait>
+    for SenderLine<'_, P, S, W> {
+    ghost line = { λ l wait. spec.sender_line (part_naming_view l.told.now) l.memory.now l.kernel.now l.part l.endpoint wait };
+
+    fn add(&self, out: &mut String, wait: &Wait) -> Result<(), AllocError> {
+        let sender = SenderOn {
+            memory: self.memory,
+            part: self.part,
+            endpoint: self.endpoint,
+        };
+        if !sender.holds(wait) {
+            return Ok(());
+        }
+        match self.kernel.offer(wait.thread) {
+            None => Ok(()),
+            Some(offer) => {
+                let name = self.told.thread(wait.thread);
+                let part = self.told.part(self.part)?;
+                let endpoint = self.told.endpoint(self.endpoint);
+                let badge = offer.badge.0;
+                writeln!(
+                    out,
+                    "  part {part} waiting {name} -> {endpoint} badge {badge}"
+                )
+            }
+        }
     }
-    Ok(())
+}
+
+/// An endpoint that is allowed. `live` has the live endpoints.
+#[derive(Clone, Copy)]
+struct AllowedLine<'a> {
+    told: &'a PartNaming<'a>,
+    live: &'a [u64],
+}
+
+impl Line<u64> for AllowedLine<'_> {
+    ghost line = { λ l endpoint. spec.allowed_line (part_naming_view l.told.now) l.live.now endpoint };
+
+    fn add(&self, out: &mut String, endpoint: &u64) -> Result<(), AllocError> {
+        let none = none_text(is_in(self.live, *endpoint));
+        let endpoint = self.told.endpoint(*endpoint);
+        writeln!(out, "by {endpoint}{none}")
+    }
 }
 
 /// The full slots of a kernel, each with what it holds.
@@ -448,83 +225,224 @@ fn slots_of<P: Profile, S: DerivationStore<P> + Drop, W: Waiters<P> + Drop>(
     Ok(filled)
 }
 
-/// Adds the answer for parts that are given, and what is open between them.
-fn add_lines_of_answer<P: Profile, S: DerivationStore<P> + Drop, W: Waiters<P> + Drop>(
+/// What is told of two threads: by the parts of a kernel's layout, and but by some endpoints.
+#[derive(Drop)]
+struct Telling<'a, P: Profile, S: DerivationStore<P> + Drop, W: Waiters<P> + Drop> {
     alloc: Global,
-    out: &mut String,
-    told: &PartNaming<'_>,
+    told: &'a PartNaming<'a>,
+    kernel: &'a Kernel<P, S, W>,
+    layout: &'a Layout<'a>,
     from: u64,
     to: u64,
-    by: &[u64],
-    kernel: &Kernel<P, S, W>,
-    layout: &Layout<'_>,
-    answer: Never,
-) -> Result<(), AllocError>
-    requires { layout.now.waits.now ≡ waits_of P.profile kernel.now }
-    ensures { OnOk result (string_bytes out.new ≡ string_bytes out.old
-        ++ spec.lines_of_answer P.profile (part_naming_view told.now) layout.now.memory.now layout.now.uses.now kernel.now by.now from to answer) }
-{
-    let first = part_at(layout.memory, from);
-    let second = part_at(layout.memory, to);
-    add_answer(out, told, layout.memory, from, to, answer)?;
-    add_between::<P, S, W>(alloc, out, told, layout, kernel, by, first, second)?;
-    add_sel4_between::<P>(alloc, out, told, layout, first, second)?;
-    add_taken_between::<P, S, W>(alloc, out, told, layout.memory, kernel, first, second)
+    by: &'a [u64],
+    ghost waiting: { layout.now.waits.now ≡ waits_of P.profile kernel.now },
 }
 
-/// The text of an answer, but for the chains, for parts that are given. `live` has the live endpoints.
-#[tactic(auto, unfolding(crate::specs::Open::never_text))]
-fn text_of_parts<P: Profile, S: DerivationStore<P> + Drop, W: Waiters<P> + Drop>(
-    alloc: Global,
-    told: &PartNaming<'_>,
-    heading: &Heading<'_>,
-    from: u64,
-    to: u64,
-    by: &[u64],
-    live: &[u64],
-    kernel: &Kernel<P, S, W>,
-    layout: &Layout<'_>,
-    answer: Never,
-) -> Result<String, AllocError>
-    requires waits { layout.now.waits.now ≡ waits_of P.profile kernel.now }
-    requires live { live.now ≡ endpoints_of P.profile kernel.now }
-    ensures { IfOk result (λ text. string_bytes text ≡ spec.never_text P.profile (part_naming_view told.now) heading.now.setup.now heading.now.made heading.now.refused
-        heading.now.without.now heading.now.messages.now layout.now.memory.now layout.now.uses.now kernel.now by.now from to answer) }
-{
-    let mut out = String::new(alloc);
-    add_heading::<P, S, W>(&mut out, "never 4", told, heading, kernel)?;
-    add_all_allowed(&mut out, told, live, by)?;
-    add_lines_of_answer::<P, S, W>(alloc, &mut out, told, from, to, by, kernel, layout, answer)?;
-    Ok(out)
-}
+impl<P: Profile, S: DerivationStore<P> + Drop, W: Waiters<P> + Drop> Telling<'_, P, S, W> {
+    /// Adds the first line: the threads with their parts, and the answer.
+    fn add_answer(&self, out: &mut String, answer: Never) -> Result<(), AllocError>
+        ensures { OnOk result (string_bytes out.new ≡ string_bytes out.old
+            ++ spec.answer_line (part_naming_view self.now.told.now) self.now.layout.now.memory.now self.now.from self.now.to answer) }
+    {
+        let (told, memory) = (self.told, self.layout.memory);
+        let sender = told.thread(self.from);
+        let receiver = told.thread(self.to);
+        let first = part_text(told, memory, self.from)?;
+        let second = part_text(told, memory, self.to)?;
+        let word = never_word(answer);
+        writeln!(
+            out,
+            "never {sender} part {first} -> {receiver} part {second} {word}"
+        )
+    }
 
-/// The text of an answer for parts that are given, with the chains behind it.
-fn never_with_chains<P: Profile, S: DerivationStore<P> + Drop, W: Waiters<P> + Drop>(
-    alloc: Global,
-    told: &PartNaming<'_>,
-    heading: &Heading<'_>,
-    from: u64,
-    to: u64,
-    by: &[u64],
-    live: &[u64],
-    kernel: &Kernel<P, S, W>,
-    layout: &Layout<'_>,
-    answer: Never,
-) -> Result<Vec<u8>, AllocError>
-    requires waits { layout.now.waits.now ≡ waits_of P.profile kernel.now }
-    requires live { live.now ≡ endpoints_of P.profile kernel.now }
-    ensures { IfOk result (λ text. spec.IsNeverText P.profile (part_naming_view told.now) heading.now.setup.now heading.now.made heading.now.refused
-        heading.now.without.now heading.now.messages.now layout.now.memory.now layout.now.uses.now kernel.now by.now from to answer text.items) }
-{
-    let mut text = text_of_parts::<P, S, W>(
-        alloc, told, heading, from, to, by, live, kernel, layout, answer,
-    )?;
-    let filled = slots_of::<P, S, W>(alloc, kernel)?;
-    let from_in = (from, part_at(layout.memory, from));
-    let to_in = (to, part_at(layout.memory, to));
-    let chains = chains_between::<P>(alloc, told, filled.as_slice(), layout, by, from_in, to_in)?;
-    text.push_str(chains.as_str())?;
-    Ok(text.into_bytes())
+    /// Adds what two parts have of an endpoint, by these uses: the one to send there, and the other to receive.
+    fn add_endpoint(
+        &self,
+        out: &mut String,
+        between: &Between<'_>,
+        uses: &[PartUse],
+        endpoint: u64,
+    ) -> Result<(), AllocError>
+        ensures { OnOk result (string_bytes out.new ≡ string_bytes out.old
+            ++ spec.open_endpoint_lines P.profile (part_naming_view self.now.told.now) self.now.layout.now.memory.now uses.now self.now.kernel.now between.now.from between.now.to endpoint) }
+    {
+        let (told, kernel, memory) = (self.told, self.kernel, self.layout.memory);
+        let open = told.endpoint(endpoint);
+        writeln!(out, "open {open}")?;
+        let by_sender = HadLines::<P> {
+            told,
+            memory,
+            part: between.from,
+            endpoint,
+            profile: PhantomData,
+        };
+        by_sender.add_had(out, uses)?;
+        let senders = SenderLine {
+            told,
+            kernel,
+            memory,
+            part: between.from,
+            endpoint,
+        };
+        add_each(out, self.layout.waits, &senders)?;
+        let by_receiver = HadLines::<P> {
+            told,
+            memory,
+            part: between.to,
+            endpoint,
+            profile: PhantomData,
+        };
+        by_receiver.add_had(out, uses)?;
+        add_each(out, self.layout.waits, &by_receiver)
+    }
+
+    /// Adds some endpoints that are open, each with what the two parts have of it.
+    fn add_all_open(
+        &self,
+        out: &mut String,
+        between: &Between<'_>,
+        open: &[u64],
+    ) -> Result<(), AllocError>
+        ensures { OnOk result (string_bytes out.new ≡ string_bytes out.old
+            ++ flat_map (spec.open_endpoint_lines P.profile (part_naming_view self.now.told.now) self.now.layout.now.memory.now self.now.layout.now.uses.now
+            self.now.kernel.now between.now.from between.now.to) open.now) }
+    {
+        let by_endpoint = uses_by_key(self.alloc, self.layout.uses, UseKey::Endpoint)?;
+        for endpoint in open {
+            let here = uses_on(by_endpoint.as_slice(), *endpoint);
+            self.add_endpoint(out, between, here, *endpoint)?;
+        }
+        Ok(())
+    }
+
+    /// Adds the endpoints that are open between the parts of the threads, where these are two.
+    fn add_between(
+        &self,
+        out: &mut String,
+        from: Option<u64>,
+        to: Option<u64>,
+    ) -> Result<(), AllocError>
+        ensures { OnOk result (string_bytes out.new ≡ string_bytes out.old
+            ++ spec.lines_between P.profile (part_naming_view self.now.told.now) self.now.layout.now.memory.now self.now.layout.now.uses.now
+            self.now.kernel.now self.now.by.now from to) }
+    {
+        let (Some(from), Some(to)) = (from, to) else {
+            return Ok(());
+        };
+        if from == to {
+            return Ok(());
+        }
+        let between = Between {
+            from,
+            to,
+            by: self.by,
+        };
+        let open = open_endpoints::<P>(self.alloc, self.layout, &between)?;
+        self.add_all_open(out, &between, open.as_slice())
+    }
+
+    /// Adds what passes between the parts of the threads in seL4, beside messages, where these are two.
+    fn add_sel4_between(
+        &self,
+        out: &mut String,
+        from: Option<u64>,
+        to: Option<u64>,
+    ) -> Result<(), AllocError>
+        ensures { OnOk result (string_bytes out.new ≡ string_bytes out.old
+            ++ spec.sel4_between (part_naming_view self.now.told.now) P.profile self.now.layout.now.memory.now self.now.layout.now.uses.now from to) }
+    {
+        let (Some(from), Some(to)) = (from, to) else {
+            return Ok(());
+        };
+        if from == to {
+            return Ok(());
+        }
+        let layout = self.layout;
+        add_sel4_lines::<P>(
+            self.alloc,
+            out,
+            self.told,
+            layout.memory,
+            layout.uses,
+            from,
+            to,
+        )
+    }
+
+    /// Adds a line where one of the parts of the threads may take slots from the other.
+    fn add_taken_between(
+        &self,
+        out: &mut String,
+        from: Option<u64>,
+        to: Option<u64>,
+    ) -> Result<(), AllocError>
+        ensures { OnOk result (string_bytes out.new ≡ string_bytes out.old
+            ++ spec.taken_between (part_naming_view self.now.told.now) self.now.layout.now.memory.now self.now.kernel.now from to) }
+    {
+        let (Some(from), Some(to)) = (from, to) else {
+            return Ok(());
+        };
+        if from == to {
+            return Ok(());
+        }
+        let (alloc, told) = (self.alloc, self.told);
+        let slots = part_slots::<P, S, W>(alloc, self.layout.memory, self.kernel)?;
+        add_take_of(alloc, out, told, slots.as_slice(), from, to)?;
+        add_take_of(alloc, out, told, slots.as_slice(), to, from)
+    }
+
+    /// Adds the answer, and what is open between the parts.
+    fn add_lines(&self, out: &mut String, answer: Never) -> Result<(), AllocError>
+        ensures { OnOk result (string_bytes out.new ≡ string_bytes out.old
+            ++ spec.lines_of_answer P.profile (part_naming_view self.now.told.now) self.now.layout.now.memory.now self.now.layout.now.uses.now
+            self.now.kernel.now self.now.by.now self.now.from self.now.to answer) }
+    {
+        let from = part_at(self.layout.memory, self.from);
+        let to = part_at(self.layout.memory, self.to);
+        self.add_answer(out, answer)?;
+        self.add_between(out, from, to)?;
+        self.add_sel4_between(out, from, to)?;
+        self.add_taken_between(out, from, to)
+    }
+
+    /// The text of an answer, but for the chains. `live` has the live endpoints.
+    #[tactic(auto, unfolding(crate::specs::Open::never_text))]
+    fn text(&self, heading: &Heading<'_>, live: &[u64], answer: Never) -> Result<String, AllocError>
+        requires { live.now ≡ endpoints_of P.profile self.now.kernel.now }
+        ensures { IfOk result (λ text. string_bytes text ≡ spec.never_text P.profile (part_naming_view self.now.told.now) heading.now.setup.now heading.now.made heading.now.refused
+            heading.now.without.now heading.now.messages.now self.now.layout.now.memory.now self.now.layout.now.uses.now self.now.kernel.now self.now.by.now self.now.from self.now.to answer) }
+    {
+        let told = self.told;
+        let mut out = String::new(self.alloc);
+        add_heading::<P, S, W>(&mut out, "never 4", told, heading, self.kernel)?;
+        let allowed = AllowedLine { told, live: &*live };
+        add_each(&mut out, self.by, &allowed)?;
+        self.add_lines(&mut out, answer)?;
+        Ok(out)
+    }
+
+    /// The text of an answer, with the chains behind it. `live` has the live endpoints.
+    fn text_with_chains(
+        &self,
+        heading: &Heading<'_>,
+        live: &[u64],
+        answer: Never,
+    ) -> Result<Vec<u8>, AllocError>
+        requires { live.now ≡ endpoints_of P.profile self.now.kernel.now }
+        ensures { IfOk result (λ text. spec.IsNeverText P.profile (part_naming_view self.now.told.now) heading.now.setup.now heading.now.made heading.now.refused
+            heading.now.without.now heading.now.messages.now self.now.layout.now.memory.now self.now.layout.now.uses.now self.now.kernel.now self.now.by.now self.now.from self.now.to answer text.items) }
+    {
+        let (alloc, told, layout) = (self.alloc, self.told, self.layout);
+        let mut text = self.text(heading, live, answer)?;
+        let filled = slots_of::<P, S, W>(alloc, self.kernel)?;
+        let filled = filled.as_slice();
+        let from = (self.from, part_at(layout.memory, self.from));
+        let to = (self.to, part_at(layout.memory, self.to));
+        let chains = chains_between::<P>(alloc, told, filled, layout, self.by, from, to)?;
+        text.push_str(chains.as_str())?;
+        Ok(text.into_bytes())
+    }
 }
 
 /// Whether a thread's part is kept from another's, but for the endpoints that `by` names, whatever calls the threads make that are
@@ -567,9 +485,15 @@ pub fn never_gets<P: Profile, S: DerivationStore<P> + Drop, W: Waiters<P> + Drop
     let of_parts = never_of_parts::<P>(alloc, &layout, by, from, to)?;
     let answer = answer_of::<P, S, W>(alloc, kernel, &callers, by, from, to, of_parts)?;
     let told = PartNaming::new(alloc, naming, layout.memory, callers.threads)?;
-    let live = state.endpoints.as_slice();
-    let text = never_with_chains::<P, S, W>(
-        alloc, &told, heading, from, to, by, live, kernel, &layout, answer,
-    )?;
+    let telling = Telling {
+        alloc,
+        told: &told,
+        kernel: &*kernel,
+        layout: &layout,
+        from,
+        to,
+        by: &*by,
+    };
+    let text = telling.text_with_chains(heading, state.endpoints.as_slice(), answer)?;
     Ok((text, answer))
 }

@@ -63,12 +63,12 @@ fn are_ready_in<P: Profile, S: CapStore<P> + Drop, W: Waiters<P> + Drop>(
 ) -> bool
     ensures { result ≡ list_all (spec.is_ready_in P.profile callers.now.memory.now kernel.now part) callers.now.threads.now }
 {
-    callers.threads.iter().all(|thread| is_ready_in::<P, S, W>(
-        kernel,
-        callers.memory,
-        part,
-        *thread,
-    ))
+    for thread in callers.threads {
+        if !is_ready_in::<P, S, W>(kernel, callers.memory, part, *thread) {
+            return false;
+        }
+    }
+    true
 }
 
 fn is_still<P: Profile, S: CapStore<P> + Drop, W: Waiters<P> + Drop>(

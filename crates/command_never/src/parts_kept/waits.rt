@@ -6,6 +6,7 @@ ghost use Rattle.command_never.specs.Waits as spec;
 use cap_core::Profile;
 use ipc_core::Waiters;
 use kernel_core::{Kernel, ThreadState};
+use list_questions::{Finds, all_found};
 use slot_core::CapStore;
 use std::alloc::{AllocError, Global};
 
@@ -17,31 +18,32 @@ pub struct Wait {
     pub sends: bool,
 }
 
-fn wait_in(thread: u64, state: Option<ThreadState>) -> Option<Wait>
-    ensures { result ≡ spec.wait_in thread state }
-{
-    match state {
-        Some(ThreadState::Sending(endpoint)) => Some(Wait {
-            thread,
-            endpoint,
-            sends: true,
-        }),
-        Some(ThreadState::Receiving(endpoint)) => Some(Wait {
-            thread,
-            endpoint,
-            sends: false,
-        }),
-        Some(ThreadState::Ready) | Some(ThreadState::Inactive) | None => None,
-    }
+/// Whether a thread waits, and where.
+#[derive(Drop)]
+struct WaitOf<'a, P: Profile, S: CapStore<P> + Drop, W: Waiters<P> + Drop> {
+    kernel: &'a Kernel<P, S, W>,
 }
 
-fn wait_of<P: Profile, S: CapStore<P> + Drop, W: Waiters<P> + Drop>(
-    kernel: &Kernel<P, S, W>,
-    thread: u64,
-) -> Option<Wait>
-    ensures { result ≡ spec.wait_of kernel.now thread }
-{
-    wait_in(thread, kernel.thread_state(thread))
+impl<P: Profile, S: CapStore<P> + Drop, W: Waiters<P> + Drop> Finds<u64, Wait>
+    for WaitOf<'_, P, S, W> {
+    ghost found = { λ f thread. spec.wait_of f.kernel.now thread };
+
+    fn find(&self, thread: &u64) -> Option<Wait> {
+        let thread = *thread;
+        match self.kernel.thread_state(thread) {
+            Some(ThreadState::Sending(endpoint)) => Some(Wait {
+                thread,
+                endpoint,
+                sends: true,
+            }),
+            Some(ThreadState::Receiving(endpoint)) => Some(Wait {
+                thread,
+                endpoint,
+                sends: false,
+            }),
+            Some(ThreadState::Ready) | Some(ThreadState::Inactive) | None => None,
+        }
+    }
 }
 
 /// Those of some threads that wait.
@@ -52,8 +54,5 @@ pub fn waits<P: Profile, S: CapStore<P> + Drop, W: Waiters<P> + Drop>(
 ) -> Result<Vec<Wait>, AllocError>
     ensures { IfOk result (λ v. v.items ≡ filter_map (spec.wait_of kernel.now) threads.now) }
 {
-    threads
-        .iter()
-        .filter_map(|thread| wait_of::<P, S, W>(kernel, *thread))
-        .collect(alloc)
+    all_found(alloc, threads, &WaitOf { kernel })
 }
