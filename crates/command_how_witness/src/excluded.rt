@@ -105,7 +105,12 @@ fn slots_below<P: Profile>(
 fn has_one_of(memory: &[PartMemory], part: u64, slots: &[u64]) -> bool
     ensures { result ≡ list_any (spec.is_slot_within memory.now part) slots.now }
 {
-    slots.iter().any(|slot| is_of_part(memory, part, *slot))
+    for slot in slots {
+        if is_of_part(memory, part, *slot) {
+            return true;
+        }
+    }
+    false
 }
 
 /// Whether no full slot of one part stands below a slot of another, for derivations as a kernel tells them.

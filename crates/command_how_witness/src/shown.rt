@@ -30,7 +30,12 @@ fn is_caller(asked: &Asked<'_>, call: &Call) -> bool
 fn are_callers(asked: &Asked<'_>, calls: &[Call]) -> bool
     ensures { result ≡ list_all (spec.is_caller (spec.asking_of asked.now)) calls.now }
 {
-    calls.iter().all(|call| is_caller(asked, call))
+    for call in calls {
+        if !is_caller(asked, call) {
+            return false;
+        }
+    }
+    true
 }
 
 /// Some calls without the last one, and that one.
@@ -203,8 +208,12 @@ fn is_one_held<P: Profile, S: MakeStore<P> + DerivationStore<P>, W: MakeWaiters<
 ) -> bool
     ensures { result ≡ list_any (private.is_held kernel.now.derivations word thread) list.now }
 {
-    list.iter()
-        .any(|r| is_held::<P, S, W>(kernel, word, thread, r))
+    for one in list {
+        if is_held::<P, S, W>(kernel, word, thread, one) {
+            return true;
+        }
+    }
+    false
 }
 
 /// Whether a word of the one thread leads to the other's control block.
@@ -283,8 +292,12 @@ fn is_one_emptied<P: Profile, S: MakeStore<P> + DerivationStore<P>, W: MakeWaite
 ) -> bool
     ensures { result ≡ list_any (λ (r : ReachedOf). private.is_emptied before.now.derivations after.now.derivations r.slot) list.now }
 {
-    list.iter()
-        .any(|r| is_emptied::<P, S, W>(before, after, r.slot))
+    for one in list {
+        if is_emptied::<P, S, W>(before, after, one.slot) {
+            return true;
+        }
+    }
+    false
 }
 
 /// Whether something of the other thread's is taken from one state to another.
