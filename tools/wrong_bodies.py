@@ -92,13 +92,19 @@ def text_of(path):
         return file.read()
 
 
+def arguments_of(given, parameters):
+    """The types that a trait is given, as a check names them behind it: all but the parameters of the impl."""
+    own = re.findall(r"[<,]\s*(\w+)\s*(?=[:,>])", parameters)
+    return "".join(it[0].upper() + it[1:] for it in re.findall(r"(?<!')\b\w+", given) if it not in own)
+
+
 def owner_of(lines, at):
     """The type whose impl a line stands in and its trait, or "", or the trait that it stands in and ""."""
     top = next((k for k in range(at, -1, -1) if re.match(r"impl\b|pub trait|trait|mod ", lines[k])), None)
     head = "" if top is None else " ".join(lines[top : at + 1]).split("{")[0]
-    found = re.match(r"impl\b(?:\s*<.*?>)?\s+(?:[\w:]*::)?(\w+)(?:<[^<>]*>)?\s+for\s+(?:[\w:]*::)?(\w+)", head)
+    found = re.match(r"impl\b(\s*<.*?>)?\s+(?:[\w:]*::)?(\w+)(?:<([^<>]*)>)?\s+for\s+(?:[\w:]*::)?(\w+)", head)
     if found:
-        return found[2], found[1]
+        return found[4], found[2] + arguments_of(found[3] or "", found[1] or "")
     found = re.match(r"impl(?:<.*?>)? (\w+)|(?:pub )?trait (\w+)", head)
     return next((it for it in found.groups() if it), "") if found else "", ""
 
@@ -163,8 +169,8 @@ def place_pair(edit, folder, file, old):
 
 
 def with_home(function, folder):
-    """The function, with the file of its type where that is another one of the crate."""
-    if function.owner:
+    """The function, with the file of its type where that is another one of the crate; of an impl of a trait the file counts."""
+    if function.owner and not function.trait:
         declared = re.compile(rf"^(?:pub(?:\([a-z]+\))? )?(?:struct|enum|trait) {function.owner}\b", re.M)
         homes = [os.path.relpath(it, folder) for it in sources(folder) if declared.search(text_of(it))]
         if homes and function.file not in homes:
