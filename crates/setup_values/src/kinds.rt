@@ -259,7 +259,12 @@ pub fn named_word<P: Profile>(name: &str, value: &Value) -> Result<u64, Wrong>
 fn is_shown(text: &[u8]) -> bool
     ensures { result ≡ list_all (kind.between 32 126) text.now }
 {
-    text.iter().all(|b| b' ' <= *b && *b <= b'~')
+    for byte in text {
+        if *byte < b' ' || b'~' < *byte {
+            return false;
+        }
+    }
+    true
 }
 
 /// A text of 1 to 120 bytes, each from a space to `~`.

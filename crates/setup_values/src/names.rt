@@ -27,7 +27,12 @@ fn is_name_byte(byte: u8) -> bool
 fn has_name_bytes(text: &[u8]) -> bool
     ensures { result ≡ list_all kind.is_name_byte text.now }
 {
-    text.iter().all(|b| is_name_byte(*b))
+    for byte in text {
+        if !is_name_byte(*byte) {
+            return false;
+        }
+    }
+    true
 }
 
 /// Whether a text may stand as a name: 1 to 40 lower-case ASCII letters, digits or `_`.
@@ -40,7 +45,12 @@ pub fn is_name(text: &[u8]) -> bool
 fn named<'t>(names: &'t [Name], text: &[u8]) -> Option<&'t Name>
     ensures { option_copied result ≡ find (λ n. bytes_eq (string_bytes n.text) text.now) names.now }
 {
-    names.iter().find(|name| name.text.as_bytes() == text)
+    for name in names {
+        if name.text.as_bytes() == text {
+            return Some(name);
+        }
+    }
+    None
 }
 
 /// The word of a name, which is looked for from the first on.

@@ -111,5 +111,10 @@ impl OpName {
 fn first_named<'o>(ops: &'o [OpName], text: &str) -> Option<&'o OpName>
     ensures { option_copied result ≡ find (λ op. bytes_eq (spec.op_text op) text.now) ops.now }
 {
-    ops.iter().find(|op| op.text() == text)
+    for op in ops {
+        if op.text() == text {
+            return Some(op);
+        }
+    }
+    None
 }

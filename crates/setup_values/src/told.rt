@@ -39,13 +39,24 @@ impl fmt::Display for ThreadName<'_> {
 fn count_named(names: &[Name], value: u64) -> usize
     ensures { result ≡ count_by (λ n. n.word == value) names.now }
 {
-    names.iter().filter(|name| name.word == value).count()
+    let mut count = 0;
+    for name in names {
+        if name.word == value {
+            count += 1;
+        }
+    }
+    count
 }
 
 fn first_named(names: &[Name], value: u64) -> Option<&Name>
     ensures { option_copied result ≡ find (λ n. n.word == value) names.now }
 {
-    names.iter().find(|name| name.word == value)
+    for name in names {
+        if name.word == value {
+            return Some(name);
+        }
+    }
+    None
 }
 
 /// The name of a value: where exactly one name of the set-up has it.
