@@ -17,26 +17,40 @@ pub struct WaitRow {
 fn first_place(rows: &[WaitRow], endpoint: u64) -> Option<usize>
     ensures { result ≡ position (is_at endpoint) rows.now }
 {
-    rows.iter().position(|row| row.endpoint == endpoint)
+    for (place, row) in rows.iter().enumerate() {
+        if row.endpoint == endpoint {
+            return Some(place);
+        }
+    }
+    None
 }
 
 /// The row of a thread, if it waits.
 pub fn row_of(rows: &[WaitRow], thread: u64) -> Option<WaitRow>
     ensures { result ≡ find (is_of thread) rows.now }
 {
-    rows.iter()
-        .copied()
-        .find(|row| row.waiter.thread() == thread)
+    for row in rows {
+        if row.waiter.thread() == thread {
+            return Some(*row);
+        }
+    }
+    None
 }
 
 /// The one that waits at a place of an endpoint's waiting list, 0 the first.
 pub fn waiter_at(rows: &[WaitRow], endpoint: u64, place: usize) -> Option<Waiter>
     ensures { result ≡ slice_get (waiting_at rows.now endpoint) place }
 {
-    rows.iter()
-        .filter(|row| row.endpoint == endpoint)
-        .map(|row| row.waiter)
-        .nth(place)
+    let mut before = place;
+    for row in rows {
+        if row.endpoint == endpoint {
+            if before == 0 {
+                return Some(row.waiter);
+            }
+            before -= 1;
+        }
+    }
+    None
 }
 
 /// The receiver that waits first on an endpoint, if it is one that waits first.
@@ -73,9 +87,12 @@ pub fn first_sender(rows: &[WaitRow], endpoint: u64) -> Option<Offer>
 fn first_thread(rows: &[WaitRow], endpoint: u64) -> Option<u64>
     ensures { result ≡ option_map row_thread (find (is_at endpoint) rows.now) }
 {
-    rows.iter()
-        .find(|row| row.endpoint == endpoint)
-        .map(|row| row.waiter.thread())
+    for row in rows {
+        if row.endpoint == endpoint {
+            return Some(row.waiter.thread());
+        }
+    }
+    None
 }
 
 /// The thread of the first row behind that of a thread, on the same endpoint.

@@ -107,7 +107,8 @@ impl<P: Profile> Waiters<P> for RowWaiters<P> {
     }
 
     fn role(&self, thread: u64) -> Option<Role> {
-        row_of(&self.rows, thread).map(|row| row.waiter.role_at(row.endpoint))
+        let row = row_of(&self.rows, thread)?;
+        Some(row.waiter.role_at(row.endpoint))
     }
 
     fn offer(&self, thread: u64) -> Option<Offer> {
@@ -115,7 +116,8 @@ impl<P: Profile> Waiters<P> for RowWaiters<P> {
     }
 
     fn waiting(&self, endpoint: u64, place: u64) -> Option<u64> {
-        waiter_at(&self.rows, endpoint, place as usize).map(|waiter| waiter.thread())
+        let waiter = waiter_at(&self.rows, endpoint, place as usize)?;
+        Some(waiter.thread())
     }
 
     fn next_waiting(&self, thread: u64) -> Option<u64> {
