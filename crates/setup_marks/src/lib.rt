@@ -2,7 +2,7 @@
 //! has it for its name; who asks of a set-up what does not hold of one with the mark looks for it.
 #![tactic(auto)]
 
-ghost use Rattle.std.specs.Prelude.{◌≡◌, codes, string_bytes};
+ghost use Rattle.std.specs.Prelude.{◌≡◌, string_bytes};
 ghost use Rattle.std.specs.Str.{bytes_eq};
 ghost use Rattle.std.specs.List.{list_any};
 ghost use Rattle.setup_values.specs.Names.{names_view};
@@ -16,11 +16,16 @@ pub const IMPORT_FLOWS: &str = "import_flows";
 /// The word of that name: the first one behind the largest memory, so that no object, no slot and no address has it.
 pub const IMPORT_FLOWS_WORD: u64 = 1 << 20;
 
-/// Whether one of these names is the mark.
-fn has_mark(names: &[Name]) -> bool
-    ensures { result ≡ list_any (λ n. bytes_eq (string_bytes n.text) (codes "import_flows")) names.now }
+/// Whether one of some names is a text.
+fn has_name(names: &[Name], text: &str) -> bool
+    ensures { result ≡ list_any (λ n. bytes_eq (string_bytes n.text) text.now) names.now }
 {
-    names.iter().any(|name| name.text.as_str() == IMPORT_FLOWS)
+    for name in names {
+        if name.text.as_str() == text {
+            return true;
+        }
+    }
+    false
 }
 
 /// Whether `import --flows` made the set-up that gives these names. Each object of the layout counts there, so a thread also uses what
@@ -29,5 +34,5 @@ fn has_mark(names: &[Name]) -> bool
 pub fn is_for_flows(names: &[Name]) -> bool
     ensures { result ≡ spec.is_for_flows (names_view names.now) }
 {
-    has_mark(names)
+    has_name(names, IMPORT_FLOWS)
 }
