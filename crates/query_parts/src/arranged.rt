@@ -91,7 +91,12 @@ fn labels(alloc: Global, memory: &[PartMemory]) -> Result<Vec<u64>, AllocError>
 fn place_of(labels: &[u64], part: u64) -> Option<usize>
     ensures { result ≡ position (λ label. label == part) labels.now }
 {
-    labels.iter().position(|label| *label == part)
+    for (place, label) in labels.iter().enumerate() {
+        if *label == part {
+            return Some(place);
+        }
+    }
+    None
 }
 
 /// The number of a part, from 1 on, by its label.

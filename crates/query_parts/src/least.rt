@@ -64,8 +64,12 @@ fn is_overlapped(stretch: &PartMemory, part: u64, first: u64, last: u64) -> bool
 fn overlapped(memory: &[PartMemory], part: u64, first: u64, last: u64) -> Option<u64>
     ensures { result ≡ option_map (λ (m : PartMemory). m.part) (find (λ (m : PartMemory). not (m.part == part) && overlaps first last m) memory.now) }
 {
-    let stretch = memory.iter().find(|m| is_overlapped(m, part, first, last))?;
-    Some(stretch.part)
+    for m in memory {
+        if is_overlapped(m, part, first, last) {
+            return Some(m.part);
+        }
+    }
+    None
 }
 
 /// Makes the parts that have one of these addresses one with a part.

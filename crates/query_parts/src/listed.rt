@@ -33,8 +33,12 @@ pub fn contains(memory: &PartMemory, address: u64) -> bool
 pub fn part_at(memory: &[PartMemory], address: u64) -> Option<u64>
     ensures { result ≡ spec.part_at memory.now address }
 {
-    let stretch = memory.iter().find(|m| contains(m, address))?;
-    Some(stretch.part)
+    for m in memory {
+        if contains(m, address) {
+            return Some(m.part);
+        }
+    }
+    None
 }
 
 /// The last address of a range; `None` where that is no word.
@@ -66,13 +70,23 @@ fn has_all(memory: &PartMemory, part: u64, first: u64, last: u64) -> bool
 fn is_spared_by_all(memory: &[PartMemory], part: u64, first: u64, last: u64) -> bool
     ensures { result ≡ list_all (spec.spares part first last) memory.now }
 {
-    memory.iter().all(|m| spares(m, part, first, last))
+    for m in memory {
+        if !spares(m, part, first, last) {
+            return false;
+        }
+    }
+    true
 }
 
 fn is_in_one(memory: &[PartMemory], part: u64, first: u64, last: u64) -> bool
     ensures { result ≡ list_any (spec.has_all part first last) memory.now }
 {
-    memory.iter().any(|m| has_all(m, part, first, last))
+    for m in memory {
+        if has_all(m, part, first, last) {
+            return true;
+        }
+    }
+    false
 }
 
 /// Whether all of a range is memory of the part.
@@ -99,7 +113,12 @@ pub fn allows(allowed: &PartUse, part: u64, base: u64, badge: Badge, rights: Rig
 fn is_one_allowed(uses: &[PartUse], part: u64, base: u64, badge: Badge, rights: Rights) -> bool
     ensures { result ≡ list_any (spec.allows part base badge rights) uses.now }
 {
-    uses.iter().any(|u| allows(u, part, base, badge, rights))
+    for allowed in uses {
+        if allows(allowed, part, base, badge, rights) {
+            return true;
+        }
+    }
+    false
 }
 
 fn is_allowed(uses: &[PartUse], part: u64, cap: Cap) -> bool

@@ -35,7 +35,12 @@ fn says_more(other: &PartUse, this: &PartUse) -> bool
 fn one_says_more(uses: &[PartUse], this: &PartUse) -> bool
     ensures { result ≡ list_any (spec.says_more this.now) uses.now }
 {
-    uses.iter().any(|other| says_more(other, this))
+    for other in uses {
+        if says_more(other, this) {
+            return true;
+        }
+    }
+    false
 }
 
 /// Whether one of some uses says more. It has any badge, or the same.

@@ -39,7 +39,12 @@ fn all_stand<P: Profile>(
 ) -> bool
     ensures { result ≡ list_all (λ d. entry_stands P.profile memory.now uses.now (derivation_view P.profile d).0) derivations.now }
 {
-    derivations.iter().all(|d| stands::<P>(memory, uses, d))
+    for derivation in derivations {
+        if !stands::<P>(memory, uses, derivation) {
+            return false;
+        }
+    }
+    true
 }
 
 /// Whether each part that is given by stretches of memory, and by the endpoints that it may use, is closed: whether each
@@ -94,7 +99,12 @@ fn is_addressed<P: Profile>(thread: u64) -> bool
 fn are_addressed<P: Profile>(threads: &[u64]) -> bool
     ensures { result ≡ list_all (order.is_addressed P.profile) threads.now }
 {
-    threads.iter().all(|t| is_addressed::<P>(*t))
+    for thread in threads {
+        if !is_addressed::<P>(*thread) {
+            return false;
+        }
+    }
+    true
 }
 
 /// The parts that are found around threads: the least ones, told in order.
