@@ -29,13 +29,14 @@ fn slots_of<P: Profile>(
 ) -> Result<Vec<FullSlot>, AllocError>
     ensures { IfOk result (λ filled. filled.items ≡ map (full_slot P.profile) derivations.now) }
 {
-    derivations
-        .iter()
-        .map(|derivation| FullSlot {
+    let mut filled = Vec::new(alloc);
+    for derivation in derivations {
+        filled.push(FullSlot {
             address: derivation.slot.address::<P>(),
             cap: derivation.cap,
-        })
-        .collect(alloc)
+        })?;
+    }
+    Ok(filled)
 }
 
 /// Puts slots into the order of their addresses, each once.

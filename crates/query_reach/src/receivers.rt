@@ -34,11 +34,13 @@ pub fn words_at(list: &[EndpointWord], endpoint: u64) -> &[EndpointWord]
 fn receiving(alloc: Global, words: &[EndpointWord]) -> Result<Vec<EndpointWord>, AllocError>
     ensures { IfOk result (λ list. list.items ≡ filter may_receive words.now) }
 {
-    words
-        .iter()
-        .filter(|word| word.rights.contains(Rights::READ))
-        .copied()
-        .collect(alloc)
+    let mut list = Vec::new(alloc);
+    for word in words {
+        if word.rights.contains(Rights::READ) {
+            list.push(*word)?;
+        }
+    }
+    Ok(list)
 }
 
 /// Keeps the first of words of one thread that follow one another and lead to one endpoint.

@@ -77,11 +77,15 @@ pub fn channels(alloc: Global, words: &[EndpointWord]) -> Result<Vec<Channel>, A
 fn has_sender(words: &[EndpointWord], receiver: &EndpointWord) -> bool
     ensures { result ≡ list_any (is_sender_to receiver.now) words.now }
 {
-    words.iter().any(|word| {
-        word.rights.contains(Rights::WRITE)
+    for word in words {
+        if word.rights.contains(Rights::WRITE)
             && word.endpoint == receiver.endpoint
             && is_between_two(word, receiver)
-    })
+        {
+            return true;
+        }
+    }
+    false
 }
 
 /// The words by which threads may receive from an endpoint, each thread's first, to which no other thread may send.
@@ -98,9 +102,12 @@ pub fn receivers_without_sender(
     ensures { IfOk result (λ list. list.items ≡ unserved words.now endpoint) }
 {
     let list = first_receivers(alloc, words)?;
-    words_at(list.as_slice(), endpoint)
-        .iter()
-        .filter(|receiver| !has_sender(words, receiver))
-        .copied()
-        .collect(alloc)
+    let receivers = words_at(list.as_slice(), endpoint);
+    let mut unserved = Vec::new(alloc);
+    for receiver in receivers {
+        if !has_sender(words, receiver) {
+            unserved.push(*receiver)?;
+        }
+    }
+    Ok(unserved)
 }

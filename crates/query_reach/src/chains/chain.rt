@@ -68,10 +68,12 @@ struct Place {
 fn first_in<P: Profile>(layer: &[FullSlot], target: &Target) -> Option<FullSlot>
     ensures { result ≡ find (λ s. is_sought_at P.profile target.now s) layer.now }
 {
-    layer
-        .iter()
-        .find(|slot| is_sought::<P>(slot.cap, target))
-        .copied()
+    for slot in layer {
+        if is_sought::<P>(slot.cap, target) {
+            return Some(*slot);
+        }
+    }
+    None
 }
 
 /// The first slot of a layer that holds what is sought.
@@ -85,7 +87,12 @@ fn sought_in<P: Profile>(layer: &[FullSlot], target: &Target) -> Option<FullSlot
 fn first_before<P: Profile>(layer: &[FullSlot], slot: &FullSlot) -> Option<FullSlot>
     ensures { result ≡ find (λ s. leads_to_layer P.profile s slot.now) layer.now }
 {
-    layer.iter().find(|from| leads_to::<P>(from, slot)).copied()
+    for from in layer {
+        if leads_to::<P>(from, slot) {
+            return Some(*from);
+        }
+    }
+    None
 }
 
 /// The first slot of a layer that leads to a slot.

@@ -44,7 +44,12 @@ pub fn leads_to<P: Profile>(from: &FullSlot, slot: &FullSlot) -> bool
 fn is_behind<P: Profile>(layer: &[FullSlot], slot: &FullSlot) -> bool
     ensures { result ≡ is_next P.profile layer.now slot.now }
 {
-    layer.iter().any(|from| leads_to::<P>(from, slot))
+    for from in layer {
+        if leads_to::<P>(from, slot) {
+            return true;
+        }
+    }
+    false
 }
 
 /// Those of the rest to which some slot of a layer leads.
@@ -55,10 +60,13 @@ fn next_layer<P: Profile>(
 ) -> Result<Vec<FullSlot>, AllocError>
     ensures { IfOk result (λ v. v.items ≡ next_layer P.profile layer.now rest.now) }
 {
-    rest.iter()
-        .filter(|slot| is_behind::<P>(layer, slot))
-        .copied()
-        .collect(alloc)
+    let mut next = Vec::new(alloc);
+    for slot in rest {
+        if is_behind::<P>(layer, slot) {
+            next.push(*slot)?;
+        }
+    }
+    Ok(next)
 }
 
 /// Those of the rest to which no slot of a layer leads.
@@ -69,20 +77,25 @@ fn others<P: Profile>(
 ) -> Result<Vec<FullSlot>, AllocError>
     ensures { IfOk result (λ v. v.items ≡ others_of P.profile layer.now rest.now) }
 {
-    rest.iter()
-        .filter(|slot| !is_behind::<P>(layer, slot))
-        .copied()
-        .collect(alloc)
+    let mut others = Vec::new(alloc);
+    for slot in rest {
+        if !is_behind::<P>(layer, slot) {
+            others.push(*slot)?;
+        }
+    }
+    Ok(others)
 }
 
 fn slots_at(alloc: Global, filled: &[FullSlot], root: u64) -> Result<Vec<FullSlot>, AllocError>
     ensures { IfOk result (λ v. v.items ≡ filter (λ s. s.address == root) filled.now) }
 {
-    filled
-        .iter()
-        .filter(|slot| slot.address == root)
-        .copied()
-        .collect(alloc)
+    let mut slots = Vec::new(alloc);
+    for slot in filled {
+        if slot.address == root {
+            slots.push(*slot)?;
+        }
+    }
+    Ok(slots)
 }
 
 fn slots_elsewhere(
@@ -92,11 +105,13 @@ fn slots_elsewhere(
 ) -> Result<Vec<FullSlot>, AllocError>
     ensures { IfOk result (λ v. v.items ≡ filter (λ s. not (s.address == root)) filled.now) }
 {
-    filled
-        .iter()
-        .filter(|slot| slot.address != root)
-        .copied()
-        .collect(alloc)
+    let mut slots = Vec::new(alloc);
+    for slot in filled {
+        if slot.address != root {
+            slots.push(*slot)?;
+        }
+    }
+    Ok(slots)
 }
 
 /// The layers from one on: each has those of the rest to which the layer before it leads, and none is empty.

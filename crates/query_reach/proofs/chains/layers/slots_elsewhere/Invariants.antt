@@ -1,0 +1,6 @@
+use Rattle.std.proofs.Common.{◌≡◌, ◌==◌, not, filter, take}
+use Rattle.query_reach.specs.declared.filled.FullSlot.{FullSlot}
+use Rattle.query_reach.proofs.chains.layers.slots_elsewhere.Given as goal
+
+abbrev pub invariant-loop-slot : goal.invariant-loop-slot
+invariant-loop-slot l = l.slots.items ≡ filter (λ (s : FullSlot). not (s.address == l.root)) (take l.slot-index l.filled)
