@@ -38,6 +38,11 @@ impl<'a> Document<'a> {
         }
     }
 
+    /// The value at a key of the table at a place.
+    pub fn value_at(&self, place: Place, key: &str) -> Option<&'a Value> {
+        self.table_at(place)?.get(key)
+    }
+
     /// The names, where there are any.
     pub fn names(&self) -> Option<&'a Table> {
         self.table.get("names")?.as_table()
@@ -58,11 +63,12 @@ impl<'a> Document<'a> {
 
     /// Whether a value is a word.
     pub fn is_word(&self, value: &Value) -> bool {
-        let name = value.as_str().and_then(|text| text.strip_prefix('@'));
-        match (self.names(), name) {
-            (Some(names), Some(name)) => names.get(name).is_some(),
-            _ => self.is_plain_word(value),
+        if let (Some(names), Some(text)) = (self.names(), value.as_str())
+            && let Some(name) = text.strip_prefix('@')
+        {
+            return names.get(name).is_some();
         }
+        self.is_plain_word(value)
     }
 }
 

@@ -2,7 +2,7 @@
 ghost use Rattle.std.specs.Prelude.{◌<◌, length};
 ghost use Rattle.kernel_abstract.specs.Plan.{IsPlan};
 
-use crate::message::question;
+use crate::message::{is_decimal, question};
 use crate::near::nearest;
 use cap_core::limits::MAX_MESSAGE_WORDS;
 use cap_core::{Narrow, ProfileName, Wide};
@@ -50,8 +50,7 @@ const FIRST_SLOT: u64 = 2;
 
 /// Whether a text is a number as a reply has it.
 fn is_number(text: &str) -> bool {
-    let is_decimal = !text.is_empty() && text.bytes().all(|byte| byte.is_ascii_digit());
-    is_decimal && (text == "0" || !text.starts_with('0'))
+    is_decimal(text) && (text == "0" || !text.starts_with('0'))
 }
 
 /// Whether a word stands at a place of a reply that delivers a message, 0 the first.
@@ -61,6 +60,16 @@ fn is_delivered(place: usize, word: &str) -> bool {
         Some(wanted) => word == *wanted,
         None => place < DELIVERED.len() + MAX_MESSAGE_WORDS && is_number(word),
     }
+}
+
+/// Whether a reply that delivers a message can begin with a text.
+fn begins_delivery(text: &str) -> bool {
+    for (place, word) in text.split(' ').enumerate() {
+        if !is_delivered(place, word) {
+            return false;
+        }
+    }
+    true
 }
 
 /// The reply of an operation that neither refuses the call nor delivers a message. It is `done` for those that deliver none.
@@ -75,11 +84,10 @@ fn word_of(op: OpName) -> &'static str {
 
 /// Whether a reply of an operation that has this other reply can begin with a text.
 fn is_beginning(word: &str, text: &str) -> bool {
-    let mut words = text.split(' ').enumerate();
     match text.strip_prefix("refused ") {
         Some(refusal) => REFUSALS.contains(&refusal),
         None if text == "refused" || text == word => true,
-        None => word != "done" && words.all(|(place, word)| is_delivered(place, word)),
+        None => word != "done" && begins_delivery(text),
     }
 }
 
@@ -104,11 +112,15 @@ fn number_of_name(named: &ReadSetup, place: usize, text: &str) -> Option<u64>
     requires { IsPlan named.now.setup.profile named.now.setup.plan }
 {
     let text = text.strip_prefix('@')?;
-    let name = named.names.iter().find(|name| name.text.as_str() == text)?;
-    match place {
-        ENDPOINT_PLACE => endpoint_at(&named.setup, name.word),
-        _ => Some(name.word),
+    for name in named.names.as_slice() {
+        if name.text.as_str() == text {
+            return match place {
+                ENDPOINT_PLACE => endpoint_at(&named.setup, name.word),
+                _ => Some(name.word),
+            };
+        }
     }
+    None
 }
 
 /// An expectation with numbers in the place of names.
@@ -126,6 +138,16 @@ fn with_numbers(alloc: Global, named: &ReadSetup, text: &str) -> Result<String, 
     Ok(numbered)
 }
 
+/// The refusal to write in the place of seL4's name of it.
+fn refusal_named(name: &str) -> Option<&'static str> {
+    for (known, refusal) in NAMED {
+        if known == name {
+            return Some(refusal);
+        }
+    }
+    None
+}
+
 /// What may have been meant by a text with which no reply begins of an operation that has this other reply.
 fn hint(alloc: Global, word: &str, text: &str) -> Result<String, AllocError> {
     if is_beginning(word, text) {
@@ -133,8 +155,7 @@ fn hint(alloc: Global, word: &str, text: &str) -> Result<String, AllocError> {
     }
     if let Some(name) = text.strip_prefix("refused ") {
         let name = name.strip_prefix("seL4_").unwrap_or(name);
-        let meant = NAMED.iter().find(|(known, _)| *known == name);
-        return question(alloc, meant.map(|(_, reply)| *reply));
+        return question(alloc, refusal_named(name));
     }
     match nearest(alloc, text.split(' ').next().unwrap_or(""), &WORDS)? {
         Some("delivered") if word != "done" => String::from_str(alloc, DELIVERY),

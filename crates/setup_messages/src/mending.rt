@@ -30,11 +30,13 @@ pub enum Mended {
 
 /// Puts a size that is accepted at a key, where the key is one of a size.
 fn mend_size(alloc: Global, table: &mut Table, key: &str) -> Result<Mended, AllocError> {
-    let Some((_, size)) = SIZES.iter().find(|(name, _)| *name == key) else {
-        return Ok(Mended::Nothing);
-    };
-    table.insert(String::from_str(alloc, key)?, Value::from(*size))?;
-    Ok(Mended::Size)
+    for (name, size) in SIZES {
+        if name == key {
+            table.insert(String::from_str(alloc, key)?, Value::from(size))?;
+            return Ok(Mended::Size);
+        }
+    }
+    Ok(Mended::Nothing)
 }
 
 /// Takes the untyped regions away, and makes all sizes fit.
@@ -76,7 +78,10 @@ pub fn mend(alloc: Global, table: &mut Table, fault: &SetupFault) -> Result<Mend
         (_, Place::Top, _) => return mend_size(alloc, table, key),
         (_, Place::Untyped(_), _) => return mend_layout(alloc, table),
         (_, Place::Call(_), Some(call)) => {
-            *call = toml::table_from_str(alloc, ANY_CALL).map_err(|_| AllocError)?;
+            let Ok(any) = toml::table_from_str(alloc, ANY_CALL) else {
+                return Err(AllocError);
+            };
+            *call = any;
         }
     }
     Ok(Mended::Fault)

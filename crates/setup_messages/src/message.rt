@@ -15,6 +15,16 @@ pub fn found(alloc: Global, value: &Value) -> Result<String, AllocError> {
     }
 }
 
+/// Whether a text is one or more decimal digits.
+pub fn is_decimal(text: &str) -> bool {
+    for byte in text.as_bytes() {
+        if !byte.is_ascii_digit() {
+            return false;
+        }
+    }
+    !text.is_empty()
+}
+
 /// A key of the set-up, in quotes, and of a long one how long it is.
 pub fn quoted(alloc: Global, key: &str) -> Result<String, AllocError> {
     match key.len() {

@@ -31,9 +31,7 @@ const SYNONYMS: [(&str, &str); 57] = [
 
 /// Whether a name means the same in a set-up as what was found.
 fn is_synonym(found: &str, name: &str) -> bool {
-    SYNONYMS
-        .iter()
-        .any(|(other, key)| *other == found && *key == name)
+    SYNONYMS.contains(&(found, name))
 }
 
 /// Of some names the one that looks most like what was found, or the last one that means the same, where one does. Nothing looks

@@ -40,28 +40,36 @@ fn region_at(document: Document<'_>, place: Place) -> Option<Extent> {
 type Object = (&'static str, usize, Extent);
 
 /// Of some objects of one size that stand one behind another, that of a number, 0 the first.
-fn object_in_row(name: &'static str, number: usize, first: Extent) -> Object {
+fn object_in_row(number: usize, first: Extent) -> Extent {
     let Extent { start, end } = first;
     let offset = end.saturating_sub(start).saturating_mul(number as u128);
-    let object = Extent {
+    Extent {
         start: start.saturating_add(offset),
         end: end.saturating_add(offset),
-    };
-    (name, number, object)
+    }
 }
 
 /// The first of so many objects of a row that a region overlaps.
 fn first_in_row(region: Extent, name: &'static str, count: u32, first: Extent) -> Option<Object> {
-    (0..count as usize)
-        .map(|number| object_in_row(name, number, first))
-        .find(|(_, _, object)| region.overlaps(*object))
+    for number in 0..count as usize {
+        let object = object_in_row(number, first);
+        if region.overlaps(object) {
+            return Some((name, number, object));
+        }
+    }
+    None
 }
 
 /// The first of so many untyped regions of a document that a region overlaps.
 fn first_untyped(region: Extent, document: Document<'_>, count: usize) -> Option<Object> {
-    (1..=count)
-        .filter_map(|n| Some(("untyped", n, region_at(document, Place::Untyped(n))?)))
-        .find(|(_, _, object)| region.overlaps(*object))
+    for number in 1..=count {
+        if let Some(object) = region_at(document, Place::Untyped(number))
+            && region.overlaps(object)
+        {
+            return Some(("untyped", number, object));
+        }
+    }
+    None
 }
 
 /// The bits of the root CNode of a document.

@@ -19,7 +19,7 @@ pub struct Spot<'a> {
 impl<'a> Spot<'a> {
     /// A key of the table at a place; of the words of a call the first that is none.
     pub fn at(document: Document<'a>, place: Place, key: &'a str) -> Spot<'a> {
-        let value = document.table_at(place).and_then(|table| table.get(key));
+        let value = document.value_at(place, key);
         let mut spot = Spot {
             document,
             place,
@@ -35,20 +35,25 @@ impl<'a> Spot<'a> {
 
     /// Goes to the first of some words that is none; not where there are more than a message has.
     fn find_element(&mut self, words: &'a [Value]) {
-        let bad = words.iter().position(|word| !self.document.is_word(word));
-        if let Some(i) = bad
-            && words.len() <= MAX_MESSAGE_WORDS
-        {
-            self.element = Some(i.saturating_add(1));
-            self.value = words.get(i);
+        if words.len() > MAX_MESSAGE_WORDS {
+            return;
+        }
+        for (i, word) in words.iter().enumerate() {
+            if !self.document.is_word(word) {
+                self.element = Some(i.saturating_add(1));
+                self.value = Some(word);
+                return;
+            }
         }
     }
 
     /// The part of the text that is at fault: a name, where the value is one, and else the key.
     pub fn part(&self) -> Part {
-        let text = self.value.and_then(|value| value.as_str()).unwrap_or("");
+        let Some(Value::String(text)) = self.value else {
+            return Part::Key;
+        };
         match self.element {
-            _ if !text.starts_with('@') => Part::Key,
+            _ if !text.as_str().starts_with('@') => Part::Key,
             Some(n) => Part::Element(n),
             None => Part::Value,
         }

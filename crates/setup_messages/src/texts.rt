@@ -72,17 +72,21 @@ fn hint(fault: &str, bytes: &[u8], there: &str) -> &'static str {
 
 /// Whether a line begins with a key that has a value behind it.
 fn is_line_of(line: &str, key: &str) -> bool {
-    let behind = line.trim_start().strip_prefix(key);
-    behind.is_some_and(|rest| rest.trim_start().starts_with('='))
+    match line.trim_start().strip_prefix(key) {
+        Some(behind) => behind.trim_start().starts_with('='),
+        None => false,
+    }
 }
 
 /// The number of the last line, 1 the first, that begins with a key and has a value behind it.
 fn line_of(above: &str, key: &str) -> Option<usize> {
-    let mut lines = above
-        .lines()
-        .enumerate()
-        .filter(|(_, line)| is_line_of(*line, key));
-    lines.last().map(|(i, _)| i.saturating_add(1))
+    let mut last = None;
+    for (i, line) in above.lines().enumerate() {
+        if is_line_of(line, key) {
+            last = Some(i.saturating_add(1));
+        }
+    }
+    last
 }
 
 /// The words on bytes that are no TOML document, which were read from a file of that name. The text up to the fault is UTF-8.
@@ -94,7 +98,10 @@ pub fn text_words(alloc: Global, bytes: &[u8], name: &str) -> Result<String, All
         return Ok(String::new(alloc));
     };
     let span = error.span().ok_or(AllocError)?;
-    let text = bytes.utf8_chunks().next().map_or("", |chunk| chunk.valid());
+    let text = match bytes.utf8_chunks().next() {
+        Some(chunk) => chunk.valid(),
+        None => "",
+    };
     let (above, there) = text.split_at_checked(span.start).unwrap_or((text, ""));
     let key = there.split('=').next().unwrap_or("").trim_end();
     let excerpt = NamedText { name, text }.excerpt(span);

@@ -1,7 +1,7 @@
 //! Values that their keys do not take, in words.
 use crate::accepted::{A_NAME, A_NUMBER, accepted, operations, word_bound};
 use crate::document::Formats;
-use crate::message::{MAX_SHOWN, found, question, quoted, with_list};
+use crate::message::{MAX_SHOWN, found, is_decimal, question, quoted, with_list};
 use crate::near::nearest;
 use crate::spot::Spot;
 use setup_format::Place;
@@ -95,7 +95,10 @@ fn no_name(spot: Spot<'_>, text: &str) -> Result<String, AllocError> {
     let alloc = spot.document.alloc;
     match (spot.document.names(), text.strip_prefix('@')) {
         (Some(names), Some(name)) if text.len() <= MAX_SHOWN => {
-            let known: Vec<&str> = names.keys().map(|key| key.as_str()).collect(alloc)?;
+            let mut known = Vec::new(alloc);
+            for key in names.keys() {
+                known.push(key.as_str())?;
+            }
             let hint = hint_on_name(alloc, name, known.as_slice())?;
             format!(in alloc; "{spot}: names has no {name:?}{hint}")
         }
@@ -119,8 +122,7 @@ fn hint_on_name(alloc: Global, name: &str, known: &[&str]) -> Result<String, All
 
 /// Why a text is no value of a key that takes numbers. It may be a number in quotes.
 fn quoted_number(spot: Spot<'_>, text: &str) -> Result<String, AllocError> {
-    let is_number = !text.is_empty() && text.bytes().all(|byte| byte.is_ascii_digit());
-    if is_number && text.len() <= MAX_SHOWN {
+    if is_decimal(text) && text.len() <= MAX_SHOWN {
         let hint = format!(in spot.document.alloc; "; write {text} without quotes")?;
         return not_taken(spot, hint.as_str());
     }
@@ -140,14 +142,9 @@ fn takes_number(spot: Spot<'_>) -> bool {
 
 /// Why a number is none of a client's.
 fn no_client(spot: Spot<'_>) -> Result<String, AllocError> {
-    let clients = spot
-        .document
-        .table
-        .get("clients")
-        .and_then(|value| value.as_integer());
-    match clients {
-        None => not_taken(spot, "; without the key clients there is one client, 0"),
-        Some(_) => not_taken(spot, ""),
+    match spot.document.table.get("clients") {
+        Some(Value::Integer(_)) => not_taken(spot, ""),
+        _ => not_taken(spot, "; without the key clients there is one client, 0"),
     }
 }
 
