@@ -64,7 +64,13 @@ fn is_refused(reply: &Reply) -> bool
 pub fn count_refused(replies: &[Reply]) -> usize
     ensures { result ≡ count_by spec.is_refused_reply replies.now }
 {
-    replies.iter().filter(|reply| is_refused(reply)).count()
+    let mut count = 0;
+    for reply in replies {
+        if is_refused(reply) {
+            count += 1;
+        }
+    }
+    count
 }
 
 /// How many calls are asked for, where the set-up has them: all of them, where no number is given. `None` where it has fewer.

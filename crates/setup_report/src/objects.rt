@@ -70,7 +70,12 @@ impl Object {
 fn boot_row(boot: &[Derivation], object: Object) -> Option<&Derivation>
     ensures { option_copied result ≡ find (λ d. spec.names_object object d.cap) boot.entry.now }
 {
-    boot.iter().find(|row| object.is_named_by(row.cap))
+    for row in boot {
+        if object.is_named_by(row.cap) {
+            return Some(row);
+        }
+    }
+    None
 }
 
 /// The one name of the slot that boot put an object's capability into.
@@ -149,10 +154,13 @@ impl<'a> ObjectNames<'a> {
     pub fn node_around(&self, slot: u64) -> Option<&Node>
         ensures { option_copied result ≡ find (spec.lies_in_node self.entry.now.slot_bits slot) self.entry.now.nodes.items }
     {
-        self.nodes
-            .as_slice()
-            .iter()
-            .find(|node| self.lies_in(**node, slot))
+        let nodes = self.nodes.as_slice();
+        for node in nodes {
+            if self.lies_in(*node, slot) {
+                return Some(node);
+            }
+        }
+        None
     }
 }
 
@@ -181,7 +189,11 @@ fn node_of(cap: Cap) -> Option<Node>
 pub fn live_nodes(alloc: Global, rows: &[Derivation]) -> Result<Vec<Node>, AllocError>
     ensures { IfOk result (λ nodes. nodes.items ≡ filter_map (λ d. spec.node_of d.cap) rows.now) }
 {
-    rows.iter()
-        .filter_map(|row| node_of(row.cap))
-        .collect(alloc)
+    let mut nodes = Vec::new(alloc);
+    for row in rows {
+        if let Some(node) = node_of(row.cap) {
+            nodes.push(node)?;
+        }
+    }
+    Ok(nodes)
 }

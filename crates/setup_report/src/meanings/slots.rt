@@ -24,7 +24,12 @@ fn is_digit(byte: u8) -> bool
 fn is_number(word: &[u8]) -> bool
     ensures { result ≡ list_all (between 48 57) word.now }
 {
-    word.iter().all(|byte| is_digit(*byte))
+    for byte in word {
+        if !is_digit(*byte) {
+            return false;
+        }
+    }
+    true
 }
 
 /// The address of the slot that the number of a name stands for.

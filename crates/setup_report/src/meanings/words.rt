@@ -39,7 +39,12 @@ fn digits(text: &[u8]) -> Option<u64>
 fn named<'t>(names: &'t [Name], text: &[u8]) -> Option<&'t Name>
     ensures { option_copied result ≡ find (λ n. bytes_eq (string_bytes n.text) text.now) names.now }
 {
-    names.iter().find(|name| name.text.as_bytes() == text)
+    for name in names {
+        if name.text.as_bytes() == text {
+            return Some(name);
+        }
+    }
+    None
 }
 
 /// The word of a name.
