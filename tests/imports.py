@@ -1,10 +1,10 @@
 #!/usr/bin/env python3
-"""imports.py PROGRAM FOLDER SEED COUNT: imports layouts, runs the set-ups, and compares their ends with what the layouts say.
+"""imports.py PROGRAM FOLDER SEED COUNT [SHARED]: imports layouts, runs the set-ups, and compares their ends with what the layouts say.
 
 FOLDER has layouts, each with its listing in a file `.listing`, and with `--flows` in a file `.flows`, written by another
 reader; in `wrong` layouts with one fault each; in `names` those whose names look alike or are long; in `hardware` those whose
 threads share a guest, memory, ports or an interrupt; and in `spellings` those that are spelt as tools spell them. COUNT random layouts are drawn from SEED, and their listings are
-compared with what was drawn. A `.system` file NAME has to come to the set-up of the layout NAME_from_system, which another program
+compared with what was drawn. Of SHARED others, a tenth of COUNT if that is not said, two threads have something in common or nothing. A `.system` file NAME has to come to the set-up of the layout NAME_from_system, which another program
 made of it. The end of each set-up is read off the report of `check`: each slot of the layout holds its capability, no other slot is
 full but the loader's, threads are ready or inactive as asked, and nobody waits on an endpoint; what the slots have to hold is drawn
 here, or read by a few expressions that know nothing of the program. The set-up is also given to `check -`. A call of it is taken out or changed in some: then the end has to differ."""
@@ -261,34 +261,52 @@ def shared_of(program, folder):
         yield f"in_a_region.cdl: status {made.returncode} {made.stderr[:200]!r}"
 
 
-def shares(seed):
-    """Returns a random layout of threads with long names, of which the first and the last have one object in common or none, and
-    whether they have. Each object for ports has its own 32, but one that has the last port of another: these are one object."""
+# What two threads can have in common in a layout that is drawn: a page, a signal, a call, a guest's processor, ports, time, an interrupt.
+COMMON = [("frame (4k)", "RW"), ("notification", "RW"), ("ep", "RWGP"), ("vcpu", ""), ("io_ports", ""), ("sc", ""), ("arm_irq", "")]
+
+
+def shares(seed, common):
+    """Returns a random layout of threads with long names, of which the first and the last have one object in common or none, and the
+    names of these two. Each frame has a page of its own in physical memory, and each object for ports its own 32, but one that has a
+    part of the first one's: these are one object. A guest in common can be a thread that both control."""
     r = random.Random(seed)
-    kind, letters = r.choice([("frame (4k)", "RW"), ("notification", "RW"), ("ep", "RWGP"), ("vcpu", ""), ("io_ports", ""), ("sc", "")])
-    common, is_mapped = r.random() < 0.7, kind.startswith("frame") and r.random() < 0.7
+    kind, letters = r.choice(COMMON)
+    is_mapped, is_part = kind.startswith("frame") and r.random() < 0.7, kind in ("frame (4k)", "io_ports") and r.random() < 0.5
     names = [f"{r.choice(['camera', 'network', 'storage'])}_{'component_' * r.randint(0, 5)}{i}_tcb" for i in range(r.randint(2, 5))]
-    last, has_a_port_of_the_first = len(names) - 1, common and kind == "io_ports" and r.random() < 0.5
-    kinds = [kind + (f" (ports: [{96 + 32 * i}-{127 + 32 * i}])" if kind == "io_ports" else "") for i in range(len(names))]
-    if has_a_port_of_the_first:
-        kinds[last] = "io_ports (ports: [64-96])"
+    kinds = [{"io_ports": f"io_ports (ports: [{96 + 32 * i}-{127 + 32 * i}])", "frame (4k)": f"frame (4k, paddr: {4096 * (i + 16)})"}.get(kind, kind)
+             for i in range(len(names))]
+    if is_part and common:
+        kinds[-1] = "io_ports (ports: [64-96])" if kind == "io_ports" else "frame (8k, paddr: 61440)"
+    if kind == "vcpu" and r.random() < 0.5:
+        kinds = ["tcb"] * len(names)
     text = ["arch aarch64", "objects {", *(f"{name} = tcb\ncn_{i} = cnode (4 bits)\npt_{i} = pt\nown_{i} = {kinds[i]}" for i, name in enumerate(names)), "}", "caps {"]
     for i, name in enumerate(names):
-        held = "own_0" if common and i == last and not has_a_port_of_the_first else f"own_{i}"
+        held = "own_0" if common and i == len(names) - 1 and not is_part else f"own_{i}"
         cap = held + (f" ({letters})" if letters else "")
         text += [f"pt_{i} {{ {r.randint(0, 99)}: {cap} }}" if is_mapped else f"cn_{i} {{ {r.randint(0, 15)}: {cap} }}",
                  f"{name} {{ cspace: cn_{i} (guard: 0, guard_size: 60)\nvspace: pt_{i} }}"]
-    return "\n".join([*text, "}", ""]), names[0], names[-1], common
+    return "\n".join([*text, "}", ""]), called(names[0]), called(names[-1])
 
 
 def shares_of(program, seed, count):
-    """Yields which random layouts are told apart although two threads have an object in common, or the other way round."""
+    """Yields which random layouts are told apart although two threads have an object in common, or the other way round; and which keep
+    to a policy that was drafted of the same layout with nothing in common."""
     for number in range(count):
-        text, one, other, common = shares(f"{seed} shares {number}")
-        made = run(program, ["import", "--flows"], text)
-        told = run(program, ["never", f"{called(one)},{called(other)}", "--without", "loader", "-"], made.stdout)
-        if made.returncode or told.returncode != common:
-            yield f"shares {number} of {seed}: {common}, but status {told.returncode} {told.stdout[-120:]!r}"
+        apart = ""
+        for common in (False, True):
+            text, one, other = shares(f"{seed} shares {number}", common)
+            made = run(program, ["import", "--flows"], text)
+            told = run(program, ["never", f"{one},{other}", "--without", "loader", "-"], made.stdout)
+            if made.returncode or told.returncode != common or f" {'possible' if common else 'excluded'}\n" not in told.stdout:
+                yield f"shares {number} of {seed}: {common}, but status {told.returncode} {told.stdout[-120:]!r}"
+            apart = apart or run(program, ["draft", "--without", "loader", "-"], made.stdout).stdout
+            with tempfile.NamedTemporaryFile("w", suffix=".toml") as policy:
+                policy.write(apart)
+                policy.flush()
+                kept = run(program, ["policy", policy.name, "-"], made.stdout)
+            # A policy is refused if it names the answers to calls of an endpoint that is not called now.
+            if kept.returncode not in ((1, 2) if common else (0,)) or ("kept" in kept.stdout) == common:
+                yield f"shares {number} of {seed}: {common}, but of a policy status {kept.returncode} {kept.stdout[-120:]!r} {kept.stderr[:200]!r}"
 
 
 def losses_of(program, folder):
@@ -508,10 +526,10 @@ def faults_by_name(program, folder):
         yield f"file_server by names: {one}"
 
 
-def main(program, folder, seed, count):
+def main(program, folder, seed, count, shared=None):
     folder = pathlib.Path(folder)
     wrong = [*faults_of(program, folder), *names_of(program, folder / "names"),
-             *shared_of(program, folder / "hardware"), *spellings_of(program, folder / "spellings"), *losses_of(program, folder), *shares_of(program, seed, int(count) // 10),
+             *shared_of(program, folder / "hardware"), *spellings_of(program, folder / "spellings"), *losses_of(program, folder), *shares_of(program, seed, int(shared or int(count) // 10)),
              *flows_of(program, folder), *faults_of_systems(program, folder), *texts_of(program, folder), *strict_of(program, folder), *domains_of(program)]
     changed = unseen = 0
     for number in range(int(count)):
