@@ -152,6 +152,16 @@ fn add_endpoints<P: Profile>(
     Ok(())
 }
 
+/// What the slot of the root CNode with a number holds.
+fn held_in_slot<P: Profile>(slots: &[Derivation], number: u64) -> Option<Object> {
+    for slot in slots {
+        if slot.slot.address::<P>() >> P::SLOT_BITS == number {
+            return object_of::<P>(slot.cap);
+        }
+    }
+    None
+}
+
 /// Adds what the slots behind those of boot's objects hold.
 fn add_others<P: Profile>(
     objects: &mut Vec<Option<Object>>,
@@ -161,9 +171,7 @@ fn add_others<P: Profile>(
     let count = 1usize.checked_shl(plan.root_radix()).unwrap_or(0);
     let first = objects.len();
     for i in first..count {
-        let mut own = slots.iter().filter(|slot| slot.slot.address::<P>() >> P::SLOT_BITS
-            == i as u64);
-        objects.push(own.next().and_then(|slot| object_of::<P>(slot.cap)))?;
+        objects.push(held_in_slot::<P>(slots, i as u64))?;
     }
     Ok(())
 }
@@ -196,7 +204,10 @@ impl<'a> Objects<'a> {
     {
         let mut largest: Option<Object> = None;
         for live in self.live {
-            let is_larger = largest.is_none_or(|other| other.bits < live.bits);
+            let is_larger = match largest {
+                None => true,
+                Some(other) => other.bits < live.bits,
+            };
             if live.kind == kind && live.base == base && is_larger {
                 largest = Some(*live);
             }
@@ -214,10 +225,12 @@ impl<'a> Objects<'a> {
                 None => format!(in self.alloc; ": slot {number} of the root CNode is empty"),
             };
         }
-        match self.live.iter().find(|live| live.base == number) {
-            Some(Object { kind, .. }) => format!(in self.alloc; ": {kind} {number} is there"),
-            None => Ok(String::new(self.alloc)),
+        for Object { kind, base, .. } in self.live {
+            if *base == number {
+                return format!(in self.alloc; ": {kind} {number} is there");
+            }
         }
+        Ok(String::new(self.alloc))
     }
 
     /// That a number means no object of a kind.
@@ -229,12 +242,20 @@ impl<'a> Objects<'a> {
         Err(Unmeant::Words(words))
     }
 
+    /// The names of the set-up.
+    fn texts(self) -> Result<Vec<&'a str>, AllocError> {
+        let mut texts = Vec::new(self.alloc);
+        for name in self.names {
+            texts.push(name.text.as_str())?;
+        }
+        Ok(texts)
+    }
+
     /// That the set-up has no such name.
     fn no_name<T>(self, name: &str) -> Result<T, Unmeant>
         ensures { IsErr result }
     {
-        let names = self.names.iter().map(|other| other.text.as_str());
-        let names: Vec<&str> = names.collect(self.alloc)?;
+        let names = self.texts()?;
         let question = did_you_mean(
             self.alloc,
             name,
@@ -272,36 +293,36 @@ impl<'a> Objects<'a> {
         if self.is_slot(name.word) != by_slot {
             return false;
         }
-        let found = self.at_slot(name.word);
-        let is_there = found.is_some_and(|other| other.kind == object.kind
-            && other.base == object.base);
-        if by_slot {
-            is_there
-        } else {
-            name.word == object.base
+        if !by_slot {
+            return name.word == object.base;
+        }
+        match self.at_slot(name.word) {
+            Some(other) => other.kind == object.kind && other.base == object.base,
+            None => false,
         }
     }
 
     fn only_name(self, object: Object, by_slot: bool) -> Option<&'a str> {
-        let mut names = self
-            .names
-            .iter()
-            .filter(|name| self.is_named(name, object, by_slot));
-        let first = names.next()?;
-        match names.next() {
-            None => Some(first.text.as_str()),
-            Some(_) => None,
+        let mut only = None;
+        for name in self.names {
+            if self.is_named(name, object, by_slot) {
+                if only.is_some() {
+                    return None;
+                }
+                only = Some(name.text.as_str());
+            }
         }
+        only
     }
 
     /// What an object is called: the one name with its address, or, where none has it, the one name of its slot.
     pub fn name(self, object: Object) -> Option<&'a str> {
-        let mut names = self.names.iter();
-        if names.any(|name| self.is_named(name, object, false)) {
-            self.only_name(object, false)
-        } else {
-            self.only_name(object, true)
+        for name in self.names {
+            if self.is_named(name, object, false) {
+                return self.only_name(object, false);
+            }
         }
+        self.only_name(object, true)
     }
 }
 

@@ -51,9 +51,13 @@ fn region_at(base: u64, cap: Cap) -> Option<(u64, u32)>
 fn regions_at(alloc: Global, rows: &[Derivation], base: u64) -> Result<Vec<(u64, u32)>, AllocError>
     ensures { IfOk result (λ v. v.items ≡ filter_map (λ (d : TheDerivation). spec.region_at base d.cap) rows.now) }
 {
-    rows.iter()
-        .filter_map(|row| region_at(base, row.cap))
-        .collect(alloc)
+    let mut regions = Vec::new(alloc);
+    for row in rows {
+        if let Some(region) = region_at(base, row.cap) {
+            regions.push(region)?;
+        }
+    }
+    Ok(regions)
 }
 
 /// The first slot of the root CNode that boot puts a region into, where there is one.
@@ -88,7 +92,12 @@ fn boot_region<P: Profile>(plan: &BootPlan, index: u64) -> Option<(u64, u32)>
 fn have_size(regions: &[(u64, u32)], bits: u32) -> bool
     ensures { result ≡ spec.have_size bits regions.now }
 {
-    regions.iter().all(|region| region.1 == bits)
+    for region in regions {
+        if region.1 != bits {
+            return false;
+        }
+    }
+    true
 }
 
 /// The first of them, where all have its size.
@@ -107,8 +116,12 @@ fn only_region(regions: &[(u64, u32)]) -> Option<(u64, u32)>
 fn first_bytes(bits: u64, regions: &[(u64, u32)]) -> Option<(u64, u32)>
     ensures { result ≡ spec.first_bytes bits regions.now }
 {
-    let region = regions.iter().find(|region| bits <= u64::from(region.1))?;
-    Some((region.0, bits as u32))
+    for region in regions {
+        if bits <= u64::from(region.1) {
+            return Some((region.0, bits as u32));
+        }
+    }
+    None
 }
 
 /// The texts before and behind the first stroke.
@@ -127,7 +140,17 @@ fn part_of(bits: Option<u64>, regions: &[(u64, u32)]) -> Option<(u64, u32)>
 
 /// The bits of the largest region.
 fn largest(regions: &[(u64, u32)]) -> Option<u32> {
-    regions.iter().map(|region| region.1).max()
+    let mut largest: Option<u32> = None;
+    for (_, bits) in regions {
+        let is_larger = match largest {
+            None => true,
+            Some(other) => *bits > other,
+        };
+        if is_larger {
+            largest = Some(*bits);
+        }
+    }
+    largest
 }
 
 /// How many slots the root CNode has.

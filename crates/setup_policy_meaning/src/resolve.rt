@@ -10,7 +10,7 @@ ghost use Rattle.setup_policy_file.specs.Values.{all_of};
 ghost use Rattle.setup_policy_meaning.specs.Meant as meant;
 ghost use Rattle.setup_policy_meaning.specs.Policies as spec;
 
-use crate::objects::{Kind, Meaning, Unmeant, object_of};
+use crate::objects::{Kind, Meaning, Object, Unmeant, object_of};
 use cap_core::{Cap, Profile, Rights};
 use ipc_core::Waiters;
 use setup_policy::{Allowance, Member, OwnRegion, Policy, PolicyWay, sender_entry};
@@ -95,7 +95,20 @@ fn group_numbers(alloc: Global, count: u64) -> Result<Vec<u64>, AllocError>
 fn place_named(names: &[String], name: &str) -> Option<usize>
     ensures { result ≡ spec.actor_named names.now name.now }
 {
-    names.iter().position(|other| other.as_str() == name)
+    for (i, other) in names.iter().enumerate() {
+        if other.as_str() == name {
+            return Some(i);
+        }
+    }
+    None
+}
+
+fn texts<'a>(alloc: Global, names: &'a [String]) -> Result<Vec<&'a str>, AllocError> {
+    let mut texts = Vec::new(alloc);
+    for name in names {
+        texts.push(name.as_str())?;
+    }
+    Ok(texts)
 }
 
 /// The number of a group or of a trusted thread, by its name.
@@ -191,7 +204,7 @@ impl<P: Profile, S: CapStore<P> + Drop, W: Waiters<P> + Drop> Resolver<'_, P, S,
 
     fn refuse_name_of_trusted(&self, group: &GroupEntry, names: &[String]) -> Result<(), Refusal> {
         let name = group.name.as_str();
-        if !names.iter().any(|other| other.as_str() == name) {
+        if place_named(names, name).is_none() {
             return Ok(());
         }
         let words = format!(in self.alloc();
@@ -214,12 +227,14 @@ impl<P: Profile, S: CapStore<P> + Drop, W: Waiters<P> + Drop> Resolver<'_, P, S,
         ensures untrusted { IfOk result (λ thread. spec.is_trusted actors.entry.silent.now actors.entry.messages.now thread ≡ false) }
     {
         let thread = self.thread(word, spot)?;
-        if let Some(member) = members.iter().find(|member| member.thread == thread) {
-            let group = actors.name(member.actor);
-            let words = format!(in self.alloc();
-                "the thread {word} is in group {group} already; a thread has one group"
-            )?;
-            return self.fault(Fault::Twice, spot, words);
+        for member in members {
+            if member.thread == thread {
+                let group = actors.name(member.actor);
+                let words = format!(in self.alloc();
+                    "the thread {word} is in group {group} already; a thread has one group"
+                )?;
+                return self.fault(Fault::Twice, spot, words);
+            }
         }
         if actors.is_trusted(thread) {
             let words = format!(in self.alloc();
@@ -321,11 +336,13 @@ impl<P: Profile, S: CapStore<P> + Drop, W: Waiters<P> + Drop> Resolver<'_, P, S,
     ) -> Result<(), Refusal>
         ensures { IsErr result }
     {
-        let mut unknown = rows
-            .iter()
-            .filter(|row| !names_known(members, actors, row.cap))
-            .filter_map(|row| object_of::<P>(row.cap));
-        let name = match unknown.next() {
+        let mut unknown: Option<Object> = None;
+        for row in rows {
+            if unknown.is_none() && !names_known(members, actors, row.cap) {
+                unknown = object_of::<P>(row.cap);
+            }
+        }
+        let name = match unknown {
             Some(object) => match self.meaning.objects.name(object) {
                 Some(name) => format!(in self.alloc(); "@{name}")?,
                 None => {
@@ -359,17 +376,12 @@ impl<P: Profile, S: CapStore<P> + Drop, W: Waiters<P> + Drop> Resolver<'_, P, S,
     fn no_actor<T>(&self, names: &[String], name: &str, spot: Spot<'_>) -> Result<T, Refusal>
         ensures { IsErr result }
     {
-        let names = names.iter().map(|other| other.as_str());
-        let names: Vec<&str> = names.collect(self.alloc())?;
-        let groups = names
-            .as_slice()
-            .iter()
-            .take(self.file.groups.len())
-            .copied();
-        let groups: Vec<&str> = groups.collect(self.alloc())?;
-        let groups = groups.as_slice().join(self.alloc(), ", ")?;
+        let names = texts(self.alloc(), names)?;
+        let names = names.as_slice();
+        let groups = names.get(..self.file.groups.len()).unwrap_or(names);
+        let groups = groups.join(self.alloc(), ", ")?;
         let others = format!(in self.alloc(); "; the groups are {groups}")?;
-        let question = did_you_mean(self.alloc(), name, names.as_slice(), others.as_str())?;
+        let question = did_you_mean(self.alloc(), name, names, others.as_str())?;
         let words = format!(in self.alloc(); "there is no group {name}{question}")?;
         self.fault(Fault::NoSuch, spot, words)
     }
@@ -483,7 +495,12 @@ impl<P: Profile, S: CapStore<P> + Drop, W: Waiters<P> + Drop> Resolver<'_, P, S,
 fn has_thread(members: &[Member], thread: u64) -> bool
     ensures { result ≡ spec.is_member thread members.now }
 {
-    members.iter().any(|member| member.thread == thread)
+    for member in members {
+        if member.thread == thread {
+            return true;
+        }
+    }
+    false
 }
 
 /// Whether a capability names no thread but one of a group, or one that is trusted.
@@ -500,7 +517,12 @@ fn names_known(members: &[Member], actors: Actors<'_>, cap: Cap) -> bool
 fn are_known(rows: &[Derivation], members: &[Member], actors: Actors<'_>) -> bool
     ensures { result ≡ list_all (λ (d : TheDerivation). spec.names_known (spec.is_known members.now actors.entry.silent.now actors.entry.messages.now) d.cap) rows.now }
 {
-    rows.iter().all(|row| names_known(members, actors, row.cap))
+    for row in rows {
+        if !names_known(members, actors, row.cap) {
+            return false;
+        }
+    }
+    true
 }
 
 /// What a way lets its receiver hold: Read with any badge.
@@ -515,20 +537,6 @@ fn receiver_entry(way: &PolicyWay) -> Allowance
     }
 }
 
-/// What ways let their senders hold.
-fn senders(alloc: Global, ways: &[PolicyWay]) -> Result<Vec<Allowance>, AllocError>
-    ensures { IfOk result (λ v. v.items ≡ map entries.sender_entry ways.now) }
-{
-    ways.iter().map(|way| sender_entry(way)).collect(alloc)
-}
-
-/// What ways let their receivers hold.
-fn receivers(alloc: Global, ways: &[PolicyWay]) -> Result<Vec<Allowance>, AllocError>
-    ensures { IfOk result (λ v. v.items ≡ map entries.receiver_entry ways.now) }
-{
-    ways.iter().map(|way| receiver_entry(way)).collect(alloc)
-}
-
 /// What ways and uses let groups hold: of each way its sender, and then its receiver, who may have Read with any badge.
 fn allowances(
     alloc: Global,
@@ -537,9 +545,13 @@ fn allowances(
 ) -> Result<Vec<Allowance>, AllocError>
     ensures { IfOk result (λ v. v.items ≡ entries.allowances_of ways.now uses.now) }
 {
-    let mut all = senders(alloc, ways)?;
-    let receivers = receivers(alloc, ways)?;
-    all.extend_from_slice(receivers.as_slice())?;
+    let mut all = Vec::new(alloc);
+    for way in ways {
+        all.push(sender_entry(way))?;
+    }
+    for way in ways {
+        all.push(receiver_entry(way))?;
+    }
     all.extend_from_slice(uses)?;
     Ok(all)
 }
