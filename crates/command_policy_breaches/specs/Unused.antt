@@ -1,5 +1,5 @@
 -- What a policy allows and of which nothing is there.
-use Rattle.std.specs.Prelude.{ℕ, ◌==◌, ◌&&◌, ◌||◌, Bool, not, List, count_by}
+use Rattle.std.specs.Prelude.{ℕ, ◌==◌, ◌&&◌, ◌||◌, Bool, not, cond, List, count_by}
 use Rattle.std.specs.List.{list_any}
 use Rattle.cap_core.specs.Rights.{write_bit, read_bit, grant_bit, grant_reply_bit}
 use Rattle.kernel_abstract.specs.Decode.{has_right}
@@ -84,9 +84,16 @@ is_way_used c l w =
 
 -- ---- rights that nothing has
 
--- an entry has a right that nothing of its group has
+-- the entry has the right, and by it a thread in a part of its group waits: by Read to receive there, by Write to send with a badge that
+-- the entry lets
+abbrev pub waits_with : Layout → Allowance → ℕ → Bool
+waits_with l a right =
+    has_right right a.rights
+    && cond (right == read_bit) (hears_by_wait l a.actor a.endpoint) (right == write_bit && sends_by_wait l a.actor a.endpoint a.badge)
+
+-- an entry has a right that nothing of its group has, and by which none of its threads waits
 abbrev pub is_idle : Layout → Allowance → ℕ → Bool
-is_idle l a right = has_right right a.rights && not (is_used l a.actor a.endpoint a.badge right)
+is_idle l a right = has_right right a.rights && (not (is_used l a.actor a.endpoint a.badge right) && not (waits_with l a right))
 
 abbrev pub has_idle_behind_write : Layout → Allowance → Bool
 has_idle_behind_write l a = is_idle l a read_bit || (is_idle l a grant_bit || is_idle l a grant_reply_bit)
@@ -102,10 +109,14 @@ has_way_idle_right c l w =
 -- ---- uses
 
 -- a part of the entry's group has a use of the endpoint, with a badge that the entry lets
-abbrev pub is_entry_used : Layout → Allowance → Bool
-is_entry_used l a = list_any (is_use_of_entry l a.actor a.endpoint a.badge) l.uses.items
+abbrev pub has_use_of_entry : Layout → Allowance → Bool
+has_use_of_entry l a = list_any (is_use_of_entry l a.actor a.endpoint a.badge) l.uses.items
 
--- an entry that is used has a right that nothing of its group has
+-- a part of the entry's group has a use of the endpoint with a badge that the entry lets, or a thread in it waits by a right of the entry
+abbrev pub is_entry_used : Layout → Allowance → Bool
+is_entry_used l a = has_use_of_entry l a || (waits_with l a read_bit || waits_with l a write_bit)
+
+-- an entry that is used has a right that nothing of its group has, and by which none of its threads waits
 abbrev pub has_use_idle_right : Layout → Allowance → Bool
 has_use_idle_right l a = is_entry_used l a && (is_idle l a write_bit || has_idle_behind_write l a)
 

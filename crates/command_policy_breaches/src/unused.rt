@@ -122,8 +122,9 @@ impl Asks<Member> for Receiver<'_> {
     }
 }
 
-fn group_sends(layout: &Layout, actor: u64, endpoint: u64, badge: u64) -> bool
-    ensures { result ≡ spec.group_sends layout.now actor endpoint badge }
+/// Whether a thread in a part of the group waits to send to the endpoint with such a badge.
+fn waits_to_send(layout: &Layout, actor: u64, endpoint: u64, badge: u64) -> bool
+    ensures { result ≡ spec.sends_by_wait layout.now actor endpoint badge }
 {
     let send = OfActor {
         layout,
@@ -131,22 +132,35 @@ fn group_sends(layout: &Layout, actor: u64, endpoint: u64, badge: u64) -> bool
         endpoint,
         badge,
     };
-    is_of_group(layout, actor, endpoint)
-        || has(layout, actor, endpoint, badge, Rights::WRITE)
-        || any(layout.waits.as_slice(), &send)
+    any(layout.waits.as_slice(), &send)
 }
 
-fn group_hears(layout: &Layout, actor: u64, endpoint: u64) -> bool
-    ensures { result ≡ spec.group_hears layout.now actor endpoint }
+/// Whether a thread in a part of the group waits to receive on the endpoint.
+fn waits_to_receive(layout: &Layout, actor: u64, endpoint: u64) -> bool
+    ensures { result ≡ spec.hears_by_wait layout.now actor endpoint }
 {
     let receive = Receiver {
         layout,
         actor,
         endpoint,
     };
+    any(layout.waits.as_slice(), &receive)
+}
+
+fn group_sends(layout: &Layout, actor: u64, endpoint: u64, badge: u64) -> bool
+    ensures { result ≡ spec.group_sends layout.now actor endpoint badge }
+{
+    is_of_group(layout, actor, endpoint)
+        || has(layout, actor, endpoint, badge, Rights::WRITE)
+        || waits_to_send(layout, actor, endpoint, badge)
+}
+
+fn group_hears(layout: &Layout, actor: u64, endpoint: u64) -> bool
+    ensures { result ≡ spec.group_hears layout.now actor endpoint }
+{
     is_of_group(layout, actor, endpoint)
         || has(layout, actor, endpoint, 0, Rights::READ)
-        || any(layout.waits.as_slice(), &receive)
+        || waits_to_receive(layout, actor, endpoint)
 }
 
 /// Whether a thread waits to send with such a badge.
@@ -223,11 +237,28 @@ pub fn unused_ways(
     those(alloc, policy.ways.as_slice(), &question)
 }
 
-/// Whether an entry has a right that nothing has.
+/// Whether an entry has a right, by which a thread in a part of its group waits: by Read to receive there, by Write to send with a badge
+/// that the entry lets.
+fn waits_with(layout: &Layout, entry: &Allowance, right: Rights) -> bool
+    ensures { result ≡ spec.waits_with layout.now entry.now right.0 }
+{
+    if !entry.rights.contains(right) {
+        return false;
+    }
+    if right == Rights::READ {
+        waits_to_receive(layout, entry.actor, entry.endpoint)
+    } else {
+        right == Rights::WRITE && waits_to_send(layout, entry.actor, entry.endpoint, entry.badge)
+    }
+}
+
+/// Whether an entry has a right that nothing has, and by which no thread waits.
 pub fn is_idle(layout: &Layout, entry: &Allowance, right: Rights) -> bool
     ensures { result ≡ spec.is_idle layout.now entry.now right.0 }
 {
-    entry.rights.contains(right) && !has(layout, entry.actor, entry.endpoint, entry.badge, right)
+    entry.rights.contains(right)
+        && !has(layout, entry.actor, entry.endpoint, entry.badge, right)
+        && !waits_with(layout, entry, right)
 }
 
 /// Whether an entry has a right but Write that nothing has.
@@ -273,6 +304,7 @@ pub fn ways_with_idle_rights(
     those(alloc, policy.ways.as_slice(), &question)
 }
 
+/// Whether there is a use of an entry, or a thread waits by one of its rights.
 fn is_entry_used(layout: &Layout, entry: &Allowance) -> bool
     ensures { result ≡ spec.is_entry_used layout.now entry.now }
 {
@@ -283,6 +315,8 @@ fn is_entry_used(layout: &Layout, entry: &Allowance) -> bool
         badge: entry.badge,
     };
     any(layout.uses.as_slice(), &of)
+        || waits_with(layout, entry, Rights::READ)
+        || waits_with(layout, entry, Rights::WRITE)
 }
 
 /// Whether nothing of a use is there.
