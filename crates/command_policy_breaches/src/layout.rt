@@ -133,10 +133,14 @@ fn waits<P: Profile, S: CapStore<P> + Drop, W: Waiters<P> + Drop>(
 ) -> Result<Vec<Waiting>, AllocError>
     ensures { IfOk result (λ v. v.items ≡ filter_map (spec.waiting_of kernel.now) threads.now) }
 {
-    threads
-        .iter()
-        .filter_map(|thread| wait_in(*thread, kernel.thread_state(*thread), kernel.offer(*thread)))
-        .collect(alloc)
+    let mut waits = Vec::new(alloc);
+    for thread in threads {
+        let wait = wait_in(*thread, kernel.thread_state(*thread), kernel.offer(*thread));
+        if let Some(wait) = wait {
+            waits.push(wait)?;
+        }
+    }
+    Ok(waits)
 }
 
 fn region_of<P: Profile>(memory: &[PartMemory], derivation: &Derivation) -> Option<HeldRegion>
@@ -158,10 +162,13 @@ fn regions<P: Profile>(
 ) -> Result<Vec<HeldRegion>, AllocError>
     ensures { IfOk result (λ v. v.items ≡ filter_map (λ d. spec.region_of memory.now (derivation_view P.profile d)) slots.now) }
 {
-    slots
-        .iter()
-        .filter_map(|slot| region_of::<P>(memory, slot))
-        .collect(alloc)
+    let mut regions = Vec::new(alloc);
+    for slot in slots {
+        if let Some(region) = region_of::<P>(memory, slot) {
+            regions.push(region)?;
+        }
+    }
+    Ok(regions)
 }
 
 #[derive(Clone, Copy)]
