@@ -1,10 +1,9 @@
 //! How objects, groups, badges and rights are told.
-ghost use Rattle.std.specs.Prelude.{◌≡◌, ◌++◌, ◌==◌, Some, IfOk, OnOk, codes, find, option_copied, option_map, string_bytes, slice_get, map, filter};
-ghost use Rattle.std.specs.List.{flat_map};
+ghost use Rattle.std.specs.Prelude.{◌≡◌, ◌==◌, Some, IfOk, codes, find, option_copied, option_map, string_bytes, slice_get, map, filter};
 ghost use Rattle.command_policy_text.specs.Names as spec;
 
 use command_policy_breaches::{Layout, groups_at};
-use list_questions::{Asks, first};
+use list_questions::{Asks, Line, add_each, first};
 use setup_policy::{Label, Policy};
 use std::alloc::{AllocError, Global};
 use std::fmt;
@@ -69,14 +68,19 @@ pub fn actor_name(policy: &Policy, actor: u64) -> &str
     }
 }
 
-fn add_all_behind(out: &mut String, policy: &Policy, actors: &[u64]) -> Result<(), AllocError>
-    ensures { OnOk result (string_bytes out.new ≡ string_bytes out.old ++ flat_map (spec.behind policy.now) actors.now) }
-{
-    for actor in actors {
-        let name = actor_name(policy, *actor);
-        write!(out, "+{name}")?;
+/// What an actor is called, behind another.
+#[derive(Clone, Copy)]
+struct NameBehind<'a> {
+    policy: &'a Policy,
+}
+
+impl Line<u64> for NameBehind<'_> {
+    ghost line = { λ l actor. spec.behind l.policy.now actor };
+
+    fn add(&self, out: &mut String, actor: &u64) -> Result<(), AllocError> {
+        let name = actor_name(self.policy, *actor);
+        write!(out, "+{name}")
     }
-    Ok(())
 }
 
 /// Some groups, with a `+` between two of them.
@@ -87,7 +91,7 @@ pub fn label(alloc: Global, policy: &Policy, groups: &[u64]) -> Result<String, A
         [] => Ok(String::new(alloc)),
         [first, rest @ ..] => {
             let mut out = String::from_str(alloc, actor_name(policy, *first))?;
-            add_all_behind(&mut out, policy, rest)?;
+            add_each(&mut out, rest, &NameBehind { policy })?;
             Ok(out)
         }
     }
@@ -106,13 +110,16 @@ pub fn part_label(
     label(alloc, policy, groups.as_slice())
 }
 
-fn add_numbers_behind(out: &mut String, numbers: &[u64]) -> Result<(), AllocError>
-    ensures { OnOk result (string_bytes out.new ≡ string_bytes out.old ++ flat_map spec.number_behind numbers.now) }
-{
-    for number in numbers {
-        write!(out, ",{number}")?;
+/// A number, behind another.
+#[derive(Clone, Copy)]
+struct NumberBehind;
+
+impl Line<u64> for NumberBehind {
+    ghost line = { λ l number. spec.number_behind number };
+
+    fn add(&self, out: &mut String, number: &u64) -> Result<(), AllocError> {
+        write!(out, ",{number}")
     }
-    Ok(())
 }
 
 /// Some numbers, with a comma between two of them.
@@ -123,7 +130,7 @@ pub fn numbers_text(alloc: Global, numbers: &[u64]) -> Result<String, AllocError
         [] => Ok(String::new(alloc)),
         [first, rest @ ..] => {
             let mut out = format!(in alloc; "{first}")?;
-            add_numbers_behind(&mut out, rest)?;
+            add_each(&mut out, rest, &NumberBehind)?;
             Ok(out)
         }
     }

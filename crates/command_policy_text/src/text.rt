@@ -1,6 +1,5 @@
 //! The text of a layout that is held to a policy.
 ghost use Rattle.std.specs.Prelude.{◌≡◌, ◌++◌, ◌≤◌, IfOk, OnOk, Some, length, map, string_bytes};
-ghost use Rattle.std.specs.List.{flat_map};
 ghost use Rattle.setup_report.specs.Report.{terminated};
 ghost use Rattle.command_core.specs.declared.fault.Verdict.{Verdict};
 ghost use Rattle.command_policy_breaches.specs.Joins as join;
@@ -14,6 +13,7 @@ use crate::told::{Held, Told, told_text};
 use command_core::Verdict;
 use command_policy_breaches::{Join, Passage, count_between_parts};
 use kernel_core::Reply;
+use list_questions::{Line, add_each};
 use setup_format::Setup;
 use setup_values::profile_text;
 use std::alloc::{AllocError, Global};
@@ -225,13 +225,16 @@ pub fn breach_lines(
     Ok(lines)
 }
 
-fn add_lines(out: &mut String, lines: &[String]) -> Result<(), AllocError>
-    ensures { OnOk result (string_bytes out.new ≡ string_bytes out.old ++ flat_map (λ s. terminated (string_bytes s)) lines.now) }
-{
-    for line in lines {
-        writeln!(out, "{line}")?;
+/// A text, and the end of its line.
+#[derive(Clone, Copy)]
+struct TextLine;
+
+impl Line<String> for TextLine {
+    ghost line = { λ l text. terminated (string_bytes text) };
+
+    fn add(&self, out: &mut String, text: &String) -> Result<(), AllocError> {
+        writeln!(out, "{text}")
     }
-    Ok(())
 }
 
 /// How many calls a set-up has, and how many of them are made.
@@ -334,10 +337,10 @@ pub fn policy_text(
     };
     let mut out = String::new(alloc);
     add_head(&mut out, setup, replies.len())?;
-    add_lines(&mut out, first.as_slice())?;
-    add_lines(&mut out, calls.as_slice())?;
-    add_lines(&mut out, others.as_slice())?;
-    add_lines(&mut out, unused.as_slice())?;
+    add_each(&mut out, first.as_slice(), &TextLine)?;
+    add_each(&mut out, calls.as_slice(), &TextLine)?;
+    add_each(&mut out, others.as_slice(), &TextLine)?;
+    add_each(&mut out, unused.as_slice(), &TextLine)?;
     add_counts(&mut out, counts)?;
     Ok((out.into_bytes(), verdict_of(breaches)))
 }

@@ -33,9 +33,9 @@ returns c =
     c.verdict_of.ensures ∙ ap (λ (k : Counts). verdict_by_count k.breaches) numbers in
     all_told p l n hs js ws setup replies _ _
     (written ∙ six _ _ _ _ _ _ _ _ _ _ _ _ head
-    (lines_behind c.in_ok-first.first.items _ _ _ c.in_ok-first.ensures (rw c.as_slice.ensures.value at c.in_ok-add_lines.ensures))
-    (lines_behind c.in_ok-calls.calls.items _ _ _ c.in_ok-calls.ensures (rw c.as_slice-2.ensures.value at c.in_ok-add_lines-2.ensures))
-    (lines_behind c.in_ok-others.others.items _ _ _ c.in_ok-others.ensures (rw c.as_slice-3.ensures.value at c.in_ok-add_lines-3.ensures))
-    (lines_behind c.in_ok-unused.unused.items _ _ _ c.in_ok-unused.ensures (rw c.as_slice-4.ensures.value at c.in_ok-add_lines-4.ensures))
-    (c.in_ok-add_counts.ensures ∙ ap (λ k. string_bytes c.add_lines-4.new.out ++ last_line k) numbers))
+    (lines_behind c.in_ok-first.first.items _ _ _ c.in_ok-first.ensures (rw c.as_slice.ensures.value at c.in_ok-add_each.ensures))
+    (lines_behind c.in_ok-calls.calls.items _ _ _ c.in_ok-calls.ensures (rw c.as_slice-2.ensures.value at c.in_ok-add_each-2.ensures))
+    (lines_behind c.in_ok-others.others.items _ _ _ c.in_ok-others.ensures (rw c.as_slice-3.ensures.value at c.in_ok-add_each-3.ensures))
+    (lines_behind c.in_ok-unused.unused.items _ _ _ c.in_ok-unused.ensures (rw c.as_slice-4.ensures.value at c.in_ok-add_each-4.ensures))
+    (c.in_ok-add_counts.ensures ∙ ap (λ k. string_bytes c.add_each-4.new.out ++ last_line k) numbers))
     verdict
