@@ -29,7 +29,10 @@ pub struct HeldTo<'a> {
 
 /// The text of a policy's bytes, so far as they are one.
 fn text_of(bytes: &[u8]) -> &str {
-    bytes.utf8_chunks().next().map_or("", |chunk| chunk.valid())
+    match bytes.utf8_chunks().next() {
+        Some(chunk) => chunk.valid(),
+        None => "",
+    }
 }
 
 fn has_line_end(text: &[u8]) -> bool

@@ -90,10 +90,13 @@ fn live_objects<P: Profile>(
     alloc: Global,
     slots: &[Derivation],
 ) -> Result<Vec<Object>, AllocError> {
-    slots
-        .iter()
-        .filter_map(|slot| object_of::<P>(slot.cap))
-        .collect(alloc)
+    let mut live = Vec::new(alloc);
+    for slot in slots {
+        if let Some(object) = object_of::<P>(slot.cap) {
+            live.push(object)?;
+        }
+    }
+    Ok(live)
 }
 
 /// The policy and the labels of a state, where each word of the file means something there.

@@ -111,28 +111,28 @@ impl<'a> Teller<'a> {
 
     /// The first entry of a use's endpoint, or, where its badge is amiss, the first with another that stands in its place.
     fn entry_at(self, used: &PartUse, by_badge: bool) -> Spot<'static> {
-        let mut entries = self.held.policy.allowances.as_slice().iter();
-        let place = entries.position(|entry| {
-            if by_badge {
+        let entries = self.held.policy.allowances.as_slice();
+        for (place, entry) in entries.iter().enumerate() {
+            let is_it = if by_badge {
                 is_other_badge(self.held, used, entry)
             } else {
                 is_entry(self.held.layout, used.part, used.endpoint, entry)
+            };
+            if is_it {
+                return self.entry_spot(place);
             }
-        });
-        match place {
-            Some(place) => self.entry_spot(place),
-            None => Spot::Threads,
         }
+        Spot::Threads
     }
 
     fn way_spot(self, passage: &Passage) -> Result<Spot<'static>, AllocError> {
         let ways = self.held.policy.ways.as_slice();
-        let mut ways = ways.iter();
-        let place = ways.position(|way| is_way_between(self.held.homes, passage, way));
-        match place {
-            Some(place) => Ok(self.entry_spot(place)),
-            None => self.end_spot(passage.from),
+        for (place, way) in ways.iter().enumerate() {
+            if is_way_between(self.held.homes, passage, way) {
+                return Ok(self.entry_spot(place));
+            }
         }
+        self.end_spot(passage.from)
     }
 
     fn wait_spot(self, wait: &Waiting) -> Result<Spot<'static>, AllocError> {
@@ -163,15 +163,21 @@ impl<'a> Teller<'a> {
     }
 
     fn idle_way_spot(self, way: &PolicyWay) -> Spot<'static> {
-        let mut ways = self.held.policy.ways.as_slice().iter();
-        let place = ways.position(|other| *other == *way).unwrap_or(0);
-        Spot::Key(Place::Way(place.saturating_add(1)), "")
+        for (i, other) in self.held.policy.ways.as_slice().iter().enumerate() {
+            if *other == *way {
+                return Spot::Key(Place::Way(i.saturating_add(1)), "");
+            }
+        }
+        Spot::Key(Place::Way(1), "")
     }
 
     fn idle_use_spot(self, entry: &Allowance) -> Spot<'static> {
-        let mut uses = self.held.policy.uses.as_slice().iter();
-        let place = uses.position(|other| *other == *entry).unwrap_or(0);
-        Spot::Key(Place::Use(place.saturating_add(1)), "")
+        for (i, other) in self.held.policy.uses.as_slice().iter().enumerate() {
+            if *other == *entry {
+                return Spot::Key(Place::Use(i.saturating_add(1)), "");
+            }
+        }
+        Spot::Key(Place::Use(1), "")
     }
 
     /// The names of a part's groups, in order, with a word between two of them.
