@@ -7,8 +7,8 @@ use Rattle.setup_format.specs.Views.{ReadView}
 use Rattle.setup_format.specs.Setups.{read_of_bytes}
 use Rattle.setup_report.specs.Behind.{state_behind}
 use Rattle.setup_layout.specs.declared.layout.Layout.{Layout}
-use Rattle.setup_layout.specs.declared.languages.Language.TheVariants.{Capdl}
-use Rattle.setup_layout.specs.Languages.{language_of}
+use Rattle.setup_system.specs.declared.languages.Language.TheVariants.{Capdl}
+use Rattle.setup_system.specs.Languages.{language_of}
 use Rattle.command_core.specs.declared.fault.Verdict.{Verdict}
 use Rattle.command_core.specs.declared.fault.Verdict.TheVariants.{AllMet, NotMet, Refused, Absent}
 use Rattle.setup_layout.specs.declared.layout.Reading.{Reading}

@@ -4,7 +4,7 @@ ghost use Rattle.kernel_abstract.specs.Plan.{IsPlan};
 ghost use Rattle.kernel_abstract.specs.State.{shown};
 ghost use Rattle.setup_format.specs.Read.{read_view};
 ghost use Rattle.setup_format.specs.Setups.{read_of_bytes};
-ghost use Rattle.setup_layout.specs.Languages.{reading_of};
+ghost use Rattle.setup_system.specs.Languages as languages;
 ghost use Rattle.setup_report.specs.Behind.{state_behind};
 ghost use Rattle.command_import.specs.Asked.{IsReadAs};
 ghost use Rattle.command_import.specs.Import.{ComesTo, IsImported, IsLayoutText, IsRefusal, IsSetUpOf};
@@ -20,9 +20,10 @@ use cap_core::{Narrow, Profile, ProfileName, Wide};
 use command_core::{Answer, Engine, RunFault, Verdict};
 use ipc_core::{LinkedWaiters, MakeWaiters};
 use setup_format::{ReadSetup, Setup, SetupFault, read};
-use setup_layout::{Layout, Places, ReadLayout, Reading, capdl_text, read_any_layout};
+use setup_layout::{Layout, Places, ReadLayout, Reading};
 use setup_marks::is_for_flows;
 use setup_report::kernel_after;
+use setup_system::{capdl_text, read_any_layout, reading_of};
 use slot_core::{DerivationStore, LinkedStore, MakeStore};
 use std::alloc::{AllocError, Global};
 
@@ -191,16 +192,16 @@ pub struct Importer<'a> {
 impl Importer<'_> {
     /// What is written of the input.
     fn made(&self, alloc: Global, input: &[u8]) -> Result<Answer, AllocError>
-        ensures { IfOk result (λ made. IsImported (reading_of self.now.reading input.now) self.now.listing made.text.items made.verdict) }
+        ensures { IfOk result (λ made. IsImported (languages.reading_of self.now.reading input.now) self.now.listing made.text.items made.verdict) }
     {
-        let reading = self.reading.of_layout(input);
+        let reading = reading_of(self.reading, input);
         let read = read_any_layout(alloc, input, reading)?;
         made_of(alloc, reading, self.listing, self.name, &read)
     }
 }
 
 impl Engine for Importer<'_> {
-    ghost means = { λ importer input text verdict. IsImported (reading_of importer.reading input) importer.listing text verdict };
+    ghost means = { λ importer input text verdict. IsImported (languages.reading_of importer.reading input) importer.listing text verdict };
 
     fn make(&self, alloc: Global, input: &[u8]) -> Result<Answer, RunFault> {
         self.made(alloc, input).map_err(|_| RunFault::Memory)

@@ -16,7 +16,7 @@ use Rattle.command_policy_how.specs.Told.{IsBreachHow}
 use Rattle.command_policy_listing.specs.Listed.{IsPolicyListing}
 use Rattle.command_line.specs.CommandLine.{takes_least}
 use Rattle.setup_layout.specs.declared.layout.Reading.{Reading}
-use Rattle.setup_layout.specs.Languages.{reading_of}
+use Rattle.setup_system.specs.Languages.{reading_of}
 use Rattle.command_import.specs.Import.{IsImported, IsLayoutText}
 use Rattle.command_never.specs.Question.{Asked, IsNever}
 use Rattle.command_explore.specs.Explorations.{IsExploration, IsGroupsExploration}

@@ -6,6 +6,7 @@ mod absent;
 mod calls;
 mod ended;
 mod kinds;
+mod layouts;
 mod messages;
 mod quoting;
 mod sizes;

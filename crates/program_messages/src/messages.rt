@@ -3,6 +3,7 @@ use crate::absent::absence;
 use crate::calls::{note_on_broken, note_on_questions, note_on_refusals, note_on_unmet};
 use crate::ended::{CheckedFiles, Done, Ended, Unknown, Unread};
 use crate::kinds::other_kind;
+use crate::layouts::layout_words;
 use crate::quoting::shell_word;
 use crate::words::{is_command, may_be_command, near_command};
 use command_check::CountedText;
@@ -11,7 +12,7 @@ use command_core::{
 };
 use command_files::Used;
 use command_line::{Job, Line, Options, refused_line_words};
-use setup_layout::{Reading, layout_words};
+use setup_layout::Reading;
 use setup_messages::{Formats, refusal_words};
 use setup_positions::NamedText;
 use std::fmt::Display;

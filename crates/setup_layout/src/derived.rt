@@ -7,6 +7,7 @@ use crate::slots::{SlotText, Slots};
 use crate::words::{Reference, Words};
 use cap_core::{Kind, Rights};
 use std::alloc::{AllocError, Global};
+use std::collections::HashMap;
 
 /// How deep the derivations of a layout are at the most.
 const MOST_DEPTH: usize = 1024;
@@ -71,11 +72,7 @@ fn slot_of<'a>(
     let Some(slot) = node.slot else {
         let mut found = slots.named.get(text).copied();
         if let (None, Found::Kept(object)) = (found, objects.find(node.name)) {
-            found = slots
-                .slots
-                .as_slice()
-                .iter()
-                .position(|slot| slot.object == object);
+            found = slots.first_of(object);
         }
         if found.is_none() && !slots.left_out.contains_key(text) {
             words
@@ -170,14 +167,14 @@ impl<'a> Tree<'a> {
         Ok(())
     }
 
-    /// Finds the pairs of slots that the text tells.
+    /// Finds the pairs of slots that the text tells, each once.
     fn find_pairs(
         &mut self,
         words: &mut Words<'a>,
         objects: &Objects<'a>,
         slots: &Slots<'a>,
     ) -> Result<(), AllocError> {
-        let mut found = Vec::new(words.alloc);
+        let (mut found, mut known) = (Vec::new(words.alloc), HashMap::new(words.alloc));
         for node in self.nodes.as_slice() {
             let below = slot_of(words, objects, slots, *node);
             let above = match node.above {
@@ -187,7 +184,8 @@ impl<'a> Tree<'a> {
             found.push(below)?;
             if let (Some(above), Some(below)) = (above, below) {
                 let (all, filled) = (objects.objects.as_slice(), slots.slots.as_slice());
-                if !is_in_region(all, filled, above, below) {
+                let is_new = known.insert((above, below), true)?.is_none();
+                if is_new && !is_in_region(all, filled, above, below) {
                     let at = node.name.name.spot;
                     self.pairs.push(Pair { above, below, at })?;
                 }

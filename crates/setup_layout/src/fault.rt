@@ -1,6 +1,5 @@
 //! What is said of a layout: its faults, and what a set-up leaves out of it.
 use crate::scanner::Spot;
-use setup_positions::NamedText;
 use std::alloc::{AllocError, Global};
 use std::fmt::{self, Display, Write};
 use strsim::osa_distance;
@@ -120,43 +119,6 @@ impl Remarks {
             others,
         };
         self.is_refused |= self.told.push(remark).is_err();
-    }
-
-    /// Adds the remarks, each with the line of the text where it stands. `name` is the file's.
-    pub fn add_to(&self, out: &mut String, name: &str, text: &str) -> Result<(), AllocError> {
-        for remark in self.told.as_slice() {
-            let Spot { start, length, .. } = remark.spot;
-            let span = start..start.saturating_add(length);
-            let excerpt = NamedText { name, text }.excerpt(span);
-            writeln!(out, "{remark}\n{excerpt}")?;
-        }
-        self.add_more_to(out)
-    }
-
-    /// Adds the remarks, each with its place in the text alone. `name` is the file's.
-    pub fn add_places_to(
-        &self,
-        out: &mut String,
-        name: &str,
-        text: &str,
-    ) -> Result<(), AllocError> {
-        for remark in self.told.as_slice() {
-            let Spot { start, length, .. } = remark.spot;
-            let span = start..start.saturating_add(length);
-            let excerpt = NamedText { name, text }.excerpt(span);
-            let shown = format!(in self.alloc; "{excerpt}")?;
-            let place = shown.as_str().lines().next().unwrap_or("");
-            writeln!(out, "{remark}\n{place}")?;
-        }
-        self.add_more_to(out)
-    }
-
-    /// Adds how many remarks there are beyond those that are told.
-    fn add_more_to(&self, out: &mut String) -> Result<(), AllocError> {
-        match self.more {
-            0 => Ok(()),
-            more => writeln!(out, "{more} more"),
-        }
     }
 
     /// The question whether the one of these names was meant that looks most like what was found; nothing where none does.

@@ -214,7 +214,9 @@ impl<'a> Flows<'a> {
     fn count_receivers(&self, endpoint: usize) -> (usize, usize) {
         let (mut all, mut granting) = (0usize, 0usize);
         for number in self.leads_to(endpoint) {
-            let rights = self.held.get(*number).map_or(0, |held| held.2);
+            let Some((_, _, rights, _, _)) = self.held.get(*number).copied() else {
+                continue;
+            };
             if rights & READ > 0 {
                 all = all.saturating_add(1);
             }

@@ -210,8 +210,11 @@ impl<'a> Hardware<'a> {
         self.join_overlaps(words, objects, frames.as_mut_slice(), "physical memory")?;
         self.join_overlaps(words, objects, ports.as_mut_slice(), "ports")?;
         for region in self.regions.as_slice() {
-            for span in self.frames.as_slice().iter().chain(self.regions.as_slice()) {
-                check_region(words, objects, *region, *span);
+            for frame in self.frames.as_slice() {
+                check_region(words, objects, *region, *frame);
+            }
+            for other in self.regions.as_slice() {
+                check_region(words, objects, *region, *other);
             }
         }
         Ok(())

@@ -48,8 +48,12 @@ impl SetupNames {
 
 /// Whether this is a name that a set-up can have.
 fn is_plain(name: &str) -> bool {
-    let is_letter = |letter: u8| matches!(letter, b'a'..=b'z' | b'0'..=b'9' | b'_');
-    !name.is_empty() && name.len() <= MOST_LETTERS && name.bytes().all(is_letter)
+    for letter in name.bytes() {
+        if !matches!(letter, b'a'..=b'z' | b'0'..=b'9' | b'_') {
+            return false;
+        }
+    }
+    !name.is_empty() && name.len() <= MOST_LETTERS
 }
 
 /// A letter that a name of a set-up can have.

@@ -80,6 +80,16 @@ fn may_say_place(kind: &str, parameter: &str) -> bool {
     HARDWARE_WORDS.contains(&kind) && !SAY_NO_PLACE.contains(&parameter)
 }
 
+/// Whether an untyped region covers any object.
+fn covers_any(objects: &[Object], region: usize) -> bool {
+    for object in objects {
+        if object.cover == Some(region) {
+            return true;
+        }
+    }
+    false
+}
+
 impl<'a> Objects<'a> {
     /// Nothing is declared yet.
     pub fn new(alloc: Global, reading: Reading) -> Result<Objects<'a>, AllocError> {
@@ -441,8 +451,7 @@ impl<'a> Objects<'a> {
         let Token { text, spot, .. } = declared.name;
         for offset in 0..declared.count.unwrap_or(1).min(MOST_OBJECTS) {
             let number = first.saturating_add(offset as usize);
-            let mut objects = self.objects.as_slice().iter();
-            let is_cover = objects.any(|object| object.cover == Some(number));
+            let is_cover = covers_any(self.objects.as_slice(), number);
             if let Some(object) = self.objects.get_mut(number) {
                 let bits = object.bits;
                 if !is_cover && object.kind == Kind::Untyped && u64::from(bits) > most {

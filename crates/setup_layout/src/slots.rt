@@ -302,6 +302,16 @@ impl<'a> Slots<'a> {
         }
     }
 
+    /// The first slot with a capability of an object, by its place among the slots.
+    pub fn first_of(&self, object: usize) -> Option<usize> {
+        for (place, slot) in self.slots.as_slice().iter().enumerate() {
+            if slot.object == object {
+                return Some(place);
+            }
+        }
+        None
+    }
+
     /// Reads the section of the slots.
     pub fn read(&mut self, words: &mut Words<'a>) -> Result<(), AllocError> {
         words.need("{");
@@ -357,9 +367,10 @@ impl<'a> Slots<'a> {
             if words.faults.is_full() {
                 break;
             }
-            let Reference { name, index } = slot.holder;
-            let index = index.map(|first| first.saturating_add(number));
-            let holder = Reference { name, index };
+            let mut holder = slot.holder;
+            if let Some(index) = holder.index {
+                holder.index = Some(index.saturating_add(number));
+            }
             self.add_text(words, objects, SlotText { holder, ..slot })?;
         }
         Ok(())

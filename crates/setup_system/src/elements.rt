@@ -1,6 +1,5 @@
 //! The elements of a text that is XML, as far as `.system` files use it.
-use crate::fault::Remarks;
-use crate::scanner::{Scanner, Spot, front_length};
+use setup_layout::{Remarks, Scanner, Spot, front_length};
 use std::alloc::{AllocError, Global};
 use std::fmt::Display;
 
@@ -29,12 +28,20 @@ pub struct Element<'a> {
     pub attributes: Vec<Attribute<'a>>,
 }
 
+/// The value of an attribute among others.
+fn value_in<'a>(attributes: &[Attribute<'a>], name: &str) -> Option<&'a str> {
+    for attribute in attributes {
+        if attribute.name == name {
+            return Some(attribute.value);
+        }
+    }
+    None
+}
+
 impl<'a> Element<'a> {
     /// The value of an attribute.
     pub fn value(&self, name: &str) -> Option<&'a str> {
-        let mut attributes = self.attributes.as_slice().iter();
-        let attribute = attributes.find(|attribute| attribute.name == name)?;
-        Some(attribute.value)
+        value_in(self.attributes.as_slice(), name)
     }
 }
 
@@ -128,7 +135,7 @@ impl<'a> Elements<'a> {
         let (name, spot) = self.name();
         self.need("=");
         let value = self.value();
-        if attributes.iter().any(|other| other.name == name) {
+        if value_in(attributes.as_slice(), name).is_some() {
             self.fail(spot, format_args!("{name} is given twice"));
         }
         attributes.push(Attribute { name, value, spot })?;

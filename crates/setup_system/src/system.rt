@@ -1,16 +1,10 @@
 //! The system that a `.system` file describes: the file becomes capDL text, which is read as every layout.
-mod elements;
-pub(crate) mod lines;
-mod machines;
-mod making;
-
-use crate::fault::Remarks;
-use crate::layout::Reading;
-use crate::scanner::{Scanner, Spot, front_length, number_of};
-use crate::system::elements::{Element, Elements};
-use crate::system::lines::Lines;
-use crate::system::machines::Machine;
-use crate::system::making::{Assumed, Domain, End, LARGE_BITS, cnode_bits, text_of};
+use crate::elements::{Element, Elements};
+use crate::machines::Machine;
+use crate::making::{Assumed, Domain, End, LARGE_BITS, cnode_bits, text_of};
+use setup_layout::{
+    Lines, MadeText, Reading, Remarks, Said, Scanner, Spot, front_length, number_of, place_of,
+};
 use std::alloc::{AllocError, Global};
 use std::collections::HashMap;
 use std::fmt::Write;
@@ -121,7 +115,7 @@ impl<'a> Names<'a> {
 
 /// What is read of a file.
 #[derive(Drop)]
-pub struct System<'a> {
+struct System<'a> {
     alloc: Global,
     /// How the file is read.
     reading: Reading,
@@ -138,10 +132,7 @@ pub struct System<'a> {
     taken: HashMap<String, usize>,
     /// Where the elements stand that are read.
     places: Vec<Place>,
-    pub faults: Remarks,
-    /// What may carry authority, and is left out or assumed.
-    pub gaps: Remarks,
-    pub notes: Remarks,
+    said: Said,
 }
 
 impl<'a> System<'a> {
@@ -153,7 +144,7 @@ impl<'a> System<'a> {
                 let told = format_args!(
                     "{what} is taken in line {line} already; change one of the two"
                 );
-                self.faults.say(spot, told);
+                self.said.faults.say(spot, told);
             }
             None => {
                 self.taken.insert(what, spot.line)?;
@@ -179,7 +170,7 @@ impl<'a> System<'a> {
         if value.is_empty() {
             let kind = element.name;
             let told = format_args!("this {kind} needs an attribute {name}");
-            self.faults.say(element.spot, told);
+            self.said.faults.say(element.spot, told);
         }
         value
     }
@@ -191,7 +182,7 @@ impl<'a> System<'a> {
         if !begins || front_length(name, b"_-.") < name.len() {
             let told =
                 "a name begins with a letter or _, and has letters, digits, _, - and . alone";
-            self.faults.say(element.spot, told);
+            self.said.faults.say(element.spot, told);
         }
         name
     }
@@ -201,7 +192,7 @@ impl<'a> System<'a> {
         let id = number_of(self.needed(element, "id")).unwrap_or(u64::MAX);
         if id > MOST_ID {
             let told = format_args!("an id is a number from 0 to {MOST_ID}");
-            self.faults.say(element.spot, told);
+            self.said.faults.say(element.spot, told);
             return Ok(0);
         }
         let name = match self.domains.get(domain) {
@@ -225,7 +216,7 @@ impl<'a> System<'a> {
         let number = number_of(digits.as_str());
         if number.is_none() && !value.is_empty() {
             let told = format_args!("{name} is a number of at most 64 bits");
-            self.faults.say(element.spot, told);
+            self.said.faults.say(element.spot, told);
         }
         Ok(number.unwrap_or(0))
     }
@@ -238,7 +229,7 @@ impl<'a> System<'a> {
             Some("false") => false,
             Some(_) => {
                 let told = format_args!("{name} is true or false");
-                self.faults.say(element.spot, told);
+                self.said.faults.say(element.spot, told);
                 is_else
             }
         }
@@ -247,14 +238,14 @@ impl<'a> System<'a> {
     /// Says which attributes of an element are left out.
     fn note_others(&mut self, element: &Element<'a>) -> Result<(), AllocError> {
         let kind = element.name;
-        let number = ELEMENTS.iter().position(|name| *name == kind);
-        let words = ATTRIBUTES.get(number.unwrap_or(0)).copied().unwrap_or("");
+        let number = place_of(&ELEMENTS, kind).unwrap_or(0);
+        let words = ATTRIBUTES.get(number).copied().unwrap_or("");
         let known: Vec<&str> = words.split_ascii_whitespace().collect(self.alloc)?;
         for attribute in element.attributes.as_slice() {
             let (name, spot) = (attribute.name, attribute.spot);
             if !known.as_slice().contains(&name) {
-                let hint = self.gaps.hint(name, known.as_slice());
-                self.gaps.say(
+                let hint = self.said.gaps.hint(name, known.as_slice());
+                self.said.gaps.say(
                     spot,
                     format_args!("{name} of this {kind} is left out{hint}"),
                 );
@@ -269,18 +260,18 @@ impl<'a> System<'a> {
         self.spot = spot;
         if name != "system" {
             let told = format_args!("a .system file is one element system, and not {name}");
-            self.faults.say(spot, told);
+            self.said.faults.say(spot, told);
         }
         if !self.reading.flows {
-            self.notes.say(spot, PLAIN);
+            self.said.notes.say(spot, PLAIN);
         }
-        self.notes.say(spot, TOOL_ASSUMED);
+        self.said.notes.say(spot, TOOL_ASSUMED);
         if !self.reading.are_rights_asked {
-            self.gaps.say(spot, RIGHTS_ASSUMED);
+            self.said.gaps.say(spot, RIGHTS_ASSUMED);
         } else if self.reading.all_rights {
-            self.notes.say(spot, ALL_TAKEN);
+            self.said.notes.say(spot, ALL_TAKEN);
         } else {
-            self.notes.say(spot, LEAST_TAKEN);
+            self.said.notes.say(spot, LEAST_TAKEN);
         }
         self.take_objects(spot, "monitor")?;
         Ok(Place::System)
@@ -324,7 +315,7 @@ impl<'a> System<'a> {
         }
         if number == MOST_DOMAINS {
             let told = format_args!("a system has {MOST_DOMAINS} protection domains at most");
-            self.faults.say(spot, told);
+            self.said.faults.say(spot, told);
         }
         self.domain_names.add(name)?;
         self.domains.push(domain)?;
@@ -334,10 +325,15 @@ impl<'a> System<'a> {
     /// Adds a memory region that a domain or a virtual machine sees.
     fn add_map(&mut self, element: &Element<'a>, place: Place) -> Result<Place, AllocError> {
         let (region, spot) = (self.needed(element, "mr"), element.spot);
-        self.region_names.find(&mut self.faults, spot, region);
+        self.region_names.find(&mut self.said.faults, spot, region);
         let letters = element.value("perms").unwrap_or("rw");
-        if letters.is_empty() || letters.bytes().any(|letter| !b"rwx".contains(&letter)) {
-            self.faults
+        let mut are_known = !letters.is_empty();
+        for letter in letters.bytes() {
+            are_known &= b"rwx".contains(&letter);
+        }
+        if !are_known {
+            self.said
+                .faults
                 .say(spot, "perms has letters of r, w and x, one at least");
         }
         let letters = letters.to_ascii_uppercase(self.alloc)?;
@@ -465,7 +461,7 @@ impl<'a> System<'a> {
     /// Adds an end of a channel.
     fn add_end(&mut self, element: &Element<'a>, channel: usize) -> Result<Place, AllocError> {
         let (name, spot) = (self.needed(element, "pd"), element.spot);
-        let Some(domain) = self.domain_names.find(&mut self.faults, spot, name) else {
+        let Some(domain) = self.domain_names.find(&mut self.said.faults, spot, name) else {
             return Ok(Place::Inside);
         };
         let end = End {
@@ -484,9 +480,9 @@ impl<'a> System<'a> {
     /// Leaves out an element.
     fn leave_out(&mut self, element: &Element<'a>) -> Place {
         let name = element.name;
-        let hint = self.gaps.hint(name, &ELEMENTS);
+        let hint = self.said.gaps.hint(name, &ELEMENTS);
         let told = format_args!("{name} is left out here, with all that is in it{hint}");
-        self.gaps.say(element.spot, told);
+        self.said.gaps.say(element.spot, told);
         Place::LeftOut
     }
 
@@ -556,7 +552,7 @@ impl<'a> System<'a> {
                 self.join(other, one)?;
             } else {
                 let told = "a channel has two ends, of protection domains";
-                self.faults.say(*spot, told);
+                self.said.faults.say(*spot, told);
             }
         }
         Ok(())
@@ -567,14 +563,14 @@ impl<'a> System<'a> {
         let bits = cnode_bits(self.domains.as_slice());
         if bits < LARGE_BITS {
             let told = format_args!("CNodes have {bits} bits here, so that all have room");
-            self.notes.say(self.spot, told);
+            self.said.notes.say(self.spot, told);
         }
     }
 
     /// The capDL text of the system; that of none, where it has faults.
-    pub fn text(&self) -> Result<Lines, AllocError> {
+    fn text(&self) -> Result<Lines, AllocError> {
         let (alloc, spot, domains) = (self.alloc, self.spot, self.domains.as_slice());
-        if self.faults.told.is_empty() {
+        if !self.said.has_faults() {
             let rights = Assumed::new(self.reading.all_rights);
             return text_of(
                 alloc,
@@ -590,38 +586,47 @@ impl<'a> System<'a> {
         Ok(nothing)
     }
 
-    /// Reads a file.
-    pub fn read(alloc: Global, text: &'a str, reading: Reading) -> Result<System<'a>, AllocError> {
-        let Elements { list, faults, .. } = Elements::read(alloc, text)?;
-        let mut system = System {
-            alloc,
-            reading,
-            spot: Scanner::new(text).spot(0),
-            region_names: Names::new(alloc, "memory region"),
-            domain_names: Names::new(alloc, "protection domain"),
-            regions: Lines::new(alloc),
-            domains: Vec::new(alloc),
-            channels: Vec::new(alloc),
-            machines: Vec::new(alloc),
-            taken: HashMap::new(alloc),
-            places: Vec::new(alloc),
-            faults,
-            gaps: Remarks::new(alloc),
-            notes: Remarks::new(alloc),
-        };
-        if list.is_empty() && system.faults.told.is_empty() {
+    /// Adds what all elements describe.
+    fn add_file(&mut self, elements: &[Element<'a>]) -> Result<(), AllocError> {
+        if elements.is_empty() && !self.said.has_faults() {
             let told = "there is no element here; a .system file is one element system";
-            system.faults.say(Scanner::new(text).spot(0), told);
+            self.said.faults.say(self.spot, told);
         }
-        if system.faults.told.is_empty() {
-            system.add_all(list.as_slice(), false)?;
-            system.add_all(list.as_slice(), true)?;
+        if !self.said.has_faults() {
+            self.add_all(elements, false)?;
+            self.add_all(elements, true)?;
         }
-        if system.faults.told.is_empty() {
-            system.join_machines()?;
-            system.join_all()?;
-            system.say_small();
+        if !self.said.has_faults() {
+            self.join_machines()?;
+            self.join_all()?;
+            self.say_small();
         }
-        Ok(system)
+        Ok(())
     }
+}
+
+/// The capDL text of the system that a file describes, and what is said of the file.
+pub fn system_text(alloc: Global, text: &str, reading: Reading) -> Result<MadeText, AllocError> {
+    let Elements { list, faults, .. } = Elements::read(alloc, text)?;
+    let mut system = System {
+        alloc,
+        reading,
+        spot: Scanner::new(text).spot(0),
+        region_names: Names::new(alloc, "memory region"),
+        domain_names: Names::new(alloc, "protection domain"),
+        regions: Lines::new(alloc),
+        domains: Vec::new(alloc),
+        channels: Vec::new(alloc),
+        machines: Vec::new(alloc),
+        taken: HashMap::new(alloc),
+        places: Vec::new(alloc),
+        said: Said {
+            faults,
+            ..Said::new(alloc)
+        },
+    };
+    system.add_file(list.as_slice())?;
+    let lines = system.text()?;
+    let System { said, .. } = system;
+    Ok(MadeText { lines, said })
 }

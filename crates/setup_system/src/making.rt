@@ -1,6 +1,5 @@
 //! The capDL text of a system. The places of slots are those that Microkit's tool gives them, as far as its description says so.
-use crate::scanner::Spot;
-use crate::system::lines::Lines;
+use setup_layout::{Lines, Spot};
 use std::alloc::{AllocError, Global};
 
 /// The first slots of a domain's CNode for what it may notify, for what it may call, for interrupts, and for the threads of the domains
@@ -19,7 +18,7 @@ const PORTS: u32 = 394;
 /// What is set in the badges of calls, and of faults of domains in others.
 const CALL: u64 = 1 << 63;
 
-pub(crate) const FAULT: u64 = 1 << 62;
+pub const FAULT: u64 = 1 << 62;
 
 /// The bits of a CNode.
 pub const LARGE_BITS: u32 = 9;
@@ -72,19 +71,19 @@ impl Assumed {
 pub struct Domain<'a> {
     pub name: &'a str,
     pub spot: Spot,
-    pub(crate) rights: Assumed,
+    pub rights: Assumed,
     /// Whether others call it, or fail under it.
     pub is_server: bool,
     /// Its interrupts, ports and virtual machines: the objects, and what is in slots of these.
-    pub(crate) objects: Lines,
-    pub(crate) others: Lines,
+    pub objects: Lines,
+    pub others: Lines,
     /// The slots of its CNode: the first ones, and those of the threads of domains in it, of virtual machines and of channels.
     slots: Lines,
-    pub(crate) more_slots: Lines,
+    pub more_slots: Lines,
     /// Whether a slot of its CNode has a number of more than 8 bits.
-    pub(crate) has_high_slots: bool,
+    pub has_high_slots: bool,
     /// The memory regions that it sees.
-    pub(crate) maps: Lines,
+    pub maps: Lines,
 }
 
 /// The badge of a notification by a number.
@@ -226,7 +225,10 @@ impl<'a> Domain<'a> {
 
 /// The bits of the domains' CNodes: fewer, where there are so many domains that they have no room else.
 pub fn cnode_bits(domains: &[Domain<'_>]) -> u32 {
-    let are_high = domains.iter().any(|domain| domain.has_high_slots);
+    let mut are_high = false;
+    for domain in domains {
+        are_high |= domain.has_high_slots;
+    }
     if domains.len() > MOST_LARGE && !are_high {
         SMALL_BITS
     } else {

@@ -2,8 +2,8 @@
 use Rattle.std.specs.Prelude.{ℕ, Bool, ◌==◌, ◌&&◌, ◌||◌, not, true, false, List, Option, Some, None, if◌then◌else◌}
 use Rattle.std.specs.Char.{is_ascii_whitespace}
 use Rattle.std.specs.List.{find}
-use Rattle.setup_layout.specs.declared.languages.Language.{Language}
-use Rattle.setup_layout.specs.declared.languages.Language.TheVariants.{Capdl, SystemFile}
+use Rattle.setup_system.specs.declared.languages.Language.{Language}
+use Rattle.setup_system.specs.declared.languages.Language.TheVariants.{Capdl, SystemFile}
 use Rattle.setup_layout.specs.declared.layout.Reading.{Reading}
 
 -- a byte that says nothing at the front of a layout: a blank, or one of the mark by which some programs know UTF-8

@@ -1,7 +1,6 @@
 //! Virtual machines, and the lines that are made of them.
-use crate::scanner::Spot;
-use crate::system::lines::Lines;
-use crate::system::making::{Domain, FAULT};
+use crate::making::{Domain, FAULT};
+use setup_layout::{Lines, Spot};
 use std::alloc::{AllocError, Global};
 
 /// The first slots of a domain's CNode for the threads and for the processors of virtual machines.
