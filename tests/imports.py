@@ -3,12 +3,15 @@
 
 FOLDER has layouts, each with its listing in a file `.listing`, and with `--flows` in a file `.flows`, written by another
 reader; in `wrong` layouts with one fault each; in `names` those whose names look alike or are long; in `hardware` those whose
-threads share a guest, memory, ports or an interrupt; and in `spellings` those that are spelt as tools spell them. COUNT random layouts are drawn from SEED, and their listings are
-compared with what was drawn. Of SHARED others, a tenth of COUNT if that is not said, two threads have something in common or nothing. A `.system` file NAME has to come to the set-up of the layout NAME_from_system, which another program
+threads share a guest, memory, ports or an interrupt; in `spellings` those that are spelt as tools spell them; and in `json` those in
+capDL's JSON form. COUNT random layouts are drawn from SEED, in both forms, and their listings are compared with what was drawn. Of
+SHARED others, a tenth of COUNT if that is not said, two threads have something in common or nothing. A `.system` file NAME has to come to the set-up of the layout NAME_from_system, which another program
 made of it. The end of each set-up is read off the report of `check`: each slot of the layout holds its capability, no other slot is
 full but the loader's, threads are ready or inactive as asked, and nobody waits on an endpoint; what the slots have to hold is drawn
 here, or read by a few expressions that know nothing of the program. The set-up is also given to `check -`. A call of it is taken out or changed in some: then the end has to differ."""
+import copy
 import difflib
+import json
 import pathlib
 import random
 import re
@@ -411,6 +414,175 @@ def strict_of(program, folder):
         yield f"three threads without a space: {alone.returncode} {alone.stderr!r}"
 
 
+# What is changed in the JSON form of a layout: the path to it, what stands there then, the line where it is told, and the words. First
+# faults, then what may carry authority and is left out. A path that ends in `+` adds a member.
+WRONG_JSON = [
+    (["objects", 7, "object"], "Endpiont", 48, "there is no kind of object Endpiont"),
+    (["objects", 7, "object"], 5, 48, "door needs an object, which is of one kind"),
+    (["objects", 7, "name"], 5, 48, "the name of an object is a string"),
+    (["objects", 7, "name"], "bell", 48, "bell is the name of two objects"),
+    (["objects", 2, "object", "CNode", "size_bits"], None, 21, "server_cnode needs a number size_bits"),
+    (["objects", 2, "object", "CNode", "size_bits"], "4", 21, "size_bits of server_cnode is a number of at most 64 bits"),
+    (["objects", 2, "object", "CNode", "size_bits"], 15, 21, "server_cnode: a cnode has 1 to 14 bits here"),
+    (["objects", 2, "object", "CNode", "slots"], {}, 21, "slots is a list"),
+    (["objects", 2, "object", "CNode", "slots", 0], [1], 21, "each of the slots of server_cnode is a number, and a capability"),
+    (["objects", 2, "object", "CNode", "slots", 0, 0], 16, 21, "server_cnode has no slot 16: it is too small"),
+    (["objects", 2, "object", "CNode", "slots", 0, 0], 2, 21, "slot 2 of server_cnode is filled twice"),
+    (["objects", 2, "object", "CNode", "slots", 0, 1], {"Untyped": {"object": 10}}, 21, "object 10 is in two slots; an untyped capability has no copies here"),
+    (["objects", 2, "object", "CNode", "slots", 0, 1], "Endpoint", 21, "a capability of server_cnode is of one kind, with its object"),
+    (["objects", 2, "object", "CNode", "slots", 0, 1, "Endpoint", "object"], 12, 21, "server_cnode: there is no object 12; there are 12, from 0 on"),
+    (["objects", 2, "object", "CNode", "slots", 0, 1, "Endpoint", "object"], 4, 21, "a capability of server_cnode is Endpoint, and object 4 is none"),
+    (["objects", 2, "object", "CNode", "slots", 0, 1, "Endpoint", "badge"], -1, 21, "badge of server_cnode is a number of at most 64 bits"),
+    (["objects", 2, "object", "CNode", "slots", 0, 1, "Endpoint", "rights", "grant"], None, 21, "rights of server_cnode need grant, true or false"),
+    (["objects", 0, "object", "Tcb", "slots", 1, 0], 10, 3, "a tcb has no slot 10"),
+    (["objects", 0, "object", "Tcb", "slots", 0, 1], {"Tcb": {"object": 1}}, 3, "a cspace is a cnode, and client%5B0%5D is of the kind tcb"),
+    (["objects", 0, "object", "Tcb", "extra", "resume"], 1, 3, "resume of server_tcb is true or false"),
+    (["objects"], {}, 1, "a text in this form has a list objects"),
+    (["untyped_covers", 0, "children", "end"], 13, 1, "one of untyped_covers goes from 11 to 13, and there are 12 objects"),
+    (["untyped_covers"], [{"parent": 10, "children": {"start": 11, "end": 12}}] * 2, 1, "one of untyped_covers covers object 11, which another one covers"),
+    (["untyped_covers", 0, "parent"], 12, 1, "one of untyped_covers: there is no object 12"),
+    (["irqs", 0, "handler"], 12, 1, "irq 33: there is no object 12"),
+    (["irqs", 0], 33, 1, "each of irqs has a number irq, and a handler"),
+]
+LEFT_OUT_OF_JSON = [
+    (["objects", 2, "object", "CNode", "tint+"], 1, 21, "tint of server_cnode is left out"),
+    (["objects", 4, "object"], {"Notification": {"bond": 1}}, 37, "bond of bell is left out"),
+    (["objects", 7, "owner+"], 1, 48, "owner of door is left out"),
+    (["objects", 2, "object", "CNode", "slots", 0, 1, "Endpoint", "guard+"], 1, 21, "guard of server_cnode is left out"),
+    (["objects", 2, "object", "CNode", "slots", 0, 1, "Endpoint", "rights", "revoke+"], True, 21, "revoke of server_cnode is left out"),
+    (["objects", 0, "object", "Tcb", "extra", "domain+"], 1, 3, "domain of server_tcb is left out"),
+    (["domains+"], [], 1, "domains of the text is left out"),
+    (["untyped_covers", 0, "by+"], 1, 1, "by of one of untyped_covers is left out"),
+]
+
+
+def changed_json(path, value, text):
+    """Returns a layout in the JSON form with one member changed."""
+    spec = json.loads(text)
+    place = spec
+    for step in path[:-1]:
+        place = place[step]
+    place[path[-1].rstrip("+") if isinstance(path[-1], str) else path[-1]] = value
+    return spec
+
+
+def laid_out_json(spec, lines):
+    """Returns the text of a layout in the JSON form of which each object stands at one of these lines, and all else in the line 1."""
+    rest = {name: value for name, value in spec.items() if name != "objects"}
+    if not isinstance(spec["objects"], list):
+        return json.dumps(spec)
+    text = json.dumps(rest)[:-1] + ', "objects": ['
+    for number, item in enumerate(spec["objects"]):
+        text += "\n" * (lines[number] - 1 - text.count("\n")) + json.dumps(item) + ","
+    return text.rstrip(",") + "]}"
+
+
+def json_of(program, folder):
+    """Yields what is wrong with layouts in the JSON form: with what is read of them, what is told of what they should not have, and
+    what is left out of them."""
+    text = (folder / "door.json").read_text()
+    lines = [number for number, line in enumerate(text.splitlines(), 1) if line.startswith("    { \"name\"")]
+    listed, wanted = run(program, ["import", "--listing", "-"], text), (folder / "door.listing").read_text()
+    if sorted(listed.stdout.splitlines()) != sorted(wanted.splitlines()):
+        yield f"door.json: its listing has other lines: {listed.stdout!r} {listed.stderr[:300]!r}"
+    flows, wanted = run(program, ["import", "--flows", "--listing", "-"], text), (folder / "door.flows").read_text()
+    if sorted(map(held, flows.stdout.splitlines())) != sorted(map(held, wanted.splitlines())):
+        yield f"door.json: with --flows its listing has other lines: {flows.stdout!r} {flows.stderr[:300]!r}"
+    cdl = run(program, ["import", "--cdl", "-"], text).stdout
+    for more in ([], ["--flows"]):
+        made, again = run(program, ["import", *more, "-"], text), run(program, ["import", *more, "-"], cdl)
+        if made.returncode or run(program, ["check", "-"], made.stdout).returncode or tomllib.loads(made.stdout) != tomllib.loads(again.stdout):
+            yield f"door.json: status {made.returncode}, or its capDL text has another set-up, with {more}"
+        if "warning: the form names no machine: words of 64 bits are taken\n" not in made.stderr:
+            yield f"door.json: nothing is said of the machine, with {more}: {made.stderr[:300]!r}"
+    strict = run(program, ["import", "--flows", "--strict", "-"], text)
+    if strict.returncode or strict.stdout != run(program, ["import", "--flows", "-"], text).stdout:
+        yield f"door.json, strictly: {strict.returncode} {strict.stderr[:300]!r}"
+    spec = json.loads(text)
+    renamed = text.replace('"Tcb"', '"TCB"').replace('"CNode"', '"c_node"').replace('"ArmIrqHandler"', '"arm_irq_handler"')
+    for other in ("\ufeff" + text, json.dumps(spec), "\n \t" + json.dumps(spec, indent=1), laid_out_json(spec, lines), renamed,
+                  text.replace('{ "irq": 33, "handler": 9 }', "[33, 9]")):
+        told = run(program, ["import", "--listing", "-"], other)
+        if told.stdout != listed.stdout:
+            yield f"door.json, written in another way: {other[:30]!r} {told.stdout[:100]!r} {told.stderr[:300]!r}"
+    for path, value, line, said in WRONG_JSON:
+        made = run(program, ["import", "-"], laid_out_json(changed_json(path, value, text), lines))
+        if made.returncode != 2 or made.stdout != f"layout refused at {line}\n" or f":{line}:" not in made.stderr or said not in made.stderr:
+            yield f"door.json with {value!r} at {path}: {made.returncode} {made.stdout[:50]!r} {made.stderr[:200]!r}"
+    for path, value, line, said in LEFT_OUT_OF_JSON:
+        taken, strict = [run(program, ["import", "--flows", *more, "-"], laid_out_json(changed_json(path, value, text), lines)) for more in ([], ["--strict"])]
+        if taken.returncode or f"warning: {said}" not in taken.stderr or f":{line}:" not in taken.stderr:
+            yield f"door.json with {value!r} at {path}: {taken.returncode} {taken.stderr[:200]!r}"
+        if strict.returncode != 2 or strict.stdout != f"layout refused at {line}\n" or f"error: {said}" not in strict.stderr:
+            yield f"door.json with {value!r} at {path}, strictly: {strict.returncode} {strict.stdout[:50]!r} {strict.stderr[:200]!r}"
+    for old, new, line, said in (('"name": "bell",', '"name": "bell", "name": "bell",', 37, "a name is given twice in one object of JSON here"),
+                                 ('"asid_slots": [', '"asid_slots": [], "asid_slots": [', 1, "a name is given twice in one object of JSON here"),
+                                 ('"name": "bell",', '"name": "bell"', 37, "this is no JSON: ")):
+        made = run(program, ["import", "-"], text.replace(old, new))
+        if made.returncode != 2 or made.stdout != f"layout refused at {line}\n" or said not in made.stderr:
+            yield f"door.json with {new!r}: {made.returncode} {made.stdout[:50]!r} {made.stderr[:200]!r}"
+    yield from json_losses_of(program, spec)
+    # capDL text can begin with a comment that begins as a text in the JSON form does.
+    for comment in ("{- a comment -}", ' {- "quoted" }-}'):
+        if run(program, ["import", "--listing", "-"], f"{comment}\n{WHOLE}").stdout != run(program, ["import", "--listing", "-"], WHOLE).stdout:
+            yield f"capDL text behind {comment!r} is read in another way"
+
+
+def json_losses_of(program, spec):
+    """Yields the slots of a layout in the JSON form that could be lost: without one of them the listing with `--flows` is another one."""
+    whole = run(program, ["import", "--flows", "--listing", "-"], json.dumps(spec)).stdout
+    for number, item in enumerate(spec["objects"]):
+        fields = [*item["object"].values()][0] if isinstance(item["object"], dict) else {}
+        for place in range(len(fields.get("slots", []))):
+            less = copy.deepcopy(spec)
+            del [*less["objects"][number]["object"].values()][0]["slots"][place]
+            if run(program, ["import", "--flows", "--listing", "-"], json.dumps(less)).stdout == whole:
+                yield f"nothing is read of slot {place} of {item['name']} in the JSON form"
+
+
+def in_json(objects, want, inactive, seed):
+    """Returns a layout that was drawn in the JSON form, with slots and words written in one of several ways."""
+    r = random.Random(f"{seed} json")
+    numbers = {name: number for number, name in enumerate(objects)}
+    words = {"cnode": ["CNode", "cnode"], "tcb": ["Tcb", "TCB"], "ep": ["Endpoint", "endpoint"], "ut": ["Untyped", "untyped"]}
+    def cap(name, told):
+        kind, fields = objects[name][0], {"object": numbers[name]}
+        said = told.split()
+        if kind == "ep":
+            rights = {"write": said[3][0] == "w", "read": said[3][1] == "r", "grant": said[3][2] == "g", "grant_reply": said[3][3] == "p"}
+            fields |= {"badge": int(said[1]), "rights": rights}
+        elif kind == "cnode":
+            fields |= {"guard": int(said[3]), "guard_size": int(said[5])}
+        return {r.choice(words[kind]): fields}
+    def slots(holder):
+        entries = [(slot, cap(*held)) for (its, slot), held in want.items() if its == holder]
+        return [[slot, it] if r.random() < 0.5 else {"slot": slot, "cap": it} for slot, it in entries]
+    made = []
+    for name, (kind, bits) in objects.items():
+        fields = {"cnode": {"size_bits": bits, "slots": slots(name)}, "ut": {"size_bits": bits, "paddr": None},
+                  "tcb": {"slots": slots(name), "extra": {"prio": 1, "resume": name not in inactive}}}.get(kind)
+        word = r.choice(words[kind])
+        made.append({"name": name, "object": {word: fields} if fields else word})
+    return json.dumps({"objects": made, "irqs": [], "untyped_covers": []}, indent=r.choice([None, 1]))
+
+
+def random_json_of(program, seed, count):
+    """Yields which random layouts in the JSON form are not imported, or have another listing or another end than was drawn."""
+    for number in range(count):
+        text, objects, want, inactive, size = layout(f"{seed} {number}")
+        if size != 32:
+            continue
+        spec = in_json(objects, want, inactive, f"{seed} {number}")
+        made, listed = run(program, ["import"], spec), run(program, ["import", "--listing"], spec)
+        if made.returncode:
+            yield f"layout {number} of {seed} in the JSON form: {made.returncode} {made.stderr[-200:]}"
+            continue
+        report = run(program, ["check", "-"], made.stdout).stdout
+        yield from (f"layout {number} of {seed} in the JSON form: {it}" for it in differences(report, made.stdout, objects, want, inactive, size))
+        if sorted(listed.stdout.splitlines()) != sorted(listing("", objects, want, inactive)):
+            yield f"layout {number} of {seed} in the JSON form: its listing has other lines"
+
+
 def domains_of(program):
     """Yields what is wrong with the most domains that a system has, and with one more."""
     domains = [f'<protection_domain name="d{i}" priority="9">\n</protection_domain>\n' for i in range(64)]
@@ -530,7 +702,8 @@ def main(program, folder, seed, count, shared=None):
     folder = pathlib.Path(folder)
     wrong = [*faults_of(program, folder), *names_of(program, folder / "names"),
              *shared_of(program, folder / "hardware"), *spellings_of(program, folder / "spellings"), *losses_of(program, folder), *shares_of(program, seed, int(shared or int(count) // 10)),
-             *flows_of(program, folder), *faults_of_systems(program, folder), *texts_of(program, folder), *strict_of(program, folder), *domains_of(program)]
+             *flows_of(program, folder), *faults_of_systems(program, folder), *texts_of(program, folder), *strict_of(program, folder), *domains_of(program),
+             *json_of(program, folder / "json"), *random_json_of(program, seed, int(count) // 5)]
     changed = unseen = 0
     for number in range(int(count)):
         text, *said = layout(f"{seed} {number}")

@@ -4,6 +4,7 @@ ghost use Rattle.std.specs.List.{find};
 ghost use Rattle.setup_system.specs.Languages as spec;
 
 use crate::system::system_text;
+use setup_json::json_text;
 use setup_layout::{AssumedRights, Layout, ReadLayout, Reading, read_layout};
 use std::alloc::{AllocError, Global};
 
@@ -14,6 +15,8 @@ pub enum Language {
     Capdl,
     /// A `.system` file of Microkit.
     SystemFile,
+    /// capDL's JSON form.
+    CapdlJson,
 }
 
 /// Whether a byte says nothing at the front of a layout: it is a blank, or one of those of the mark by which some programs know UTF-8.
@@ -30,12 +33,28 @@ fn first_of(bytes: &[u8]) -> Option<u8>
     bytes.iter().copied().find(|byte| !is_front(*byte))
 }
 
-/// The language of a layout with these bytes: a `.system` file begins with `<`.
+/// Whether a byte can be the first one behind the `{` of a comment of capDL text, which begins with `{-`, or of an object of JSON.
+fn is_mark(byte: u8) -> bool
+    ensures { result ≡ spec.is_mark byte }
+{
+    byte == b'"' || byte == b'-' || byte == b'}'
+}
+
+/// The first byte that tells a comment of capDL text from an object of JSON.
+fn mark_of(bytes: &[u8]) -> Option<u8>
+    ensures { result ≡ find spec.is_mark bytes.now }
+{
+    bytes.iter().copied().find(|byte| is_mark(*byte))
+}
+
+/// The language of a layout with these bytes: a `.system` file begins with `<`, and capDL's JSON form with `{`.
 pub fn language_of(bytes: &[u8]) -> Language
     ensures { result ≡ spec.language_of bytes.now }
 {
-    match first_of(bytes) {
-        Some(b'<') => Language::SystemFile,
+    match (first_of(bytes), mark_of(bytes)) {
+        (Some(b'<'), _) => Language::SystemFile,
+        (Some(b'{'), Some(b'-')) => Language::Capdl,
+        (Some(b'{'), _) => Language::CapdlJson,
         _ => Language::Capdl,
     }
 }
@@ -47,7 +66,7 @@ pub fn reading_of(reading: Reading, bytes: &[u8]) -> Reading
 {
     let counts = match language_of(bytes) {
         Language::SystemFile => !reading.plain,
-        Language::Capdl => false,
+        Language::Capdl | Language::CapdlJson => false,
     };
     Reading {
         flows: reading.flows || counts,
@@ -69,6 +88,10 @@ pub fn capdl_text(alloc: Global, bytes: &[u8], reading: Reading) -> Result<Vec<u
         Language::Capdl => bytes.to_vec(alloc),
         Language::SystemFile => {
             let made = system_text(alloc, text_of(bytes), reading)?;
+            Ok(made.lines.text.into_bytes())
+        }
+        Language::CapdlJson => {
+            let made = json_text(alloc, text_of(bytes))?;
             Ok(made.lines.text.into_bytes())
         }
     }
@@ -109,6 +132,7 @@ pub fn read_any_layout(
     let reading = reading_of(reading, bytes);
     let mut read = match (language_of(bytes), std::str::from_utf8(bytes)) {
         (Language::SystemFile, Ok(text)) => read_system(alloc, text, reading)?,
+        (Language::CapdlJson, Ok(text)) => json_text(alloc, text)?.read(alloc, reading)?,
         _ => read_layout(alloc, bytes, reading)?,
     };
     if reading.strict {
