@@ -92,7 +92,10 @@ impl fmt::Display for Spot<'_> {
 
 /// The line and the column of a byte of a text, both from 1. A column counts characters.
 fn place_of(text: &str, at: usize) -> (usize, usize) {
-    let above = text.split_at_checked(at).map_or(text, |(above, _)| above);
+    let above = match text.split_at_checked(at) {
+        Some((above, _)) => above,
+        None => text,
+    };
     let before = above.rsplit('\n').next().unwrap_or(above);
     (
         above.split('\n').count(),
@@ -123,6 +126,8 @@ pub fn line_and_column(
         Place::Way(n) => (Some(("way", n)), key),
         Place::Use(n) => (Some(("use", n)), key),
     };
-    let span = span_in(alloc, text, array, key, part)?;
-    Ok(span.map_or((1, 1), |span| place_of(text, span.start)))
+    match span_in(alloc, text, array, key, part)? {
+        Some(span) => Ok(place_of(text, span.start)),
+        None => Ok((1, 1)),
+    }
 }

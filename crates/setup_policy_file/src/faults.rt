@@ -1,5 +1,5 @@
 //! The faults of a policy, as they are found, and what is told of them.
-ghost use Rattle.std.specs.Prelude.{◌≡◌, IfSome, Ok};
+ghost use Rattle.std.specs.Prelude.{◌≡◌, ◌≤◌, IfSome, Ok, length};
 
 use crate::fault::{Fault, Spot, line_and_column};
 use crate::values::Bad;
@@ -66,6 +66,18 @@ impl Refusal {
     }
 }
 
+/// Where among some notes, in the order of the text, one of this place stands: behind those at or above it.
+fn place_among(notes: &[Note], line: usize, column: usize) -> usize
+    ensures { result ≤ length notes.now }
+{
+    for (i, note) in notes.iter().enumerate() {
+        if (note.line, note.column) > (line, column) {
+            return i;
+        }
+    }
+    notes.len()
+}
+
 /// The faults of a policy that were found so far.
 #[derive(Drop)]
 pub struct Faults<'a> {
@@ -114,9 +126,7 @@ impl<'a> Faults<'a> {
         if self.first.is_none() {
             self.first = Some((fault, format!(in self.alloc; "{spot}")?));
         }
-        let mut notes = self.notes.as_slice().iter();
-        let below = notes.position(|note| (note.line, note.column) > (line, column));
-        let place = below.unwrap_or(self.notes.len());
+        let place = place_among(self.notes.as_slice(), line, column);
         self.notes.insert(
             place,
             Note {

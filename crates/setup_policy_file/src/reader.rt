@@ -48,7 +48,12 @@ fn unknown_key<'t>(table: &'t Table, known: &[&str]) -> Option<&'t String>
 fn first_unknown<'t>(table: &'t Table, known: &[&str]) -> Option<&'t String>
     ensures { option_copied result ≡ find (λ k. not (is_one_of (map (λ k. k.now) known.now) (string_bytes k))) (tree.keys table.now) }
 {
-    table.keys().find(|key| !is_known(known, key.as_str()))
+    for key in table.keys() {
+        if !is_known(known, key.as_str()) {
+            return Some(key);
+        }
+    }
+    None
 }
 
 /// What was read of a key, whose name stands before what is wrong with it.

@@ -287,16 +287,25 @@ fn twice(faults: &Faults<'_>, name: &str, first: Place) -> Result<(), Bad> {
     Err(Bad::Wrong(Fault::Twice, words))
 }
 
+/// Where the first of some groups that has a name stands.
+fn place_named(groups: &[GroupEntry], name: &str) -> Option<Place> {
+    for group in groups {
+        if group.name.as_str() == name {
+            return Some(group.place);
+        }
+    }
+    None
+}
+
 /// A fault for each group that has the name of an earlier one.
 fn all_apart(faults: &mut Faults<'_>, groups: &[GroupEntry]) -> Option<()> {
     let mut are_apart = true;
     for (i, group) in groups.iter().enumerate() {
         let name = group.name.as_str();
-        let mut earlier = groups.iter().take(i);
-        if let Some(first) = earlier.find(|other| other.name.as_str() == name) {
+        if let Some(first) = place_named(&groups[..i], name) {
             are_apart = false;
             if faults.has_room() {
-                let wrong = twice(faults, name, first.place);
+                let wrong = twice(faults, name, first);
                 let _noted = faults.taken(Spot::Key(group.place, "name"), wrong);
             }
         }
@@ -359,14 +368,20 @@ fn read_table(alloc: Global, text: &str, table: &Table) -> Result<PolicyFile, Re
 pub fn read_policy(alloc: Global, bytes: &[u8]) -> Result<PolicyFile, Refusal>
     ensures { IfOk result (spec.IsPolicyText bytes.now) }
 {
-    let text = bytes.utf8_chunks().next().map_or("", |chunk| chunk.valid());
+    let text = match bytes.utf8_chunks().next() {
+        Some(chunk) => chunk.valid(),
+        None => "",
+    };
     match toml::table_from_slice(alloc, bytes) {
         Ok(table) => read_table(alloc, text, &table),
         Err(error) => {
             if error.is_memory() {
                 return Err(Refusal::Memory);
             }
-            let at = error.span().map_or(0, |span| span.start);
+            let at = match error.span() {
+                Some(span) => span.start,
+                None => 0,
+            };
             let words = String::from_str(alloc, error.message())?;
             Err(Refusal::new(alloc, text, Fault::Text, Spot::Text(at), words))
         }

@@ -113,7 +113,12 @@ fn is_name_byte(byte: u8) -> bool
 fn has_name_bytes(text: &[u8]) -> bool
     ensures { result ≡ list_all spec.is_name_byte text.now }
 {
-    text.iter().all(|byte| is_name_byte(*byte))
+    for byte in text {
+        if !is_name_byte(*byte) {
+            return false;
+        }
+    }
+    true
 }
 
 /// Whether a text may be a group's name.
