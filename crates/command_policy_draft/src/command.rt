@@ -40,11 +40,13 @@ fn live_of(
 ) -> Result<Vec<u64>, AllocError>
     ensures { IfOk result (λ v. v.items ≡ spec.live_of threads.now live.now others.now) }
 {
-    threads
-        .iter()
-        .filter(|thread| is_in(live, **thread) && !is_in(others, **thread))
-        .copied()
-        .collect(alloc)
+    let mut left = Vec::new(alloc);
+    for thread in threads {
+        if is_in(live, *thread) && !is_in(others, *thread) {
+            left.push(*thread)?;
+        }
+    }
+    Ok(left)
 }
 
 /// The answer where threads are trusted.

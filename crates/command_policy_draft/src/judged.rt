@@ -89,11 +89,20 @@ fn draft_text<P: Profile, S: MakeStore<P> + DerivationStore<P>, W: MakeWaiters<P
     Ok(text)
 }
 
+fn threads_of(alloc: Global, members: &[Member]) -> Result<Vec<u64>, AllocError>
+    ensures { IfOk result (λ v. v.items ≡ map (λ m. m.thread) members.now) }
+{
+    let mut threads = Vec::new(alloc);
+    for member in members {
+        threads.push(member.thread)?;
+    }
+    Ok(threads)
+}
+
 fn are_threads(alloc: Global, members: &[Member], threads: &[u64]) -> Result<bool, AllocError>
     ensures { IfOk result (λ are. IsTrue are ↔ map (λ m. m.thread) members.now ≡ threads.now) }
 {
-    let own = members.iter().map(|member| member.thread);
-    let own: Vec<u64> = own.collect(alloc)?;
+    let own = threads_of(alloc, members)?;
     Ok(own.as_slice() == threads)
 }
 
