@@ -35,8 +35,10 @@ impl<'a> NamedText<'a> {
         alloc: Global,
         sought: SoughtKey<'_>,
     ) -> Result<Option<Excerpt<'a>>, AllocError> {
-        let span = span_at(alloc, self.text, sought)?;
-        Ok(span.map(|span| self.excerpt(span)))
+        match span_at(alloc, self.text, sought)? {
+            Some(span) => Ok(Some(self.excerpt(span))),
+            None => Ok(None),
+        }
     }
 }
 

@@ -211,7 +211,10 @@ pub fn span_in(
         return Ok(None);
     };
     let (from, length) = part_at(alloc, at, part)?;
-    let start = text.len().checked_sub(from.len());
-    let end = start.and_then(|start| start.checked_add(length));
-    Ok(start.zip(end).map(|(start, end)| start..end))
+    if let Some(start) = text.len().checked_sub(from.len())
+        && let Some(end) = start.checked_add(length)
+    {
+        return Ok(Some(start..end));
+    }
+    Ok(None)
 }
