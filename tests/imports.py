@@ -312,17 +312,26 @@ def shares_of(program, seed, count):
                 yield f"shares {number} of {seed}: {common}, but of a policy status {kept.returncode} {kept.stdout[-120:]!r} {kept.stderr[:200]!r}"
 
 
+# What says nothing of capabilities: comments, the declaration of XML, programs, and a guest's processor 0, which it has without a word.
+SAYS_NOTHING = re.compile(r'\s*($|--|#|//|<!--|<\?xml |<program_image |<vcpu id="0")')
+# Layouts of more lines are left out, since each line is a run.
+MOST_LINES = 120
+
+
 def losses_of(program, folder):
-    """Yields the statements of layouts that could be lost: without one of them the listing with `--flows` has to be another one."""
-    for name in ("file_server.cdl", "hardware/guests.system", "hardware/overlaps.system"):
-        lines = (folder / name).read_text().splitlines(keepends=True)
-        whole = run(program, ["import", "--flows", "--listing", "-"], "".join(lines)).stdout
+    """Yields the statements of layouts that could be lost: without one of them something else has to be listed, or said."""
+    for path in sorted(it for it in (*folder.iterdir(), *(folder / "hardware").iterdir()) if it.suffix in (".cdl", ".system")):
+        lines = path.read_text(errors="replace").splitlines(keepends=True)
+        if len(lines) > MOST_LINES:
+            continue
+
+        def told(text):
+            return [(it.returncode, it.stdout, it.stderr) for it in (run(program, ["import", *words, "--listing", "-"], text) for words in ([], ["--flows"]))]
+
+        whole = told("".join(lines))
         for number, line in enumerate(lines):
-            # That a guest has a processor 0 is so without a word, and the number of an interrupt counts where a thread signals it.
-            if re.match(r"(\w+: |\s*<(map|irq|ioport|vcpu) )", line) and '<vcpu id="0"' not in line and line != "14: disk_irq\n":
-                less = run(program, ["import", "--flows", "--listing", "-"], "".join(lines[:number] + ["\n"] + lines[number + 1 :]))
-                if less.stdout == whole:
-                    yield f"{name}: nothing is read of line {number + 1}: {line.strip()}"
+            if not SAYS_NOTHING.match(line) and told("".join([*lines[:number], "\n", *lines[number + 1 :]])) == whole:
+                yield f"{path.name}: nothing is read of line {number + 1}: {line.strip()}"
 
 
 def spellings_of(program, folder):
