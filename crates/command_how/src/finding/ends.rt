@@ -22,15 +22,20 @@ fn is_ready<P: Profile, S: MakeStore<P> + DerivationStore<P>, W: MakeWaiters<P>>
 
 /// The first word that leads to a capability to an endpoint with a right, and with the badge, where one is given.
 fn word_to(words: &[Word], endpoint: u64, right: Rights, badge: Option<u64>) -> Option<u64> {
-    let word = words.iter().find(|word| match word.cap {
-        Cap::Endpoint {
+    for word in words {
+        if let Cap::Endpoint {
             base,
             badge: Badge(had),
             rights,
-        } => { base == endpoint && rights.0 & right.0 == right.0 && had == badge.unwrap_or(had) }
-        _ => false,
-    })?;
-    Some(word.word)
+        } = word.cap
+            && base == endpoint
+            && rights.0 & right.0 == right.0
+            && had == badge.unwrap_or(had)
+        {
+            return Some(word.word);
+        }
+    }
+    None
 }
 
 /// An endpoint, with the words by which the one thread may send to it and the other receive on it.
@@ -49,8 +54,16 @@ fn next_call<P: Profile, S: MakeStore<P> + DerivationStore<P>, W: MakeWaiters<P>
     meeting: &Meeting,
 ) -> Option<Call> {
     let (from, to, endpoint) = (asked.from, asked.to, meeting.endpoint);
-    let sends = meeting.sends.filter(|_| is_ready::<P, S, W>(kernel, from));
-    let receives = meeting.receives.filter(|_| is_ready::<P, S, W>(kernel, to));
+    let sends = if is_ready::<P, S, W>(kernel, from) {
+        meeting.sends
+    } else {
+        None
+    };
+    let receives = if is_ready::<P, S, W>(kernel, to) {
+        meeting.receives
+    } else {
+        None
+    };
     let is_sent = kernel.thread_state(from) == Some(ThreadState::Sending(endpoint));
     let is_awaited = kernel.thread_state(to) == Some(ThreadState::Receiving(endpoint));
     let message = no_message();
@@ -91,13 +104,12 @@ fn message_by<P: Profile, S: MakeStore<P> + DerivationStore<P>, W: MakeWaiters<P
 
 /// The endpoints to which there are capabilities, rising.
 fn endpoints(alloc: Global, filled: &[FullSlot]) -> Result<Vec<u64>, AllocError> {
-    let named: Vec<u64> = filled
-        .iter()
-        .filter_map(|slot| match slot.cap {
-            Cap::Endpoint { base, .. } => Some(base),
-            _ => None,
-        })
-        .collect(alloc)?;
+    let mut named = Vec::new(alloc);
+    for slot in filled {
+        if let Cap::Endpoint { base, .. } = slot.cap {
+            named.push(base)?;
+        }
+    }
     rising(alloc, named.as_slice())
 }
 
@@ -127,6 +139,16 @@ fn message_end<P: Profile, S: MakeStore<P> + DerivationStore<P>, W: MakeWaiters<
     Ok(None)
 }
 
+/// The first word that leads to a thread's control block.
+fn word_of_thread(words: &[Word], thread: u64) -> Option<u64> {
+    for word in words {
+        if word.cap == (Cap::Tcb { base: thread }) {
+            return Some(word.word);
+        }
+    }
+    None
+}
+
 /// The stop or the start of the other thread by the first word for it, and the call that shows that it is stopped or started.
 fn hold_end<P: Profile, S: MakeStore<P> + DerivationStore<P>, W: MakeWaiters<P>>(
     alloc: Global,
@@ -134,15 +156,13 @@ fn hold_end<P: Profile, S: MakeStore<P> + DerivationStore<P>, W: MakeWaiters<P>>
     asked: &Asked<'_>,
     from: &Named,
 ) -> Result<Option<Vec<Call>>, AllocError> {
-    let base = asked.to;
-    let is_held = |word: &&Word| word.cap == Cap::Tcb { base };
-    let Some(word) = from.words.as_slice().iter().find(is_held) else {
+    let Some(cap) = word_of_thread(from.words.as_slice(), asked.to) else {
         return Ok(None);
     };
     if !is_ready::<P, S, W>(kernel, asked.from) {
         return Ok(None);
     }
-    let (thread, cap) = (asked.from, word.word);
+    let thread = asked.from;
     let op = if is_ready::<P, S, W>(kernel, asked.to) {
         Op::Suspend { cap }
     } else {
@@ -181,13 +201,14 @@ fn loss_by<P: Profile, S: MakeStore<P> + DerivationStore<P>, W: MakeWaiters<P>>(
         return Ok(None);
     }
     let has_ended = after.thread_state(to.thread).is_none();
-    let mut words = to.words.as_slice().iter();
-    let Some(word) = words.find(|word| has_ended || after.cap_at(word.slot) == Cap::Null) else {
-        return Ok(None);
-    };
-    let shows = probe(to.thread, word);
-    let calls = Vec::from_slice(alloc, &[shows, takes, shows])?;
-    Ok(Some(calls))
+    for word in to.words.as_slice() {
+        if has_ended || after.cap_at(word.slot) == Cap::Null {
+            let shows = probe(to.thread, word);
+            let calls = Vec::from_slice(alloc, &[shows, takes, shows])?;
+            return Ok(Some(calls));
+        }
+    }
+    Ok(None)
 }
 
 fn loss_end<P: Profile, S: MakeStore<P> + DerivationStore<P>, W: MakeWaiters<P>>(

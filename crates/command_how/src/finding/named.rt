@@ -39,19 +39,28 @@ fn words_of<P: Profile>(
     root: Cap,
 ) -> Result<Vec<Word>, AllocError> {
     let places = places::<P>(alloc, filled, root, P::WORD_BITS)?;
-    let mut words: Vec<Word> = places
-        .as_slice()
-        .iter()
-        .filter(|place| place.cap != Cap::Null && !goes_on(place))
-        .map(|place| Word {
-            word: shifted(place.index, place.left),
-            left: place.left,
-            slot: place.slot,
-            cap: place.cap,
-        })
-        .collect(alloc)?;
+    let mut words = Vec::new(alloc);
+    for place in &places {
+        if place.cap != Cap::Null && !goes_on(place) {
+            words.push(Word {
+                word: shifted(place.index, place.left),
+                left: place.left,
+                slot: place.slot,
+                cap: place.cap,
+            })?;
+        }
+    }
     words.sort_by_key(|word| (word.left, word.word))?;
     Ok(words)
+}
+
+fn is_named(targets: &[Target], slot: u64) -> bool {
+    for target in targets {
+        if target.slot == slot {
+            return true;
+        }
+    }
+    false
 }
 
 /// Adds the slots that are named from a word's CNode, but for those that are named already.
@@ -61,7 +70,7 @@ fn add_targets<P: Profile>(
     places: &[Place],
 ) -> Result<(), AllocError> {
     for place in places {
-        if !targets.as_slice().iter().any(|t| t.slot == place.slot) {
+        if !is_named(targets.as_slice(), place.slot) {
             targets.push(Target {
                 word,
                 index: place.index,

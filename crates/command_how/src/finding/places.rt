@@ -53,29 +53,40 @@ fn add_places<P: Profile>(
     let Cap::CNode { base, radix, guard } = cap else {
         return Ok(());
     };
-    let after_guard = bits.checked_sub(guard.size);
-    let Some(left) = after_guard.and_then(|bits| bits.checked_sub(radix)) else {
+    let Some(after_guard) = bits.checked_sub(guard.size) else {
+        return Ok(());
+    };
+    let Some(left) = after_guard.checked_sub(radix) else {
         return Ok(());
     };
     let front = shifted(shifted(prefix, guard.size) | guard.value, radix);
-    let place = |slot: u64, cap: Cap, number: u64| Place {
-        slot,
-        cap,
+    let first = Place {
+        slot: base,
+        cap: Cap::Null,
         node: base,
-        index: front | number,
+        index: front,
         left,
     };
     let mut free = base;
     for full in filled {
         if let Some(number) = number_in::<P>(base, radix, full.address) {
-            places.push(place(full.address, full.cap, number))?;
+            places.push(Place {
+                slot: full.address,
+                cap: full.cap,
+                index: front | number,
+                ..first
+            })?;
         }
         if full.address == free {
             free = free.saturating_add(shifted(1, P::SLOT_BITS));
         }
     }
     if let Some(number) = number_in::<P>(base, radix, free) {
-        places.push(place(free, Cap::Null, number))?;
+        places.push(Place {
+            slot: free,
+            index: front | number,
+            ..first
+        })?;
     }
     Ok(())
 }
@@ -87,8 +98,15 @@ pub fn goes_on(place: &Place) -> bool {
 
 /// Whether a lookup goes on from a place, and went on so from none of those before it.
 fn is_new(before: &[Place], place: &Place) -> bool {
-    goes_on(place)
-        && !before.iter().any(|p| p.left == place.left && node_of(p.cap) == node_of(place.cap))
+    if !goes_on(place) {
+        return false;
+    }
+    for other in before {
+        if other.left == place.left && node_of(other.cap) == node_of(place.cap) {
+            return false;
+        }
+    }
+    true
 }
 
 /// The slots to which lookups of so many bits lead from a CNode's capability. Those in the CNode itself come first.

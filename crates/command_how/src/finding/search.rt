@@ -58,13 +58,12 @@ fn filled_of<P: Profile, S: MakeStore<P> + DerivationStore<P>, W: MakeWaiters<P>
 
 /// The threads that have a control block, by rising addresses.
 fn threads_of(alloc: Global, filled: &[FullSlot]) -> Result<Vec<u64>, AllocError> {
-    let threads: Vec<u64> = filled
-        .iter()
-        .filter_map(|slot| match slot.cap {
-            Cap::Tcb { base } => Some(base),
-            _ => None,
-        })
-        .collect(alloc)?;
+    let mut threads = Vec::new(alloc);
+    for slot in filled {
+        if let Cap::Tcb { base } = slot.cap {
+            threads.push(base)?;
+        }
+    }
     rising(alloc, threads.as_slice())
 }
 

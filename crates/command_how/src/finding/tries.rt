@@ -77,10 +77,12 @@ fn add_copies<P: Profile>(
         }
         _ => {}
     }
-    let is_there = |target: &Target| target.node == to.node && target.cap == from.cap;
-    if !targets.iter().any(is_there) {
-        ops.push(copy_to(from, to, None))?;
+    for target in targets {
+        if target.node == to.node && target.cap == from.cap {
+            return Ok(());
+        }
     }
+    ops.push(copy_to(from, to, None))?;
     Ok(())
 }
 
@@ -99,6 +101,16 @@ fn add_copies_to<P: Profile>(
     Ok(())
 }
 
+/// The first word that leads to a CNode.
+fn word_of_node(words: &[Word], node: u64) -> Option<u64> {
+    for word in words {
+        if node_of(word.cap) == Some(node) {
+            return Some(word.word);
+        }
+    }
+    None
+}
+
 /// Adds the calls that make objects in a region, each in the first empty slot of a CNode that a word leads to.
 fn add_retypes<P: Profile>(
     ops: &mut Vec<Op>,
@@ -106,7 +118,7 @@ fn add_retypes<P: Profile>(
     region: u64,
     to: &Target,
 ) -> Result<(), AllocError> {
-    let Some(root) = words.iter().find(|word| node_of(word.cap) == Some(to.node)) else {
+    let Some(root) = word_of_node(words, to.node) else {
         return Ok(());
     };
     for (kind, size_bits) in MADE {
@@ -114,7 +126,7 @@ fn add_retypes<P: Profile>(
             cap: region,
             kind,
             size_bits,
-            root: root.word,
+            root,
             index: 0,
             depth: 0,
             offset: to.slot.saturating_sub(to.node).wrapping_shr(P::SLOT_BITS),
@@ -195,6 +207,16 @@ fn add_by_word<P: Profile, S: MakeStore<P> + DerivationStore<P>, W: MakeWaiters<
     }
 }
 
+/// Whether an empty slot of a CNode is named.
+fn has_room(targets: &[Target], node: u64) -> bool {
+    for target in targets {
+        if target.node == node && is_empty(target) {
+            return true;
+        }
+    }
+    false
+}
+
 /// Adds the delete of a slot whose CNode is full, and the revoke of a region's slot in which something was made.
 fn add_clearing<P: Profile, S: MakeStore<P> + DerivationStore<P>, W: MakeWaiters<P>>(
     ops: &mut Vec<Op>,
@@ -203,7 +225,7 @@ fn add_clearing<P: Profile, S: MakeStore<P> + DerivationStore<P>, W: MakeWaiters
     target: &Target,
 ) -> Result<(), AllocError> {
     let (cap, index, depth) = (target.word, target.index, target.depth);
-    if !targets.iter().any(|t| t.node == target.node && is_empty(t)) {
+    if !has_room(targets, target.node) {
         ops.push(Op::CapDelete { cap, index, depth })?;
     }
     if matches!(target.cap, Cap::Untyped { .. }) && kernel.has_children(target.slot) {
