@@ -8,7 +8,7 @@ use std::alloc::{AllocError, Global};
 
 const MEMORY_BITS: u32 = 14;
 
-/// Makes the waiting threads and goes through so many rounds; the number of rounds in which both messages arrived, or 0 where
+/// Makes the waiting threads and goes through so many rounds; the number of rounds in which both messages arrived, or 0 if
 /// there was no memory.
 #[unsafe(no_mangle)]
 pub extern "C" fn ping_pong_run(alloc: Global, rounds: u64) -> u64 {

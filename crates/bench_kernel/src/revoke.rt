@@ -82,7 +82,7 @@ fn run(kernel: &mut Measured, slots: u32, deep: bool, revokes: bool) -> bool
 }
 
 /// Fills the slots from one up to another, with copies of the source, or each with a copy of what the slot before it holds,
-/// and the first with one of the source where it is `fresh`. It is not inlined, so that it is the same with revocations and
+/// and the first with one of the source if it is `fresh`. It is not inlined, so that it is the same with revocations and
 /// without.
 #[inline(never)]
 fn fills(

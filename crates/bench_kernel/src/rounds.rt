@@ -39,7 +39,7 @@ const DEPTH: u64 = 64;
 /// How many calls a round makes.
 pub const CALLS: usize = 20;
 
-/// A kernel that has just booted, or `None` where memory was wanted and not there.
+/// A kernel that has just booted, or `None` if memory was wanted and not there.
 pub fn booted<const SUBJECT: u8>(alloc: Global) -> Option<LinkedKernel<WideOf<SUBJECT>>> {
     let mut untypeds = Vec::new(alloc);
     untypeds.push((524288, 19)).ok()?;

@@ -15,7 +15,7 @@ const MEMORY_BITS: u32 = 16;
 const COUNT: u64 = 64;
 
 /// Makes a store and goes through so many rounds; the number of rounds in which a derived capability was found as the first
-/// child, or 0 where there was no memory for the store. The place of the first slot and the badge are handed in, so that the
+/// child, or 0 if there was no memory for the store. The place of the first slot and the badge are handed in, so that the
 /// compiler knows as little of them as it would in a kernel.
 #[unsafe(no_mangle)]
 pub extern "C" fn store_cycle_run(alloc: Global, place: u64, badge: u64, rounds: u64) -> u64

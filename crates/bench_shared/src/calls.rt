@@ -59,7 +59,7 @@ fn look_until<N: Naming, T: HistoryCopy<N>>(
     client
 }
 
-/// The last client makes so many calls while the others look: how many looks were answered, where each call was.
+/// The last client makes so many calls while the others look: how many looks were answered, if each call was.
 pub fn looks_beside<
     N: Naming + Send + Sync,
     T: HistoryCopy<N> + Send + Sync,

@@ -2,10 +2,10 @@
 //!
 //! - `take TIMES ENTRIES` opens a book so many times, and takes so many calls each time;
 //! - `call TIMES ENTRIES` shares a kernel with one client so many times, which makes so many calls each time;
-//! - `look CALLS READERS` shares a kernel where one client makes so many calls, while so many others look all the time, and
+//! - `look CALLS READERS` shares a kernel in which one client makes so many calls, while so many others look all the time, and
 //!   prints how many looks were answered.
 //!
-//! With no words it does each once with a few, and prints what they gave. The exit status is 1 where a call was not taken.
+//! With no words it does each once with a few, and prints what they gave. The exit status is 1 if a call was not taken.
 #![tactic(auto)]
 
 use cap_core::limits::MAX_HISTORY_LIMIT;
@@ -19,7 +19,7 @@ mod calls;
 mod kernel;
 mod runs;
 
-/// How many entries and how many looking clients there are where no words are given.
+/// How many entries and how many looking clients there are if no words are given.
 const FEW_ENTRIES: u32 = 100;
 
 const FEW_READERS: u32 = 2;
@@ -47,7 +47,7 @@ fn job_of<R: Env + AllocGlobal>(rt: &R) -> Option<(Job, u32, u32)> {
 }
 
 /// Does a job so many times with so many calls each, or looks beside so many calls with so many clients: how many looks
-/// were answered, or `None` where a call was not taken.
+/// were answered, or `None` if a call was not taken.
 fn repeat<R: Threads + Wait + AllocGlobal + Sync>(
     rt: &R,
     job: Job,

@@ -39,7 +39,7 @@ fn book_run<N: Naming>(alloc: Global, plan: &BootPlan, limit: u32) -> bool
 }
 
 /// Shares a kernel with so many clients, one of which makes calls until the history is full while the others look: how many
-/// looks were answered, where each call was.
+/// looks were answered, if each call was.
 fn shared_run<N: Naming + Send + Sync, R: Threads + Wait + Sync>(
     rt: &R,
     alloc: Global,
@@ -66,7 +66,7 @@ fn shared_run<N: Naming + Send + Sync, R: Threads + Wait + Sync>(
     looks
 }
 
-/// Does a job once: how many looks were answered, where each call was taken.
+/// Does a job once: how many looks were answered, if each call was taken.
 fn play<N: Naming + Send + Sync, R: Threads + Wait + Sync>(
     rt: &R,
     alloc: Global,

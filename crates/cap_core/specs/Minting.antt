@@ -32,7 +32,7 @@ guard_held p word =
     let size = word % 2 ^ guard_size_bits p in
     record { value = word / 2 ^ guard_size_bits p % 2 ^ size; size = size }
 
--- a CNode's capability with a guard, where guard and radix together are no longer than a word
+-- a CNode's capability with a guard, if guard and radix together are no longer than a word
 abbrev pub guarded : ProfileName → ℕ → ℕ → Guard → Option Cap
 guarded p base radix guard = cond (nat_le (guard.size + radix) (word_bits p)) (Some (CNode base radix guard)) None
 

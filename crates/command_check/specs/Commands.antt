@@ -13,7 +13,7 @@ use Rattle.command_core.specs.declared.fault.Verdict.TheVariants.{AllMet, Refuse
 
 -- ---- of a set-up
 
--- the answer where there is a text; nothing, where the set-up does not have what is asked for
+-- the answer if there is a text; nothing, if the set-up does not have what is asked for
 abbrev pub text_or_absent : Option (List ℕ) → List ℕ × Verdict
 text_or_absent None = ([], Absent)
 text_or_absent (Some text) = (text, AllMet)
@@ -32,7 +32,7 @@ abbrev pub IsAnswerAfter : (ℕ → State → List ℕ → Verdict → Type 0) �
 IsAnswerAfter answers p setup None text verdict = (text ≡ []) × (verdict ≡ Absent)
 IsAnswerAfter answers p setup (Some made) text verdict = answers made (state_behind p setup made) text verdict
 
--- the answer by the state after so many calls, all where no number is given; nothing, where the set-up has fewer
+-- the answer by the state after so many calls, all if no number is given; nothing, if the set-up has fewer
 abbrev pub IsStateAnswer : (ProfileName → Names → SetupView → ℕ → State → List ℕ → Verdict → Type 0) → Option ℕ
     → ProfileName → ReadView → List ℕ → Verdict → Type 0
 IsStateAnswer answers after p read text verdict =

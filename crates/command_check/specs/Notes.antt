@@ -14,7 +14,7 @@ abbrev pub unexpected_at : ℕ → Option (List ℕ) → Reply → List ℕ
 unexpected_at number None (Refused refusal) = number ∷ []
 unexpected_at number expected reply = []
 
--- the numbers of those calls, where the first call has this number
+-- the numbers of those calls, if the first call has this number
 abbrev pub unexpected_from : ℕ → List CallView → List Reply → List ℕ
 unexpected_from number [] replies = []
 unexpected_from number (call ∷ calls) [] = []

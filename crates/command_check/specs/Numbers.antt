@@ -4,7 +4,7 @@ use Rattle.std.specs.List.{range_with_len}
 use Rattle.std.specs.Global.{Vec}
 use Rattle.setup_format.specs.Views.{CallView, SetupView}
 
--- the numbers of a client's calls, where the first of the calls has this number
+-- the numbers of a client's calls, if the first of the calls has this number
 abbrev pub client_numbers : ℕ → ℕ → List CallView → List ℕ
 client_numbers client number [] = []
 client_numbers client number (call ∷ calls) =
@@ -27,6 +27,6 @@ abbrev pub view_numbered : List CallView → ℕ → Option CallView
 view_numbered calls zero = None
 view_numbered calls (suc n) = slice_get calls n
 
--- what is expected of the call with a number; nothing where there is no such call
+-- what is expected of the call with a number; nothing if there is no such call
 abbrev pub expectation_of : List CallView → ℕ → Option (List ℕ)
 expectation_of calls number = option_and_then (λ (call : CallView). call.expect) (view_numbered calls number)

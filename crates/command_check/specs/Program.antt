@@ -75,7 +75,7 @@ abbrev pub IsTextOfSetup : Result SetupView Fault → CountedText → Type 0
 IsTextOfSetup (Ok setup) made = IsTextIn setup.profile setup made
 IsTextOfSetup (Err fault) made = (made.text.items ≡ refusal_line fault) × (made.count ≡ None)
 
--- the verdict by the count, where there is one
+-- the verdict by the count, if there is one
 abbrev pub verdict_in : Option ExpectationCount → Verdict
 verdict_in None = Refused
 verdict_in (Some count) = verdict_on count.met count.expected

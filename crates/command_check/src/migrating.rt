@@ -66,8 +66,8 @@ impl Engine for Migrator {
 /// the line of a refusal.
 ///
 /// # Errors
-/// `Reading` where a read failed in this call, or where `INPUT_LIMIT` bytes came without an end; nothing is written
-/// then. `Writing` where a write failed or took no byte; a front of the text was written then. `Memory`; nothing is
+/// `Reading` if a read failed in this call, or if `INPUT_LIMIT` bytes came without an end; nothing is written
+/// then. `Writing` if a write failed or took no byte; a front of the text was written then. `Memory`; nothing is
 /// written then.
 pub fn migrate_run<S: Source, K: Sink>(
     alloc: Global,

@@ -9,7 +9,7 @@ use setup_format::{Setup, asks};
 use setup_report::{ExpectationCount, Naming, ReplyText};
 use std::alloc::{AllocError, Global};
 
-/// Adds the number of a call, where it was refused and nothing was expected of it.
+/// Adds the number of a call, if it was refused and nothing was expected of it.
 fn add_unexpected(
     numbers: &mut Vec<usize>,
     number: usize,
@@ -55,7 +55,7 @@ fn is_met(shown: &str, expected: &str) -> bool
     }
 }
 
-/// Adds what is told of a call, where its reply is not the expected one. Of an expectation that asks nothing is told.
+/// Adds what is told of a call, if its reply is not the expected one. Of an expectation that asks nothing is told.
 pub fn add_unmet(
     alloc: Global,
     unmet: &mut Vec<CallNote>,
@@ -110,7 +110,7 @@ fn asking_calls(alloc: Global, setup: &Setup) -> Result<Vec<usize>, AllocError> 
 }
 
 /// What standard error tells of the calls of a set-up, given the reply to each and the count of their expectations: which were
-/// refused where nothing was expected, whose expectation is not met, and which ask what the reply is.
+/// refused if nothing was expected, whose expectation is not met, and which ask what the reply is.
 pub fn notes_on(
     alloc: Global,
     setup: &Setup,

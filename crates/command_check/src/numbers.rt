@@ -30,7 +30,7 @@ pub fn numbers_of_clients(alloc: Global, setup: &Setup) -> Result<Vec<Vec<usize>
     Ok(lists)
 }
 
-/// The number of the call of a client at a place among its calls; 0 where there is none.
+/// The number of the call of a client at a place among its calls; 0 if there is none.
 pub fn number_at(numbers: &[Vec<usize>], client: usize, place: usize) -> usize
     ensures { result ≡ call_number_at (numbers_in numbers.now) client place }
 {
@@ -40,7 +40,7 @@ pub fn number_at(numbers: &[Vec<usize>], client: usize, place: usize) -> usize
     }
 }
 
-/// What is expected of the call with a number, from 1 on; nothing where there is no such call.
+/// What is expected of the call with a number, from 1 on; nothing if there is no such call.
 #[tactic(auto, using(crate::proofs::Numbered::expected_at, crate::proofs::Numbered::none_expected_past, crate::proofs::Numbered::none_expected_of_none))]
 pub fn expected_of(setup: &Setup, number: usize) -> Option<&str>
     ensures { option_copied result ≡ expectation_of setup.now.calls number }

@@ -25,7 +25,7 @@ use std::alloc::{AllocError, Global};
 pub struct CountedText {
     /// The report, or the line by which the set-up is refused.
     pub text: Vec<u8>,
-    /// How many calls have an expectation, and how many of these are met; nothing where the set-up is refused.
+    /// How many calls have an expectation, and how many of these are met; nothing if the set-up is refused.
     pub count: Option<ExpectationCount>,
     /// What standard error tells.
     pub notes: Notes,

@@ -57,7 +57,7 @@ pub trait StateCommand {
             (state_behind P.profile behind.now.setup.now behind.now.made) answer.text.items answer.verdict) };
 }
 
-/// A command, on the state after the first `after` calls, or after all. Where the set-up has fewer calls, nothing is written, and
+/// A command, on the state after the first `after` calls, or after all. If the set-up has fewer calls, nothing is written, and
 /// the verdict is `Absent`.
 #[derive(Clone, Copy, Drop)]
 pub struct OnState<C> {

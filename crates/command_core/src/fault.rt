@@ -22,7 +22,7 @@ pub enum Verdict {
 impl Verdict {
     ghost use Rattle.command_core.specs.Statuses.{verdict_status};
 
-    /// The program's exit status: 0 where all expectations are met, 1 where one is not, 2 where the set-up is refused, 4 where it
+    /// The program's exit status: 0 if all expectations are met, 1 if one is not, 2 if the set-up is refused, 4 if it
     /// does not have what the command line names.
     pub fn status(self) -> u8
         ensures { result ≡ verdict_status self }

@@ -22,7 +22,7 @@ impl<T> KeptReader<T> {
         }
     }
 
-    /// What the reader gave; nothing where memory for it was refused.
+    /// What the reader gave; nothing if memory for it was refused.
     pub fn bytes(&self) -> Option<&[u8]> {
         if self.is_whole {
             Some(self.bytes.as_slice())
@@ -31,7 +31,7 @@ impl<T> KeptReader<T> {
         }
     }
 
-    /// Why a read failed, where one did.
+    /// Why a read failed, if one did.
     pub fn failure(&self) -> Option<&io::Error> {
         self.failure.as_ref()
     }
@@ -73,7 +73,7 @@ impl<T> KeptWriter<T> {
         }
     }
 
-    /// Why a write failed, where one did.
+    /// Why a write failed, if one did.
     pub fn failure(&self) -> Option<&io::Error> {
         self.failure.as_ref()
     }

@@ -9,7 +9,7 @@ use std::marker::Model;
 
 /// A device that takes bytes.
 pub trait Sink {
-    /// The bytes that it has taken, where the device tells them.
+    /// The bytes that it has taken, if the device tells them.
     ghost taken: { Self → Option (List ℕ) };
 
     /// How many bytes it has taken.

@@ -9,7 +9,7 @@ use std::marker::Model;
 
 /// A device that gives bytes.
 pub trait Source {
-    /// The bytes that it has still to give, where the device tells them.
+    /// The bytes that it has still to give, if the device tells them.
     ghost left: { Self → Option (List ℕ) };
 
     /// How many bytes it has given.

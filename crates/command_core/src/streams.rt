@@ -14,7 +14,7 @@ const PIECE_LENGTH: usize = 4096;
 /// Reads to the end of the source.
 ///
 /// # Errors
-/// `Reading` where a read failed, or where `limit` bytes came without an end; `Memory`.
+/// `Reading` if a read failed, or if `limit` bytes came without an end; `Memory`.
 pub fn read_below<S: Source>(
     alloc: Global,
     source: &mut S,
@@ -50,7 +50,7 @@ pub fn read_below<S: Source>(
 /// Writes the whole text.
 ///
 /// # Errors
-/// `Writing` where a write failed or took no byte; the sink has then taken a front of the text.
+/// `Writing` if a write failed or took no byte; the sink has then taken a front of the text.
 pub fn write_all<K: Sink>(sink: &mut K, text: &[u8]) -> Result<(), RunFault>
     requires { K.failed sink.old ≡ false }
     ensures all { OnOk result (Took K.taken K.written sink.old sink.new text.now) }

@@ -22,7 +22,7 @@ use Rattle.command_core.specs.declared.source.Source.{Ghosts as SourceGhosts}
 use Rattle.command_files.specs.Strict.{check_verdict}
 use Rattle.command_files.specs.declared.tally.Tally.{Tally}
 
--- ---- the contents of a file: its bytes, or none where it cannot be read
+-- ---- the contents of a file: its bytes, or none if it cannot be read
 
 -- the source gave these bytes to its end; or a read failed, or it gave as many bytes as no set-up has
 abbrev pub HasContents : {S : Type 0} → SourceGhosts S → S → S → Option (List ℕ) → Type 0
@@ -33,7 +33,7 @@ HasContents from old new None = (from.failed new ≡ true) ⊎ GaveAsMany from.l
 abbrev pub IsStandard : {S : Type 0} → (S → Type 0) → SourceGhosts S → Option (List ℕ) → Type 0
 IsStandard is_standard from contents = (unread read : _) × is_standard unread × HasContents from unread read contents
 
--- the contents of the file of that name; it has none where it cannot be opened
+-- the contents of the file of that name; it has none if it cannot be opened
 abbrev pub IsFile : {F E : Type 0} → (List ℕ → F → Type 0) → (List ℕ → E → Type 0) → SourceGhosts F → List ℕ → Option (List ℕ) → Type 0
 IsFile is_file is_fault from name contents =
     ((unread read : _) × is_file name unread × HasContents from unread read contents)
@@ -54,12 +54,12 @@ Each Is (name ∷ names) (contents ∷ rest) = Is name contents × Each Is names
 
 -- ---- what is made of a file
 
--- the count of a set-up's expectations, and how many of them are met; none, where it is refused
+-- the count of a set-up's expectations, and how many of them are met; none, if it is refused
 abbrev pub HasCountOf : Result SetupView Fault → Option ExpectationCount → Type 0
 HasCountOf (Ok setup) count = HasCounts setup.profile setup count
 HasCountOf (Err fault) count = count ≡ None
 
--- what is made of the contents of a file: nothing, where it has none
+-- what is made of the contents of a file: nothing, if it has none
 abbrev pub IsFoundFile : (List ℕ → CountedText → Type 0) → Option (List ℕ) → Option CountedText → Type 0
 IsFoundFile IsMade None None = ⊤
 IsFoundFile IsMade None (Some made) = ⊥

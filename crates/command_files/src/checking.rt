@@ -73,7 +73,7 @@ impl Telling for Summary {
 /// expected, counts as one that is not met.
 ///
 /// # Errors
-/// `Writing` where a write failed or took no byte; a front of the text was written then. `Memory`; nothing is written
+/// `Writing` if a write failed or took no byte; a front of the text was written then. `Memory`; nothing is written
 /// then, and the files behind are not run.
 pub fn check_files<I: Inputs, L: Listener<I::Standard, I::File, I::Fault>, K: Sink>(
     alloc: Global,

@@ -52,6 +52,6 @@ pub enum Used<S, F, E> {
 /// Who hears of each file, when it was checked or could not be read.
 pub trait Listener<S, F, E> {
     /// Hears of the file of that name: from what it was read, and the text that `check` writes for it, with the count of its
-    /// expectations; no text where it could not be read.
+    /// expectations; no text if it could not be read.
     fn hear(&self, name: &str, input: &Used<S, F, E>, found: Option<&CountedText>);
 }

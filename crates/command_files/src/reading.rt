@@ -8,7 +8,7 @@ use crate::telling::{FileAnswer, Telling, told_in};
 use command_core::{INPUT_LIMIT, RunFault, Source, read_below};
 use std::alloc::{AllocError, Global};
 
-/// Reads the source to its end, and makes what is told of it; nothing, where it cannot be read.
+/// Reads the source to its end, and makes what is told of it; nothing, if it cannot be read.
 fn make_source<T: Telling, S: Source>(
     alloc: Global,
     telling: &T,

@@ -48,7 +48,7 @@ impl Tally {
         }
     }
 
-    /// The exit status: 3 where a file could not be read, else 2 where a set-up is refused, else 1 where a file is unmet, else 0.
+    /// The exit status: 3 if a file could not be read, else 2 if a set-up is refused, else 1 if a file is unmet, else 0.
     pub fn status(&self) -> u8
         ensures { result ≡ tally_status self.now }
     {

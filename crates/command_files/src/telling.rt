@@ -78,7 +78,7 @@ pub trait Telling {
     fn add_head(&self, out: &mut Vec<u8>) -> Result<(), AllocError>
         ensures { OnOk result (out.new.items ≡ out.old.items ++ head self.now) };
 
-    /// Adds the line of the file of that name, by what was made of it; where nothing was, it could not be read.
+    /// Adds the line of the file of that name, by what was made of it; if nothing was, it could not be read.
     fn add_line(
         &self,
         alloc: Global,
@@ -148,7 +148,7 @@ fn tell_all<I: Inputs, L: Listener<I::Standard, I::File, I::Fault>, T: Telling>(
 /// text is written at the end.
 ///
 /// # Errors
-/// `Writing` where a write failed or took no byte; a front of the text was written then. `Memory`; nothing is written
+/// `Writing` if a write failed or took no byte; a front of the text was written then. `Memory`; nothing is written
 /// then, and the files behind are not read.
 pub fn tell_files<I: Inputs, L: Listener<I::Standard, I::File, I::Fault>, T: Telling, K: Sink>(
     alloc: Global,

@@ -49,7 +49,7 @@ how_words h = record {
   states = h.states;
 }
 
--- how many copies of the kernel are tried where no number is given
+-- how many copies of the kernel are tried if no number is given
 abbrev pub default_states : ℕ
 default_states = 2000
 
@@ -77,7 +77,7 @@ IsNothing text verdict = (text ≡ []) × (verdict ≡ Absent)
 abbrev pub IsLine : Names → Asking → NoWitness → List ℕ → Verdict → Type 0
 IsLine names q answer text verdict = (text ≡ how_line names q answer) × (verdict ≡ NotMet)
 
--- none is found: where the search ended at a number of copies, it is the one that was asked for
+-- none is found: if the search ended at a number of copies, it is the one that was asked for
 abbrev pub IsNotFound : ℕ → NoWitness → Type 0
 IsNotFound most Excluded = ⊥
 IsNotFound most ExcludedByFlow = ⊥
@@ -95,7 +95,7 @@ abbrev pub IsFound : ProfileName → Asking → ℕ → SetupView → ℕ → Ou
 IsFound p q most setup made (Witness text) = IsWitnessText p q setup made text.items
 IsFound p q most setup made (Without answer) = IsNotFound most answer
 
--- or it is said that a flow excludes it, where one does
+-- or it is said that a flow excludes it, if one does
 abbrev pub IsFoundUnlessFlow : ProfileName → Asking → ℕ → Shown → SetupView → ℕ → Outcome → Type 0
 IsFoundUnlessFlow p q most v setup made outcome =
     ((outcome ≡ Without ExcludedByFlow) × IsOutsideFlow p q v q.what) ⊎ IsFound p q most setup made outcome
@@ -107,17 +107,17 @@ IsWithout p q most uses v ExcludedByFlow = IsInside p q v q.what × IsOutsideFlo
 IsWithout p q most uses v NotFound = IsInside p q v q.what
 IsWithout p q most uses v (NotFoundOf copies) = IsInside p q v q.what × (copies ≡ most)
 
--- what comes of a question, by so many copies at most: a witness, where it is not excluded; or why there is none
+-- what comes of a question, by so many copies at most: a witness, if it is not excluded; or why there is none
 abbrev pub IsOutcome : ProfileName → Asking → ℕ → List PartUse → Shown → SetupView → ℕ → Outcome → Type 0
 IsOutcome p q most uses v setup made (Witness text) = IsInside p q v q.what × IsWitnessText p q setup made text.items
 IsOutcome p q most uses v setup made (Without answer) = IsWithout p q most uses v answer
 
--- the line that it is excluded by a flow, where it is; or what was looked for
+-- the line that it is excluded by a flow, if it is; or what was looked for
 abbrev pub IsInsideTold : ProfileName → Names → Asking → ℕ → Shown → SetupView → ℕ → List ℕ → Verdict → Type 0
 IsInsideTold p names q most v setup made text verdict =
     (IsOutsideFlow p q v q.what × IsLine names q ExcludedByFlow text verdict) ⊎ IsSought p names q most setup made text verdict
 
--- the line that it is excluded, where it is and is ruled out; where it is not, that it is excluded by a flow, or what was looked for
+-- the line that it is excluded, if it is and is ruled out; if it is not, that it is excluded by a flow, or what was looked for
 abbrev pub IsHowTold : ProfileName → Names → Asking → ℕ → List PartUse → Shown → SetupView → ℕ → List ℕ → Verdict → Type 0
 IsHowTold p names q most uses v setup made text verdict =
     (IsExcluded p q uses v × (IsRuledOut p q uses v q.what × IsLine names q Excluded text verdict))
@@ -138,7 +138,7 @@ abbrev pub IsToldOfThreads : ProfileName → Words → Names → SetupView → �
 IsToldOfThreads p w names setup made v from to text verdict =
     MatchBool (are_two_live v from to) (IsToldByParts p w names setup made v from to text verdict) (IsNothing text verdict)
 
--- of two threads, where each text stands for one
+-- of two threads, if each text stands for one
 abbrev pub IsToldOfMeant : ProfileName → Words → Names → SetupView → ℕ → Shown → Option ℕ → Option ℕ → List ℕ → Verdict → Type 0
 IsToldOfMeant p w names setup made v None to text verdict = IsNothing text verdict
 IsToldOfMeant p w names setup made v (Some from) None text verdict = IsNothing text verdict
@@ -148,8 +148,8 @@ IsToldOfMeant p w names setup made v (Some from) (Some to) text verdict = IsTold
 abbrev pub has_asked_how : ProfileName → Names → Plan → Shown → Words → Bool
 has_asked_how p names plan v w = are_meant Thread p names plan v w.without && are_meant Endpoint p names plan v w.by
 
--- the text and the verdict of what is shown behind so many calls: nothing, where `import --flows` made the set-up, since a thread uses
--- there what no call of it can name; nor where a word stands for nothing
+-- the text and the verdict of what is shown behind so many calls: nothing, if `import --flows` made the set-up, since a thread uses
+-- there what no call of it can name; nor if a word stands for nothing
 abbrev pub IsHowBy : Words → ProfileName → Names → SetupView → ℕ → Shown → List ℕ → Verdict → Type 0
 IsHowBy w p names setup made v text verdict =
     MatchBool (is_for_flows names) (IsNothing text verdict)

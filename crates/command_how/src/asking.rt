@@ -25,7 +25,7 @@ use setup_values::Name;
 use slot_core::{CapStore, DerivationStore, MakeStore};
 use std::alloc::{AllocError, Global};
 
-/// How many copies of the kernel are tried where no number is given.
+/// How many copies of the kernel are tried if no number is given.
 const STATES: u64 = 2_000;
 
 /// How many copies of the kernel are tried, by the number that is given.
@@ -46,14 +46,14 @@ pub fn flows_absent(alloc: Global) -> Result<Answer, AllocError>
     Ok(Answer::absent(alloc, absent))
 }
 
-/// What is asked behind the first calls of a set-up: whether it can happen from the thread `from` to the thread `to`; by messages but by the endpoints `by`, with a badge where one is given; where the threads `without` make no more calls; and
+/// What is asked behind the first calls of a set-up: whether it can happen from the thread `from` to the thread `to`; by messages but by the endpoints `by`, with a badge if one is given; if the threads `without` make no more calls; and
 /// by so many copies of the kernel at most. Each thread and each endpoint is given by its address, by its name, or by a slot of the
 /// root CNode (`object_meant`).
 ///
-/// The verdict is `AllMet` where the text is a witness: a set-up that makes the first calls, then others that show it, and meets all
-/// that it expects; `NotMet` with a line where it is excluded, or no calls are found; or `Absent` with nothing written: where
-/// `import --flows` made the set-up, where a word stands for nothing of its kind, where no thread is live at `from` or at `to`, and
-/// where both are one.
+/// The verdict is `AllMet` if the text is a witness: a set-up that makes the first calls, then others that show it, and meets all
+/// that it expects; `NotMet` with a line if it is excluded, or no calls are found; or `Absent` with nothing written: if
+/// `import --flows` made the set-up, if a word stands for nothing of its kind, if no thread is live at `from` or at `to`, and
+/// if both are one.
 #[derive(Clone, Copy, Drop)]
 pub struct How<'a> {
     pub what: Happening,
@@ -131,7 +131,7 @@ impl How<'_> {
         Ok(Answer::new(alloc, text, verdict))
     }
 
-    /// What is told where no thread is live at one of the two addresses, or both are one.
+    /// What is told if no thread is live at one of the two addresses, or both are one.
     fn no_two_threads<P: Profile, S: CapStore<P> + Drop, W: Waiters<P> + Drop>(
         &self,
         alloc: Global,
@@ -185,7 +185,7 @@ impl How<'_> {
             && are_meant::<P, S, W>(names, setup, kernel, ObjectKind::Endpoint, self.by)
     }
 
-    /// The answer where a word stands for nothing of its kind, or where there are not two threads.
+    /// The answer if a word stands for nothing of its kind, or if there are not two threads.
     fn absent<P: Profile, S: CapStore<P> + Drop, W: Waiters<P> + Drop>(
         &self,
         alloc: Global,
@@ -198,7 +198,7 @@ impl How<'_> {
         self.absent_of::<P, S, W>(alloc, behind, kernel, &[self.from, self.to])
     }
 
-    /// The same, where these are the words for the two threads.
+    /// The same, if these are the words for the two threads.
     fn absent_of<P: Profile, S: CapStore<P> + Drop, W: Waiters<P> + Drop>(
         &self,
         alloc: Global,
@@ -217,7 +217,7 @@ impl How<'_> {
         absent_answer::<P, S, W>(alloc, behind, kernel, &asked)
     }
 
-    /// The same, where each of the words for the two threads stands for one.
+    /// The same, if each of the words for the two threads stands for one.
     fn answer_meant<P: Profile, S: MakeStore<P> + DerivationStore<P>, W: MakeWaiters<P>>(
         &self,
         alloc: Global,

@@ -16,7 +16,7 @@ pub enum NoWitness {
     ExcludedByFlow,
     /// It is not excluded, and none were found.
     NotFound,
-    /// The same, where the search ended at so many copies of the kernel.
+    /// The same, if the search ended at so many copies of the kernel.
     NotFoundOf(u64),
 }
 

@@ -15,7 +15,7 @@ fn put(alloc: Global, table: &mut Table, key: &str, value: Value) -> Result<(), 
     Ok(())
 }
 
-/// A word, as a number where that can hold it, and as a hexadecimal string where not.
+/// A word, as a number if that can hold it, and as a hexadecimal string if not.
 fn word_value(alloc: Global, word: u64) -> Result<Value, AllocError> {
     if word > i64::MAX as u64 {
         return Ok(Value::String(format!(in alloc; "0x{word:x}")?));
@@ -23,7 +23,7 @@ fn word_value(alloc: Global, word: u64) -> Result<Value, AllocError> {
     Ok(Value::from(word as i64))
 }
 
-/// Whether a word of a call is the one that is meant where its key is left out.
+/// Whether a word of a call is the one that is meant if its key is left out.
 fn is_default<P: Profile>(op: &Op, words: &KeyWords, pair: &KeyWord) -> bool {
     let is_retype = matches!(*op, Op::Retype { .. });
     let is_space = matches!(*op, Op::SetSpace { .. });

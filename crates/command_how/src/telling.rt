@@ -93,7 +93,7 @@ fn text_of<P: Profile, S: MakeStore<P> + DerivationStore<P>, W: MakeWaiters<P>>(
     table_text(alloc, &table)
 }
 
-/// The text of a witness, where it passes the test when it is read again; that none is found, where it does not.
+/// The text of a witness, if it passes the test when it is read again; that none is found, if it does not.
 fn tested<P: Profile, S: MakeStore<P> + DerivationStore<P>, W: MakeWaiters<P>>(
     alloc: Global,
     behind: &Behind<'_>,
@@ -112,7 +112,7 @@ fn tested<P: Profile, S: MakeStore<P> + DerivationStore<P>, W: MakeWaiters<P>>(
     }
 }
 
-/// What is found where it is not excluded, by so many copies of the kernel at most.
+/// What is found if it is not excluded, by so many copies of the kernel at most.
 fn sought<P: Profile, S: MakeStore<P> + DerivationStore<P>, W: MakeWaiters<P>>(
     alloc: Global,
     behind: &Behind<'_>,
@@ -136,7 +136,7 @@ fn sought<P: Profile, S: MakeStore<P> + DerivationStore<P>, W: MakeWaiters<P>>(
     }
 }
 
-/// That a flow excludes it, where one does; or what is found.
+/// That a flow excludes it, if one does; or what is found.
 fn sought_unless_flow<P: Profile, S: MakeStore<P> + DerivationStore<P>, W: MakeWaiters<P>>(
     alloc: Global,
     behind: &Behind<'_>,

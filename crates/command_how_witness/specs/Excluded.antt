@@ -57,7 +57,7 @@ pub record IsExcluded (p : ProfileName) (q : Asking) (uses : List PartUse) (v : 
   pub right : AreRightParts p v q.without q.memory uses
   pub outside : IsOutside p q uses v q.what
 
--- ---- where the line says so, and where it does not
+-- ---- if the line says so, and if it does not
 
 -- what `never` answers of the two threads, by parts that may be told
 pub record IsNeverSaid (p : ProfileName) (q : Asking) (v : Shown) (answer : Never) : Type 0 where
@@ -66,7 +66,7 @@ pub record IsNeverSaid (p : ProfileName) (q : Asking) (v : Shown) (answer : Neve
   pub right : AreRightParts p v q.without memory uses
   pub answered : answer ≡ never p memory uses (waits p v) q.by q.from q.to
 
--- it is ruled out: of a message where `never` says so; of a hold and of a loss as above
+-- it is ruled out: of a message if `never` says so; of a hold and of a loss as above
 abbrev pub IsRuledOut : ProfileName → Asking → List PartUse → Shown → Happening → Type 0
 IsRuledOut p q uses v Message = IsNeverSaid p q v Excluded
 IsRuledOut p q uses v Hold = IsOutside p q uses v Hold

@@ -62,7 +62,7 @@ pub record PassesMessage (p : ProfileName) (A : State) (endpoint from to : ℕ) 
   pub earlier : List Reply
   pub answered : replies_of p A calls ≡ earlier ++ Delivered endpoint from to badge message ∷ []
 
--- where the one thread holds a capability to an endpoint with Write, and the other one with Read, each message passes, with the
+-- if the one thread holds a capability to an endpoint with Write, and the other one with Read, each message passes, with the
 -- badge of the one's capability
 abbrev pub CanPass : ProfileName → State → ℕ → ℕ → ℕ → Badge → Badge → Message → Type 0
 CanPass p A endpoint from to badge other message =

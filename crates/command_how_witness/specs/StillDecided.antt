@@ -30,7 +30,7 @@ IsDecided p q uses A =
     IsReached p A → AreRightParts p (shown A) q.without q.memory uses → LieInTwoStill p q.without q.memory uses (shown A) q.from q.to →
     q.what ≡ Message → q.badge ≡ None → IsExcluded p q uses (shown A) ⊎ IsShownAlone p q A
 
--- also where a badge is asked for: no calls show such a message, or sends of the one thread and receives of the other alone show it
+-- also if a badge is asked for: no calls show such a message, or sends of the one thread and receives of the other alone show it
 abbrev pub IsDecidedWithBadge : ProfileName → Asking → List PartUse → State → Type 0
 IsDecidedWithBadge p q uses A =
     IsReached p A → AreRightParts p (shown A) q.without q.memory uses → LieInTwoStill p q.without q.memory uses (shown A) q.from q.to →

@@ -13,7 +13,7 @@ pub enum Happening {
 }
 
 /// What is asked: whether it can happen from one thread to another, by calls of threads that lie in parts with this memory, but for
-/// those of `without`. Only messages by other endpoints than those of `by` count, with the badge, where one is given.
+/// those of `without`. Only messages by other endpoints than those of `by` count, with the badge, if one is given.
 #[derive(Clone, Copy)]
 pub struct Asked<'a> {
     pub what: Happening,

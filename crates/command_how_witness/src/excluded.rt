@@ -173,7 +173,7 @@ fn is_loss_excluded<P: Profile, S: MakeStore<P> + DerivationStore<P>, W: MakeWai
 ///
 /// # Errors
 ///
-/// `Memory` where memory was refused; `Block` where the control block of a live thread would end past the last address. No kernel
+/// `Memory` if memory was refused; `Block` if the control block of a live thread would end past the last address. No kernel
 /// whose objects lie in its memory has such a thread (`fault`).
 pub fn is_excluded<P: Profile, S: MakeStore<P> + DerivationStore<P>, W: MakeWaiters<P>>(
     alloc: Global,

@@ -12,17 +12,17 @@ ghost use Rattle.command_how_witness.specs.Excluded.{HasNoWitness, HasNoWitnessB
 ghost use Rattle.command_how_witness.specs.Still.{ChangesNoSlot, CanPass};
 ghost use Rattle.command_how_witness.specs.StillDecided.{IsDecided, IsDecidedWithBadge, IsToldDecided};
 
-/// Where it is excluded, no calls show it: there is never a witness and *excluded* of one question.
+/// If it is excluded, no calls show it: there is never a witness and *excluded* of one question.
 pub fn what_is_excluded_has_no_witness()
     ensures { (p : ProfileName) (q : Asking) (uses : List PartUse) (A : State) (calls : List Call) → HasNoWitness p q uses A calls }
 {}
 
-/// Where a flow excludes it, no calls show it: there is never a witness and *excluded by flow* of one question.
+/// If a flow excludes it, no calls show it: there is never a witness and *excluded by flow* of one question.
 pub fn what_a_flow_excludes_has_no_witness()
     ensures { (p : ProfileName) (q : Asking) (A : State) (calls : List Call) → HasNoWitnessByFlow p q A calls }
 {}
 
-/// What is excluded is never not excluded as well, of whatever parts that may be told: so a line says *excluded* exactly where it is.
+/// What is excluded is never not excluded as well, of whatever parts that may be told: so a line says *excluded* exactly if it is.
 pub fn what_is_excluded_is_decided()
     ensures { (p : ProfileName) (q : Asking) (uses : List PartUse) (A : State) → IsOnlyOne p q uses A }
 {}
@@ -51,7 +51,7 @@ pub fn still_parts_are_decided_with_badge()
     ensures { (p : ProfileName) (q : Asking) (uses : List PartUse) (A : State) → IsDecidedWithBadge p q uses A }
 {}
 
-/// Where `never` answers `possible decided`, such a message happens: sends of the one thread and receives of the other alone show it.
+/// If `never` answers `possible decided`, such a message happens: sends of the one thread and receives of the other alone show it.
 pub fn what_is_told_decided_is_shown()
     ensures { (p : ProfileName) (q : Asking) (uses : List PartUse) (A : State) → IsToldDecided p q uses A }
 {}

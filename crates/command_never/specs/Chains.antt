@@ -31,14 +31,14 @@ abbrev pub chain_lines : Texts → ℕ → Object → List FullSlot → List ℕ
 chain_lines texts thread object [] = []
 chain_lines texts thread object (s ∷ more) = chain_line texts thread object ++ flat_map (chain_slot_line texts) (s ∷ more)
 
--- the text of a shortest chain from a thread's root slot to a capability that is sought, to an object; nothing where there is no
+-- the text of a shortest chain from a thread's root slot to a capability that is sought, to an object; nothing if there is no
 -- chain
 pub record IsChainText (p : ProfileName) (texts : Texts) (f : Forest Entry) (thread : ℕ) (object : Object) (target : Target) (text : List ℕ) : Type 0 where
   pub chain : List FullSlot
   pub shortest : IsShortest p f target thread chain
   pub told : text ≡ chain_lines texts thread object chain
 
--- an endpoint that is open to part j: where part j has bytes of it any capability to it counts, and else one to send by
+-- an endpoint that is open to part j: if part j has bytes of it any capability to it counts, and else one to send by
 abbrev pub open_endpoint : ProfileName → List PartMemory → ℕ → ℕ → Target
 open_endpoint p memory j endpoint =
     record { first = endpoint; size = endpoint_size p; to_send = not (has_bytes p memory j endpoint) }

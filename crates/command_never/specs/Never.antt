@@ -20,7 +20,7 @@ use Rattle.command_parts.specs.Text.{is_part, is_use}
 abbrev pub has_some : ℕ → ℕ → ℕ → PartMemory → Bool
 has_some part first size m = m.part == part && (nat_lt m.first (first + size) && nat_le first m.last)
 
--- some byte of the endpoint is memory of the part, as all are where the part owns it
+-- some byte of the endpoint is memory of the part, as all are if the part owns it
 abbrev pub has_bytes : ProfileName → List PartMemory → ℕ → ℕ → Bool
 has_bytes p memory part endpoint = list_any (has_some part endpoint (endpoint_size p)) memory
 

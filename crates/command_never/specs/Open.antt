@@ -30,7 +30,7 @@ use Rattle.command_never.specs.Chains.{AreChains}
 
 -- ---- the endpoints that are allowed; and the answer: the threads with their parts
 
--- where these are the live endpoints
+-- the line of an endpoint that is allowed; these are the live endpoints
 abbrev pub allowed_line : PartTexts → List ℕ → ℕ → List ℕ
 allowed_line told live endpoint = terminated (codes "by " ++ (endpoint_told told endpoint ++ none_text (is_in endpoint live)))
 

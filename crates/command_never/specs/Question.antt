@@ -63,7 +63,7 @@ IsAnsweredOf p texts for_flows setup made refused without messages v by from to 
     × ((for_flows ≡ true → is_by_flow answer ≡ false) × (verdict ≡ never_verdict answer))))
     (IsAbsent text verdict)
 
--- of two threads, where each text stands for one
+-- of two threads, if each text stands for one
 abbrev pub IsNeverAnswered : Texts → ProfileName → Names → SetupView → ℕ → ℕ → Shown → Asked → Option ℕ → Option ℕ → List ℕ → Verdict → Type 0
 IsNeverAnswered texts p names setup made refused v asked None to text verdict = IsAbsent text verdict
 IsNeverAnswered texts p names setup made refused v asked (Some from) None text verdict = IsAbsent text verdict
@@ -75,7 +75,7 @@ IsNeverAnswered texts p names setup made refused v asked (Some from) (Some to) t
 abbrev pub has_asked : ProfileName → Names → Plan → Shown → Asked → Bool
 has_asked p names plan v asked = are_trusted p names plan v asked.trust && are_meant Endpoint p names plan v asked.by
 
--- the text and the verdict of what is shown, where so many calls were refused: nothing, where a word stands for nothing
+-- the text and the verdict of what is shown, if so many calls were refused: nothing, if a word stands for nothing
 abbrev pub IsNeverBy : Asked → Texts → ProfileName → Names → SetupView → ℕ → ℕ → Shown → List ℕ → Verdict → Type 0
 IsNeverBy asked texts p names setup made refused v text verdict =
     MatchBool (has_asked p names setup.plan v asked)

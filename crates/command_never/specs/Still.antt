@@ -32,7 +32,7 @@ pub record IsReadyToPass (p : ProfileName) (v : Shown) (thread : ℕ) : Type 0 w
   pub root : cap_at v.derivations thread ≡ CNode base radix guard
   pub whole : guard.size + radix ≡ word_bits p
 
--- a part is still where its CNodes hold nothing but endpoints' capabilities, and each of its live threads is such
+-- a part is still if its CNodes hold nothing but endpoints' capabilities, and each of its live threads is such
 pub record IsStill (p : ProfileName) (parts : Parts) (i : ℕ) (v : Shown) : Type 0 where
   pub passes : PassesAlone p parts i v.derivations
   pub threads : (thread : ℕ) → parts.part_of thread ≡ Some i → is_some (state_at v thread) ≡ true → IsReadyToPass p v thread

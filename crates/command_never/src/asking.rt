@@ -29,9 +29,9 @@ use std::alloc::{AllocError, Global};
 /// that of the thread `to`, but by the endpoints `by`. Each thread and each endpoint is given by its address, by
 /// its name, or by a slot of the root CNode (`object_meant`).
 ///
-/// The verdict is `AllMet` where it is excluded that the one part ever gets a capability to an object that has bytes in the
-/// other's memory, or that a message of it is ever delivered there, but by the endpoints that are named, and where flows exclude it
-/// of the two threads (`Never::ExcludedByFlow`); `NotMet` where that is not excluded; or `Absent` with nothing written: where a word stands for nothing of its kind, and where no thread is live at `from` or at `to`.
+/// The verdict is `AllMet` if it is excluded that the one part ever gets a capability to an object that has bytes in the
+/// other's memory, or that a message of it is ever delivered there, but by the endpoints that are named, and if flows exclude it
+/// of the two threads (`Never::ExcludedByFlow`); `NotMet` if that is not excluded; or `Absent` with nothing written: if a word stands for nothing of its kind, and if no thread is live at `from` or at `to`.
 #[derive(Clone, Copy, Drop)]
 pub struct Question<'a> {
     pub trust: Trust<'a>,
@@ -127,7 +127,7 @@ impl Question<'_> {
         answer_between::<P, S, W>(alloc, naming, &heading, from, to, by, is_for_flows, kernel)
     }
 
-    /// What is told where no thread is live at one of the two addresses.
+    /// What is told if no thread is live at one of the two addresses.
     fn no_thread<P: Profile, S: CapStore<P> + Drop, W: Waiters<P> + Drop>(
         &self,
         alloc: Global,
@@ -139,7 +139,7 @@ impl Question<'_> {
         format!(in alloc; "FROM,TO {word}: no thread is live there")
     }
 
-    /// The same, where each of the words for the two threads stands for one.
+    /// The same, if each of the words for the two threads stands for one.
     fn answer_meant<P: Profile, S: DerivationStore<P> + Drop, W: Waiters<P> + Drop>(
         &self,
         alloc: Global,
@@ -178,7 +178,7 @@ impl Question<'_> {
             && are_meant::<P, S, W>(names, setup, kernel, ObjectKind::Endpoint, self.by)
     }
 
-    /// The answer where a word stands for nothing of its kind, or where there are not two threads.
+    /// The answer if a word stands for nothing of its kind, or if there are not two threads.
     fn absent<P: Profile, S: CapStore<P> + Drop, W: Waiters<P> + Drop>(
         &self,
         alloc: Global,
@@ -191,7 +191,7 @@ impl Question<'_> {
         self.absent_of::<P, S, W>(alloc, behind, kernel, &[self.from, self.to])
     }
 
-    /// The same, where these are the words for the two threads.
+    /// The same, if these are the words for the two threads.
     fn absent_of<P: Profile, S: CapStore<P> + Drop, W: Waiters<P> + Drop>(
         &self,
         alloc: Global,

@@ -46,7 +46,7 @@ pub record AreNames (p : ProfileName) (plan : Plan) (names : Names) : Type 0 whe
 
 -- ---- the example
 
--- the message that is sent, and the call by a capability: a send where there is an endpoint, and else a suspend
+-- the message that is sent, and the call by a capability: a send if there is an endpoint, and else a suspend
 abbrev pub example_message : Message
 example_message = record { label = 7; words = (filled (1 ∷ [])).words; count = 1 }
 
@@ -78,14 +78,14 @@ pub record IsNew (asked : NewSetup) (text : List ℕ) : Type 0 where
   pub named : AreNames read.setup.profile read.setup.plan read.names
   pub calls : IsExample read.setup.profile read.setup.plan read.names read.setup.calls
 
--- such a text; nothing, where no plan fits; and nothing, where a plan fits whose text is refused: it is not read as promised
+-- such a text; nothing, if no plan fits; and nothing, if a plan fits whose text is refused: it is not read as promised
 abbrev pub IsNewAnswer : NewSetup → List ℕ → Verdict → Type 0
 IsNewAnswer asked text AllMet = IsNew asked text
 IsNewAnswer asked text NotMet = ⊥
 IsNewAnswer asked text Refused = (text ≡ []) × ((plan : Plan) × Fits asked.profile asked plan × ¬ IsNew asked (new_text asked.profile plan))
 IsNewAnswer asked text Absent = (text ≡ []) × NoneFits asked
 
--- what is written, and the verdict, whatever the input is; nothing, where no sizes are given
+-- what is written, and the verdict, whatever the input is; nothing, if no sizes are given
 abbrev pub IsNewText : Option NewSetup → List ℕ → List ℕ → Verdict → Type 0
 IsNewText None input text verdict = (text ≡ []) × (verdict ≡ Absent)
 IsNewText (Some asked) input text verdict = IsNewAnswer asked text verdict

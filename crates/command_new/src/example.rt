@@ -72,7 +72,7 @@ fn is_example_op(plan: &BootPlan, cap: u64, op: Op) -> bool
     }
 }
 
-/// The one call of a set-up, where the first client makes it, and where nothing is expected of it.
+/// The one call of a set-up, if the first client makes it, and if nothing is expected of it.
 fn only_call(setup: &Setup) -> Option<Call>
     ensures { MatchOption result ((call : CallValue) → setup.now.calls ≢ lone_call call) (λ call. setup.now.calls ≡ lone_call call) }
 {

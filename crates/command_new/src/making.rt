@@ -33,7 +33,7 @@ fn is_met_by<P: Profile>(
     Ok(has_names && asked.is_met_by(plan) && has_example::<P>(&known, &made.setup))
 }
 
-/// What a text is read as; none where it is refused.
+/// What a text is read as; none if it is refused.
 fn accepted(alloc: Global, text: &[u8]) -> Result<Option<ReadSetup>, AllocError>
     ensures read { IfOk result (λ made. MatchOption made (IsErr (read_of_bytes text.now)) (λ read. read_of_bytes text.now ≡ Ok (read_view read))) }
     ensures plan { IfOk result (λ made. IfSome made (λ read. IsPlan read.setup.profile read.setup.plan)) }
@@ -59,7 +59,7 @@ fn is_new<P: Profile>(alloc: Global, asked: &NewSetup, text: &[u8]) -> Result<bo
     is_met_by::<P>(alloc, asked, &made)
 }
 
-/// The text of a set-up of what is asked for, and the verdict; nothing where no plan fits, or where the text is refused.
+/// The text of a set-up of what is asked for, and the verdict; nothing if no plan fits, or if the text is refused.
 fn made_for<P: Profile>(alloc: Global, asked: &NewSetup) -> Result<Answer, AllocError>
     requires { P.profile ≡ asked.now.profile }
     ensures { IfOk result (λ made. IsNewAnswer asked.now made.text.items made.verdict) }
@@ -86,8 +86,8 @@ fn made_of(alloc: Global, asked: &NewSetup) -> Result<Answer, AllocError>
 }
 
 /// A set-up of the sizes that are asked for, whatever the input is, with a name for each thread, each capability's slot and one
-/// call as an example. The verdict is `AllMet`, or `Absent` with nothing written: where no sizes are given, or where no plan of a
-/// boot fits them. It is `Refused`, with nothing written too, where the text of a plan that fits is not read as such a set-up; no
+/// call as an example. The verdict is `AllMet`, or `Absent` with nothing written: if no sizes are given, or if no plan of a
+/// boot fits them. It is `Refused`, with nothing written too, if the text of a plan that fits is not read as such a set-up; no
 /// clause says that there is no such plan.
 #[derive(Clone, Copy)]
 pub struct Maker<'a> {

@@ -10,10 +10,10 @@ use cap_core::limits::{MAX_MEMORY_BITS, MAX_ROOT_RADIX, MIN_MEMORY_BITS, MIN_ROO
 use kernel_boot::BootPlan;
 use std::alloc::AllocError;
 
-/// The bits of the memory of a new set-up, where its objects have room in it.
+/// The bits of the memory of a new set-up, if its objects have room in it.
 const USUAL_MEMORY_BITS: u32 = 16;
 
-/// The plan of what is asked for, in a memory and with a root CNode of these sizes; none where it has a defect.
+/// The plan of what is asked for, in a memory and with a root CNode of these sizes; none if it has a defect.
 fn plan_of_sizes<P: Profile>(
     asked: &NewSetup,
     memory_bits: u32,
@@ -37,7 +37,7 @@ fn plan_of_sizes<P: Profile>(
     Ok(planned.ok())
 }
 
-/// The plan of what is asked for with a root CNode of that radix, in the least memory from `USUAL_MEMORY_BITS` on; none where
+/// The plan of what is asked for with a root CNode of that radix, in the least memory from `USUAL_MEMORY_BITS` on; none if
 /// there is none. A smaller memory has room for no more.
 fn plan_of_radix<P: Profile>(
     asked: &NewSetup,
@@ -71,8 +71,8 @@ fn plan_of_some_radix<P: Profile>(asked: &NewSetup) -> Result<Option<BootPlan>, 
     Ok(None)
 }
 
-/// A plan of what is asked for: with a root CNode of the usual radix, where there is such a plan, and else of the greatest one;
-/// none where no plan fits.
+/// A plan of what is asked for: with a root CNode of the usual radix, if there is such a plan, and else of the greatest one;
+/// none if no plan fits.
 pub(crate) fn fitting_plan<P: Profile>(asked: &NewSetup) -> Result<Option<BootPlan>, AllocError>
     ensures { IfOk result (λ made. MatchOption made ((plan : Plan) → ¬ Fits P.profile asked.now plan) (Fits P.profile asked.now)) }
 {

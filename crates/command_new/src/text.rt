@@ -118,7 +118,7 @@ fn add_objects<P: Profile>(out: &mut String, plan: &BootPlan) -> Result<(), Allo
     Ok(())
 }
 
-/// Adds a call as an example: a send where there is an endpoint, and else one that makes the thread inactive.
+/// Adds a call as an example: a send if there is an endpoint, and else one that makes the thread inactive.
 fn add_call(out: &mut String, plan: &BootPlan) -> Result<(), AllocError>
     ensures { OnOk result (string_bytes out.new ≡ string_bytes out.old ++ spec.first_call_text plan.now) }
 {

@@ -23,7 +23,7 @@ pub record AreRightParts (p : ProfileName) (v : Shown) (trusted : List ℕ) (mem
   pub least : AreLeast p (callers p v trusted) memory uses v
   pub callers : AreInParts p memory (callers p v trusted)
 
--- the text of such parts, where so many of the calls that are made were refused
+-- the text of such parts, if so many of the calls that are made were refused
 abbrev pub IsPartsText : ProfileName → Texts → SetupView → ℕ → ℕ → List ℕ → List ℕ → Shown → List ℕ → Type 0
 IsPartsText p texts setup made refused without messages v text =
     (memory : List PartMemory) × ((uses : List PartUse)

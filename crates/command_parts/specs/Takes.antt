@@ -27,7 +27,7 @@ abbrev pub is_part : ℕ → Option ℕ → Bool
 is_part part None = false
 is_part part (Some i) = i == part
 
--- the number of a part, where there is one
+-- the number of a part, if there is one
 abbrev pub part_or_none : Option ℕ → List ℕ
 part_or_none None = []
 part_or_none (Some part) = part ∷ []

@@ -23,12 +23,12 @@ threads_in memory threads part = filter (λ thread. is_part part (part_at memory
 abbrev pub thread_behind : Texts → ℕ → List ℕ
 thread_behind texts thread = codes "+" ++ texts.about thread
 
--- threads, with a `+` between two of them; where there is none, the number of their part
+-- threads, with a `+` between two of them; if there is none, the number of their part
 abbrev pub threads_or_number : Texts → ℕ → List ℕ → List ℕ
 threads_or_number texts part [] = decimal part
 threads_or_number texts part (thread ∷ more) = texts.about thread ++ flat_map (thread_behind texts) more
 
--- a part is told by the threads in its memory, where names stand in place of addresses; these are the live threads
+-- a part is told by the threads in its memory, if names stand in place of addresses; these are the live threads
 abbrev pub part_texts : Texts → List PartMemory → List ℕ → PartTexts
 part_texts texts memory threads = record {
   texts = texts;

@@ -128,7 +128,7 @@ is_use right part endpoint u = u.part == part && (u.endpoint == endpoint && has_
 abbrev pub sends_with_any : ℕ → ℕ → PartUse → Bool
 sends_with_any part endpoint u = is_use write_bit part endpoint u && u.badge.0 == 0
 
--- with any badge, where the part owns the endpoint, or has a use for any
+-- with any badge, if the part owns the endpoint, or has a use for any
 abbrev pub may_send_any : ProfileName → List PartMemory → List PartUse → ℕ → ℕ → Bool
 may_send_any p memory uses part endpoint = owns_endpoint p memory part endpoint || list_any (sends_with_any part endpoint) uses
 
@@ -177,7 +177,7 @@ passes_by Answer part endpoint u = is_answered part endpoint u
 abbrev pub may_pass : Passing → ProfileName → List PartMemory → List PartUse → ℕ → ℕ → Bool
 may_pass passing p memory uses part endpoint = owns_endpoint p memory part endpoint || list_any (passes_by passing part endpoint) uses
 
--- the badges of ways; where it is not messages that pass, 0 alone
+-- the badges of ways; if it is not messages that pass, 0 alone
 abbrev pub badges_by : Passing → ProfileName → List PartMemory → List PartUse → ℕ → ℕ → List ℕ
 badges_by Message p memory uses part endpoint = badges p memory uses part endpoint
 badges_by Grant p memory uses part endpoint = cond (may_pass Grant p memory uses part endpoint) (0 ∷ []) []
@@ -194,7 +194,7 @@ ways_from passing p memory uses from = flat_map (ways_on passing p memory uses f
 abbrev pub ways : Passing → ProfileName → List PartMemory → List PartUse → List Way
 ways passing p memory uses = flat_map (ways_from passing p memory uses) (parts_of memory)
 
--- ---- the ways of messages, where some parts only pass messages: these send by what they have
+-- ---- the ways of messages, if some parts only pass messages: these send by what they have
 
 abbrev pub badges_held : List PartUse → ℕ → ℕ → List ℕ
 badges_held held part endpoint = rising (map (λ (u : PartUse). u.badge.0) (filter (is_use write_bit part endpoint) held))
@@ -239,7 +239,7 @@ sel4_lines told p memory uses i j =
     lines_of_two told Grant p memory uses i j ++ (lines_of_two told Grant p memory uses j i
     ++ (lines_of_two told Answer p memory uses i j ++ lines_of_two told Answer p memory uses j i))
 
--- ---- takes: a part may take slots from another, where full slots of the other stand below its own
+-- ---- takes: a part may take slots from another, if full slots of the other stand below its own
 
 abbrev pub take_line : PartTexts → Take → List ℕ
 take_line told t = terminated (codes "take " ++ (told.part t.by ++ (codes " -> " ++ told.part t.of)))

@@ -13,7 +13,7 @@ use Rattle.command_parts.specs.Ever.{IsPartsText}
 use Rattle.command_core.specs.declared.fault.Verdict.{Verdict}
 use Rattle.command_core.specs.declared.fault.Verdict.TheVariants.{AllMet, Absent}
 
--- the text of parts of what is shown, where so many calls were refused, and the verdict; nothing, where a word for a trusted thread
+-- the text of parts of what is shown, if so many calls were refused, and the verdict; nothing, if a word for a trusted thread
 -- stands for none
 abbrev pub IsEverOf : Trusted → Texts → ProfileName → Names → SetupView → ℕ → ℕ → Shown → List ℕ → Verdict → Type 0
 IsEverOf trust texts p names setup made refused v text verdict =

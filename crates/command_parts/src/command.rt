@@ -25,7 +25,7 @@ use std::alloc::{AllocError, Global};
 
 /// What the threads of a set-up can never get, whatever they call, behind its first calls: closed parts of the memory, the endpoints
 /// that each may use, and the ways between them. Some threads are trusted. If `names` is set, objects that have a name are told by it,
-/// and a part by its threads. The verdict is `AllMet`, or `Absent` with nothing written where a word stands for no thread.
+/// and a part by its threads. The verdict is `AllMet`, or `Absent` with nothing written if a word stands for no thread.
 #[derive(Clone, Copy, Drop)]
 pub struct Ever<'a> {
     pub trust: Trust<'a>,
@@ -33,7 +33,7 @@ pub struct Ever<'a> {
 }
 
 impl Ever<'_> {
-    /// The text of a kernel, where each word stands for a thread.
+    /// The text of a kernel, if each word stands for a thread.
     fn text_of<P: Profile, S: DerivationStore<P> + Drop, W: Waiters<P> + Drop>(
         &self,
         alloc: Global,

@@ -27,7 +27,7 @@ pub struct Heading<'a> {
     pub messages: &'a [u64],
 }
 
-/// How many calls were refused, where some were.
+/// How many calls were refused, if some were.
 #[derive(Clone, Copy)]
 struct RefusedText(usize);
 

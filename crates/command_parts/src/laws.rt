@@ -9,7 +9,7 @@ ghost use Rattle.kernel_abstract.specs.Shown.{Shown};
 ghost use Rattle.command_parts.specs.NotTaken.{TakesNone};
 ghost use Rattle.command_parts.specs.Alone.{KeepsWhatItHas, SendsByTold};
 
-/// Where no line says that a part may take slots from another, no full slot of the other stands below a slot of the part. So, while
+/// If no line says that a part may take slots from another, no full slot of the other stands below a slot of the part. So, while
 /// both are closed, no call of the part empties a slot of the other, and this stays so (`revokes_take_what_stands_below`).
 pub fn what_is_not_told_is_not_taken()
     ensures { (memory : List PartMemory) (uses : List PartUse) (f : Forest Entry) (i j : ℕ) → TakesNone memory uses f i j }

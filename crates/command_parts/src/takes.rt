@@ -90,7 +90,7 @@ pub fn is_number(of: Option<u64>, part: u64) -> bool
     }
 }
 
-/// Adds a slot to a set, where it is to be kept.
+/// Adds a slot to a set, if it is to be kept.
 fn keep_slot(slots: &mut BTreeSet<u64>, slot: u64, keeps: bool) -> Result<(), AllocError>
     ensures { OnOk result ((all : List ℕ) → slots.old.keys ≡ rising_of all → slots.new.keys ≡ rising_of (cond keeps (slot ∷ all) all)) }
 {
@@ -179,7 +179,7 @@ impl Line<Take> for TakeLine<'_> {
     }
 }
 
-/// Adds a line where a part may take slots from another.
+/// Adds a line if a part may take slots from another.
 pub fn add_take_of(
     alloc: Global,
     out: &mut String,

@@ -145,7 +145,7 @@ impl<P: Profile, S: DerivationStore<P> + Drop, W: Waiters<P> + Drop> PartLines<'
     }
 }
 
-/// Adds the lines of parts, where the live threads and endpoints are known.
+/// Adds the lines of parts, if the live threads and endpoints are known.
 #[tactic(auto, unfolding(crate::specs::Text::ever_lines))]
 fn add_lines<P: Profile, S: DerivationStore<P> + Drop, W: Waiters<P> + Drop>(
     alloc: Global,
@@ -210,7 +210,7 @@ fn text_of_parts<P: Profile, S: DerivationStore<P> + Drop, W: Waiters<P> + Drop>
 ///
 /// # Errors
 ///
-/// `Memory` where memory was refused; `Block` where the control block of a live thread would end past the last address. No kernel
+/// `Memory` if memory was refused; `Block` if the control block of a live thread would end past the last address. No kernel
 /// whose objects lie in its memory has such a thread (`fault`).
 pub fn parts_of_callers<P: Profile, S: DerivationStore<P> + Drop, W: Waiters<P> + Drop>(
     alloc: Global,
@@ -240,7 +240,7 @@ pub fn all_trusted(alloc: Global, heading: &Heading<'_>) -> Result<Vec<u64>, All
 ///
 /// # Errors
 ///
-/// `Memory` where memory was refused; `Block` where the control block of a live thread would end past the last address. No kernel
+/// `Memory` if memory was refused; `Block` if the control block of a live thread would end past the last address. No kernel
 /// whose objects lie in its memory has such a thread (`fault`).
 pub fn ever<P: Profile, S: DerivationStore<P> + Drop, W: Waiters<P> + Drop>(
     alloc: Global,

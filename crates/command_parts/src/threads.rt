@@ -47,7 +47,7 @@ impl<'a> ObjectWords<'a> {
     }
 }
 
-/// The answer where not all words stand for an object: nothing is written, and the first that stands for none is told.
+/// The answer if not all words stand for an object: nothing is written, and the first that stands for none is told.
 pub fn absent_answer<P: Profile, S: CapStore<P> + Drop, W: Waiters<P> + Drop>(
     alloc: Global,
     behind: &Behind<'_>,
@@ -95,7 +95,7 @@ impl Trust<'_> {
             && are_meant::<P, S, W>(names, setup, kernel, ObjectKind::Thread, self.messages)
     }
 
-    /// The answer where one of the words stands for no thread: nothing is written, and the first such word is told.
+    /// The answer if one of the words stands for no thread: nothing is written, and the first such word is told.
     pub fn absent<P: Profile, S: CapStore<P> + Drop, W: Waiters<P> + Drop>(
         &self,
         alloc: Global,

@@ -21,7 +21,7 @@ use std::alloc::{AllocError, Global};
 use std::fmt::Write;
 use std::marker::PhantomData;
 
-/// A way: a part may send to an endpoint, with this badge, or with any where it is 0; another may receive there.
+/// A way: a part may send to an endpoint, with this badge, or with any if it is 0; another may receive there.
 #[derive(Clone, Copy)]
 pub struct Way {
     pub from: u64,
@@ -207,7 +207,7 @@ impl Access<'_> {
         Ok(receivers)
     }
 
-    /// The badges of the ways by which something passes; where it is not messages, or with any badge, 0 alone.
+    /// The badges of the ways by which something passes; if it is not messages, or with any badge, 0 alone.
     fn badges_by<P: Profile>(
         &self,
         alloc: Global,
@@ -471,7 +471,7 @@ pub fn ways_by<P: Profile>(
     Ok(ways)
 }
 
-/// The ways between parts by which messages pass, where some parts only pass messages: these send by what they have.
+/// The ways between parts by which messages pass, if some parts only pass messages: these send by what they have.
 pub fn message_ways<P: Profile>(
     alloc: Global,
     parts: &Parts,
@@ -491,7 +491,7 @@ pub fn message_ways<P: Profile>(
     Ok(ways)
 }
 
-/// How a way of messages is told, where some parts only pass messages.
+/// How a way of messages is told, if some parts only pass messages.
 #[derive(Clone, Copy)]
 pub struct MessageLine<'a> {
     pub told: &'a PartNaming<'a>,

@@ -1,4 +1,4 @@
--- What the program writes for the bytes that it reads where the clients of a set-up share one kernel, and its verdict.
+-- What the program writes for the bytes that it reads if the clients of a set-up share one kernel, and its verdict.
 use Rattle.std.specs.Prelude.{◌≡◌, ℕ, ◌<◌, ◌≤◌, ◌==◌, ◌⊎◌, min, Bool, true, List, [], ◌∷◌, ◌++◌, map, filter, length, take, Result, Ok, Err}
 use Rattle.cap_core.specs.declared.profile.ProfileName.{ProfileName}
 use Rattle.kernel_abstract.specs.declared.call.Call.{Call}
@@ -54,8 +54,8 @@ call_asked c = (c.client, c.call)
 -- A history that the clients of a set-up can make of a kernel that they share. It begins with the first calls of the set-up, in
 -- its order; behind them stand the calls that the clients then make. The replies are those of the abstract kernel from its boot
 -- on; each client's entries are numbered from 0 on, in order; there are no more entries than the set-up's limit; and each
--- client's entries carry a beginning of its calls. That is all of them where the history has as many entries as the set-up has
--- calls. Where it has fewer than the limit, it is all of them, or the gate may end the client (`ends`) before the call that would
+-- client's entries carry a beginning of its calls. That is all of them if the history has as many entries as the set-up has
+-- calls. If it has fewer than the limit, it is all of them, or the gate may end the client (`ends`) before the call that would
 -- come next; the gate counts the calls that the client makes behind the first.
 pub record IsSharedRun (ends : ℕ → ℕ → Type 0) (first : ℕ) (p : ProfileName) (setup : SetupView) (history : List Entry) : Type 0 where
   pub before : List Entry
@@ -94,7 +94,7 @@ abbrev pub IsSharedOutcome : Bool → (ℕ → ℕ → Type 0) → ℕ → Resul
 IsSharedOutcome by_name ends first (Ok read) text verdict = IsOutcomeIn by_name ends first read.setup.profile read.names read.setup text verdict
 IsSharedOutcome by_name ends first (Err fault) text verdict = (text ≡ refusal_line fault) × (verdict ≡ Refused)
 
--- what is right to write for the bytes of an input, by addresses or by names, in the profile that its set-up names, where so many
+-- what is right to write for the bytes of an input, by addresses or by names, in the profile that its set-up names, if so many
 -- calls are made first
 unfoldable pub IsSharedProgram : Bool → (ℕ → ℕ → Type 0) → ℕ → List ℕ → List ℕ → Verdict → Type 0
 IsSharedProgram by_name ends first input text verdict = IsSharedOutcome by_name ends first (read_of_bytes input) text verdict
@@ -114,7 +114,7 @@ IsToldIn by_name ends first p names setup text verdict unmet =
     (history : List Entry) × IsSharedRun ends first p setup history × IsReportOf by_name p names setup history text verdict
     × (unmet ≡ unmet_in setup history)
 
--- or of no call, where the set-up is refused
+-- or of no call, if the set-up is refused
 abbrev pub IsEndOf : Bool → (ℕ → ℕ → Type 0) → ℕ → Result ReadView Fault → List ℕ → Verdict → List ℕ → Type 0
 IsEndOf by_name ends first (Ok read) text verdict unmet =
     IsToldIn by_name ends first read.setup.profile read.names read.setup text verdict unmet

@@ -69,7 +69,7 @@ impl Numbered {
     }
 }
 
-/// Keeps how many entries a client has, where it is one that a set-up can name.
+/// Keeps how many entries a client has, if it is one that a set-up can name.
 fn set_count(counts: &mut [u32; COUNTED], client: u32, made: u32)
     ensures { (i : ℕ) → i < MAX_CLIENTS → slice_index counts.new i ≡ cond (i == client) made (slice_index counts.old i) }
 {

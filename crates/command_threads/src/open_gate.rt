@@ -8,7 +8,7 @@ const TURNS: u32 = 10_000;
 
 /// A gate that is always open. Before its first call a client gives up its turn until all clients have come to theirs, but
 /// not for ever; and after each call it gives up its turn once. So the calls of different clients come between one
-/// another also where each client makes only a few.
+/// another also if each client makes only a few.
 #[derive(Drop)]
 pub struct OpenGate {
     clients: u64,

@@ -63,13 +63,13 @@ fn any_wanted_memory<N: Naming, T: HistoryCopy<N>>(all: &[Driven<N, T>]) -> bool
     false
 }
 
-/// The clients of a drive, in their order, where each made all of its calls, found the history full, or was ended by the
+/// The clients of a drive, in their order, if each made all of its calls, found the history full, or was ended by the
 /// gate.
 ///
 /// # Errors
 ///
-/// - `Memory` where any client's call wanted memory, whatever stopped the others, or where this call wanted it;
-/// - `Ended` where another client lost a call, found its name taken, or was given no entry by its reader.
+/// - `Memory` if any client's call wanted memory, whatever stopped the others, or if this call wanted it;
+/// - `Ended` if another client lost a call, found its name taken, or was given no entry by its reader.
 pub fn clients_after<N: Naming, T: HistoryCopy<N>>(
     alloc: Global,
     all: Vec<Driven<N, T>>,

@@ -103,7 +103,7 @@ fn settle_after<N: Naming, P: Profile, S: MakeStore<P>, W: MakeWaiters<P>, R: Wa
 /// thread of its own.
 ///
 /// # Errors
-/// `Memory` where memory was wanted and not there, by any client too, whatever stopped the others. `Thread` where a thread
+/// `Memory` if memory was wanted and not there, by any client too, whatever stopped the others. `Thread` if a thread
 /// could not be started, the shared kernel gave a reader no entry, or a client lost a call or found its name taken.
 pub fn shared_run<
     N: Naming + Send + Sync,

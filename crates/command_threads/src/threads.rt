@@ -216,13 +216,13 @@ fn report_of_input_open<R: Threads + Wait + Sync>(
 /// Reads the source to its end, makes the first calls of the set-up that it holds, in the set-up's order, as many as `first`
 /// says or as the history has room for, and lets the clients then make the others of one kernel, each its own calls in a
 /// thread of its own, with the gate before and after each call. It writes the report of the history to the sink, or the
-/// line by which the set-up is refused. It waits until the clients have ended. A history may lack calls where it is full,
-/// and where the gate ended a client. What it found notes the calls of the history whose expectation is not met.
+/// line by which the set-up is refused. It waits until the clients have ended. A history may lack calls if it is full,
+/// and if the gate ended a client. What it found notes the calls of the history whose expectation is not met.
 ///
 /// # Errors
-/// `Reading` where a read failed in this call, or where `INPUT_LIMIT` bytes came without an end; nothing is written
-/// then. `Writing` where a write failed or took no byte; a front of the text was written then. `Memory` where memory was
-/// wanted and not there, by any client too, whatever stopped the others; nothing is written then. `Thread` where a
+/// `Reading` if a read failed in this call, or if `INPUT_LIMIT` bytes came without an end; nothing is written
+/// then. `Writing` if a write failed or took no byte; a front of the text was written then. `Memory` if memory was
+/// wanted and not there, by any client too, whatever stopped the others; nothing is written then. `Thread` if a
 /// thread could not be started, the shared kernel gave a reader no entry, or a client lost a call or found its name
 /// taken; nothing is written then.
 pub fn threads_found<R: Threads + Wait + Sync, S: Source, K: Sink, G: Gate + Sync>(
@@ -246,7 +246,7 @@ pub fn threads_found<R: Threads + Wait + Sync, S: Source, K: Sink, G: Gate + Syn
 }
 
 /// The same with a gate that is always open, an `OpenGate`, as the program's subcommand `threads` has it: a history lacks
-/// calls only where it is full. If `by_name` is set, objects and slots that have a name in the state after the calls are told by it.
+/// calls only if it is full. If `by_name` is set, objects and slots that have a name in the state after the calls are told by it.
 ///
 /// # Errors
 /// As `threads_found`.

@@ -17,11 +17,11 @@ held_capability e = (e.slot, e.cap)
 abbrev pub held_in : Forest Entry → Forest (ℕ × Cap)
 held_in f = renamed held_capability f
 
--- the forest behind the calls of a set-up that are asked for, where it has as many
+-- the forest behind the calls of a set-up that are asked for, if it has as many
 abbrev pub held_behind : Option ℕ → SetupView → Option (Forest (ℕ × Cap))
 held_behind after setup = option_map (λ made. held_in (state_behind setup.profile setup made).derivations) (calls_made setup after)
 
--- the same of what is read of an input; none where that is refused
+-- the same of what is read of an input; none if that is refused
 abbrev pub held_when_read : Option ℕ → Result ReadView Fault → Option (Forest (ℕ × Cap))
 held_when_read after (Ok read) = held_behind after read.setup
 held_when_read after (Err fault) = None

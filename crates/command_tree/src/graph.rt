@@ -36,7 +36,7 @@ fn add_node<P: Profile>(
     writeln!(out, "  {slot} [label=\"{text}\"];")
 }
 
-/// Adds the edge to a slot, where it is derived from another one.
+/// Adds the edge to a slot, if it is derived from another one.
 fn add_edge(out: &mut String, parent: Option<u64>, slot: u64) -> Result<(), AllocError>
     ensures { OnOk result (string_bytes out.new ≡ string_bytes out.old ++ spec.edge_line parent slot) }
 {

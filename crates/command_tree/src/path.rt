@@ -9,7 +9,7 @@ fn place_of(path: &[u64], slot: u64) -> Option<usize>
     path.iter().position(|s| *s == slot)
 }
 
-/// Keeps the slots of a path down to a slot; none where no slot is given.
+/// Keeps the slots of a path down to a slot; none if no slot is given.
 pub fn keep_to(path: &mut Vec<u64>, slot: Option<u64>)
     ensures { path.new.items ≡ kept slot path.old.items }
 {

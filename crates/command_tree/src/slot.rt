@@ -9,7 +9,7 @@ use setup_report::{CapText, Naming};
 use slot_core::Derivation;
 use std::fmt;
 
-/// A slot, and what it holds; a thread by addresses with its name behind it, where it has one.
+/// A slot, and what it holds; a thread by addresses with its name behind it, if it has one.
 #[derive(Clone, Copy)]
 pub struct SlotText<'a> {
     naming: &'a Naming<'a>,

@@ -1,4 +1,4 @@
--- A call as a set-up spells it: each of its keys with its value and, where the value is spelt by a name, that name.
+-- A call as a set-up spells it: each of its keys with its value and, if the value is spelt by a name, that name.
 use Rattle.std.specs.Prelude.{codes, ℕ, List, Option, option_map}
 use Rattle.toml.specs.Data.{Members}
 use Rattle.toml.specs.View.{table_view}

@@ -18,7 +18,7 @@ unfoldable pub explained_in : Bool → ProfileName → Option ℕ → ReadView �
 explained_in by_name p call read =
     (why_of (texts_after by_name p read.names read.setup) p read.table call read.setup, verdict_of read.setup.calls (replies_to p read.setup))
 
--- of each call that is refused, or of the one with a number; nothing, where the set-up has no call of that number
+-- of each call that is refused, or of the one with a number; nothing, if the set-up has no call of that number
 abbrev pub explained : Bool → ProfileName → Option ℕ → ReadView → List ℕ × Verdict
 explained by_name p call read = if is_absent call (length read.setup.calls) then ([], Absent) else explained_in by_name p call read
 

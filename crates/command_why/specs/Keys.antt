@@ -61,6 +61,6 @@ sent_message (Send cap message) = Some message
 sent_message (NbSend cap message) = Some message
 sent_message op = None
 
--- the word of a key; 0 where the operation has no such key
+-- the word of a key; 0 if the operation has no such key
 abbrev pub word_of : KeyWords → List ℕ → ℕ
 word_of words key = unwrap_or (word_named words key) 0

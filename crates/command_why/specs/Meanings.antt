@@ -6,7 +6,7 @@ use Rattle.setup_values.specs.Names.{Names, word_named}
 use Rattle.command_why.specs.Names.{name_at}
 use Rattle.command_why.specs.Keys.{KeyWords, key_words}
 
--- where a call's table spells the value of a key by a name, the name stands for this word
+-- if a call's table spells the value of a key by a name, the name stands for this word
 abbrev pub MeansWord : Names → Option Members → List ℕ × ℕ → Type 0
 MeansWord names table k = (name : List ℕ) → name_at table k.0 ≡ Some name → word_named names name ≡ Some k.1
 

@@ -10,7 +10,7 @@ name_in (c ∷ name) = if c == 64 then Some name else None
 abbrev pub spelt_name : Data → Option (List ℕ)
 spelt_name d = option_and_then name_in (as_str d)
 
--- the name by which a call's table spells the value of a key, where it does
+-- the name by which a call's table spells the value of a key, if it does
 abbrev pub name_at : Option Members → List ℕ → Option (List ℕ)
 name_at None key = None
 name_at (Some call) key = option_and_then spelt_name (get_member key call)

@@ -20,7 +20,7 @@ use Rattle.command_why.specs.Words.{is_whole}
 abbrev pub reason_line : List ℕ → List ℕ
 reason_line text = codes "  " ++ (text ++ codes "\n")
 
--- the name by which a value is spelt, where it has one
+-- the name by which a value is spelt, if it has one
 abbrev pub name_text : Option (List ℕ) → List ℕ
 name_text None = codes ""
 name_text (Some name) = codes " @" ++ name

@@ -20,11 +20,11 @@ use Rattle.command_why.specs.Asked.{AskedView}
 use Rattle.command_why.specs.Reasons.{reason_lines}
 use Rattle.command_why.specs.Tables.{call_table}
 
--- the lines of the reason for which a call is refused, in what is shown before it; None where it is not refused
+-- the lines of the reason for which a call is refused, in what is shown before it; None if it is not refused
 abbrev pub reason_lines_of : Texts → ProfileName → Shown → AskedView → Option (List ℕ)
 reason_lines_of texts p v a = option_map (reason_lines texts p v a) (reason_of p v a.call)
 
--- the call that is chosen is told, by its number from 1 on; where none is chosen, each that is refused
+-- the call that is chosen is told, by its number from 1 on; if none is chosen, each that is refused
 abbrev pub is_told : Option ℕ → ℕ → Option (List ℕ) → Bool
 is_told None number why = is_some why
 is_told (Some chosen) number why = chosen == number
@@ -33,7 +33,7 @@ abbrev pub why_lines : Option (List ℕ) → List ℕ
 why_lines None = reason_line (codes "not refused")
 why_lines (Some lines) = lines
 
--- the text of a call, and why it is refused, where it is told
+-- the text of a call, and why it is refused, if it is told
 abbrev pub explained_lines : Option ℕ → ℕ → List ℕ → Option (List ℕ) → List ℕ
 explained_lines chosen number text why = if is_told chosen number why then terminated text ++ why_lines why else codes ""
 
@@ -59,7 +59,7 @@ is_refused reply = false
 abbrev pub refused_count : List Reply → ℕ
 refused_count replies = length (filter is_refused replies)
 
--- the last lines, where no call is chosen: of how many calls how many are refused, and the report's last line
+-- the last lines, if no call is chosen: of how many calls how many are refused, and the report's last line
 abbrev pub why_ending : Option ℕ → ℕ → ℕ → ℕ → ℕ → List ℕ
 why_ending (Some chosen) calls refused met expected = codes ""
 why_ending None calls refused met expected =

@@ -1,4 +1,4 @@
-//! The calls of a set-up, each made, and told where it is refused or chosen.
+//! The calls of a set-up, each made, and told if it is refused or chosen.
 ghost use Rattle.std.specs.Prelude.{◌≡◌, ◌++◌, ◌+◌, ◌<◌, IfOk, OnOk, Some, length, map, option_map, option_copied, slice_get, string_bytes};
 ghost use Rattle.toml.specs.View.{table_view};
 ghost use Rattle.kernel_abstract.specs.Reached.{IsReached, StepsTo};
@@ -45,7 +45,7 @@ fn add_why(out: &mut String, why: &Option<String>) -> Result<(), AllocError>
     }
 }
 
-/// Adds the lines of a call, with its number from 1 on, where it is told.
+/// Adds the lines of a call, with its number from 1 on, if it is told.
 fn add_call_lines(
     alloc: Global,
     out: &mut String,
@@ -69,7 +69,7 @@ fn add_call_lines(
     }
 }
 
-/// Makes the call at place `i` of a set-up, and adds its lines where it is told: its line of the report, and why it is
+/// Makes the call at place `i` of a set-up, and adds its lines if it is told: its line of the report, and why it is
 /// refused.
 fn make_call<P: Profile, S: DerivationStore<P> + Drop, W: Waiters<P> + Drop>(
     alloc: Global,

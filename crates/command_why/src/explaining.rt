@@ -36,7 +36,7 @@ fn add_reason<P: Profile, S: DerivationStore<P> + Drop, W: Waiters<P> + Drop>(
     }
 }
 
-/// The lines of the reason why the kernel, as it stands, refuses a call; `None` where it does not.
+/// The lines of the reason why the kernel, as it stands, refuses a call; `None` if it does not.
 pub fn explain<P: Profile, S: DerivationStore<P> + Drop, W: Waiters<P> + Drop>(
     alloc: Global,
     kernel: &Kernel<P, S, W>,

@@ -32,7 +32,7 @@ fn refused_count(replies: &[Reply]) -> usize
         .count()
 }
 
-/// Adds the last lines, where no call is chosen: of how many calls how many are refused, and how many of the expectations are
+/// Adds the last lines, if no call is chosen: of how many calls how many are refused, and how many of the expectations are
 /// met.
 fn add_ending(
     out: &mut String,
@@ -74,7 +74,7 @@ pub fn naming_after<'a, P: Profile, S: MakeStore<P> + DerivationStore<P>, W: Mak
 
 /// Why the calls of a set-up are refused, in the profile of its plan: for each refused call the report's own line, and one to
 /// four lines below it of the check that failed and of what was found there; then how many calls are refused, and how many of
-/// the expectations are met. Where a call is chosen by its number from 1 on, its lines alone, also where it is not refused.
+/// the expectations are met. If a call is chosen by its number from 1 on, its lines alone, also if it is not refused.
 /// All calls are made. `table` is the table that the set-up was read from: a value that it spells by a name has that name
 /// beside it. Objects and slots stand as a naming tells them.
 ///

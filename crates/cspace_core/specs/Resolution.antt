@@ -39,7 +39,7 @@ choice_by_radix p base radix bits =
     cond (nat_lt (length bits) radix) (Err DepthMismatch)
     (Ok (record { slot = slot_of p base (number_from_digits 2 (take radix bits)); left = drop radix bits }))
 
--- the bits after the guard's are looked at, where the guard's come first
+-- the bits after the guard's are looked at, if the guard's come first
 abbrev pub choice_after_guard : ProfileName → ℕ → ℕ → Option (List ℕ) → Result Choice LookupFault
 choice_after_guard p base radix None = Err GuardMismatch
 choice_after_guard p base radix (Some bits) = choice_by_radix p base radix bits
@@ -49,7 +49,7 @@ abbrev pub choice : ProfileName → Cap → List ℕ → Result Choice LookupFau
 choice p (CNode base radix guard) bits = choice_after_guard p base radix (after_front (guard_bits guard) bits)
 choice p _ bits = Err InvalidRoot
 
--- where bits are left and the slot holds a CNode, `there` goes on with both; else the slot is found
+-- if bits are left and the slot holds a CNode, `there` goes on with both; else the slot is found
 abbrev pub found_or : (ℕ → Cap) → (Cap → List ℕ → Result Found LookupFault) → Result Choice LookupFault → Result Found LookupFault
 found_or cap_in there (Err fault) = Err fault
 found_or cap_in there (Ok c) =

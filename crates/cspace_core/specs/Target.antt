@@ -12,7 +12,7 @@ use Rattle.slot_core.specs.Places.{address_of}
 use Rattle.cspace_core.specs.Bits.{low_bits}
 use Rattle.cspace_core.specs.Resolution.{Found, is_cnode, resolution}
 
--- the slot that is found, by its address, where no bits are left over
+-- the slot that is found, by its address, if no bits are left over
 abbrev pub found_whole : Result Found LookupFault → Result ℕ Refusal
 found_whole (Ok found) = cond (found.left == 0) (Ok found.slot) (Err (FailedLookup DepthMismatch))
 found_whole (Err fault) = Err (FailedLookup fault)

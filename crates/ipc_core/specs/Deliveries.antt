@@ -31,7 +31,7 @@ abbrev pub delivery_of_pair : SendRecord × ReceiveRecord → Delivery
 delivery_of_pair pair =
     record { from = pair.0.thread.base; badge = pair.0.badge; message = pair.0.message; to = pair.1.thread.base }
 
--- what was delivered, where a send or a receive was answered so
+-- what was delivered, if a send or a receive was answered so
 abbrev pub delivered_by : SendRecord → Sent → List Delivery
 delivered_by s (S.Delivered to) =
     record { from = s.thread.base; badge = s.badge; message = s.message; to = to } ∷ []

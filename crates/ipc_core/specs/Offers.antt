@@ -18,7 +18,7 @@ abbrev pub offer_in : ℕ → List Waiter → Option Offer
 offer_in t [] = None
 offer_in t (x ∷ list) = option_or (cond (thread_of x == t) (offer_by x) None) (offer_in t list)
 
--- what a thread sends that waits in this role, and none does where it waits nowhere
+-- what a thread sends that waits in this role, and none does if it waits nowhere
 abbrev pub offer_as : Option Role → ℕ → Waits → Option Offer
 offer_as None t w = None
 offer_as (Some (Receiving e)) t w = None

@@ -7,14 +7,14 @@ use Rattle.ipc_core.specs.declared.waiter.Received.{Received}
 use Rattle.ipc_core.specs.declared.waiter.Received.TheVariants as R
 use Rattle.ipc_core.specs.Records.{SendRecord, ReceiveRecord, waiting_list}
 
--- a send is accepted where it waits or where more receives than sends stand; a receive likewise
+-- a send is accepted if it waits or if more receives than sends stand; a receive likewise
 abbrev pub is_send_accepted : Bool → List SendRecord → List ReceiveRecord → Bool
 is_send_accepted block sends receives = block || nat_lt (length sends) (length receives)
 
 abbrev pub is_receive_accepted : Bool → List SendRecord → List ReceiveRecord → Bool
 is_receive_accepted block sends receives = block || nat_lt (length receives) (length sends)
 
--- the sends, with one more where it is accepted; the receives likewise
+-- the sends, with one more if it is accepted; the receives likewise
 abbrev pub sends_with : Bool → SendRecord → List SendRecord → List ReceiveRecord → List SendRecord
 sends_with block s sends receives = cond (is_send_accepted block sends receives) (sends ++ s ∷ []) sends
 

@@ -58,7 +58,7 @@ abbrev pub served : ℕ → ℕ → Waits → Waits
 served e thread w =
     record { queue = changed w.queue e (drop 1 (w.queue e)); role = changed w.role thread None }
 
--- a send where this receiver is the first, or none
+-- a send if this receiver is the first, or none
 abbrev pub sent_to : Option ℕ → Bool → Sent
 sent_to (Some to) block = S.Delivered to
 sent_to None block = cond block S.Waiting S.Dropped
@@ -76,7 +76,7 @@ abbrev pub after_send : Bool → ℕ → ℕ → Badge → Message → Waits →
 after_send block e thread badge message w =
     waits_sent_to (first_receiver (w.queue e)) block e thread (Sender thread badge message) w
 
--- a receive where this sender is the first, or none
+-- a receive if this sender is the first, or none
 abbrev pub received_from : Option Offer → Bool → Received
 received_from (Some offer) block = R.Delivered offer.thread offer.badge offer.message
 received_from None block = cond block R.Waiting R.Empty

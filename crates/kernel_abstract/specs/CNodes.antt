@@ -34,7 +34,7 @@ abbrev pub ensure_set : Reason → Option Cap → Result Cap Reason
 ensure_set reason (Some cap) = Ok cap
 ensure_set reason None = Err reason
 
--- a capability that may be derived from the one in a slot: an untyped one where nothing was derived from it
+-- a capability that may be derived from the one in a slot: an untyped one if nothing was derived from it
 abbrev pub ensure_childless : Held → Cap → Option ℕ → Result Cap Reason
 ensure_childless source cap None = Ok cap
 ensure_childless source cap (Some child) = Err (HasChildren source child)

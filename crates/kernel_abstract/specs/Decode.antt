@@ -1,4 +1,4 @@
--- The checks of a call, in their order, each with the reason where it fails. They read only what is shown.
+-- The checks of a call, in their order, each with the reason if it fails. They read only what is shown.
 use Rattle.std.specs.Prelude.{ℕ, Bool, true, false, ◌==◌, cond, Option, None, Some, Result, Ok, Err}
 use Rattle.std.specs.Int.RustNames.{bit_and}
 use Rattle.std.specs.FinMap.{get}

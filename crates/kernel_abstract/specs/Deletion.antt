@@ -21,7 +21,7 @@ checked_slot p f at index depth =
     of_kind kind.CNode (held_at (cap_at f) at) >>= λ node.
     slot_by_index p (cap_at f) Index at index depth
 
--- the endpoint and the badge of the capability in a slot, where it is an endpoint's with all rights
+-- the endpoint and the badge of the capability in a slot, if it is an endpoint's with all rights
 abbrev pub ensure_all_rights : ℕ → Cap → Result Service Reason
 ensure_all_rights slot (Endpoint base badge rights) =
     cond (rights.0 == all_rights.0) (Ok (record { endpoint = base; badge = badge }))

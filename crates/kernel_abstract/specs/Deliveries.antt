@@ -9,7 +9,7 @@ use Rattle.kernel_abstract.specs.Cancelling.{is_endpoint_live}
 use Rattle.kernel_abstract.specs.State.{State, pairs, sends_to, receives_of}
 use Rattle.kernel_abstract.specs.Step.{step, state_after}
 
--- an endpoint is live where its object is live and was not made anew
+-- an endpoint is live if its object is live and was not made anew
 abbrev pub is_live : State → Instance → Bool
 is_live A e = is_endpoint_live A A.derivations e
 

@@ -84,13 +84,13 @@ is_of_kind kind.Tcb cap = is_some (tcb_base cap)
 is_of_kind kind.Endpoint cap = is_some (endpoint_base cap)
 is_of_kind kind.CNode cap = is_cnode cap
 
--- the invoked capability, where it is of the kind that the operation asks for
+-- the invoked capability, if it is of the kind that the operation asks for
 abbrev pub of_kind : Kind → Held → Result Cap Reason
 of_kind kind held =
     cond (is_null held.cap) (Err (NoCapability held.slot kind))
     (cond (is_of_kind kind held.cap) (Ok held.cap) (Err (OtherKind held kind)))
 
--- a slot that was found, where it is empty, and where it is full
+-- a slot that was found, if it is empty, and if it is full
 abbrev pub ensure_empty : Forest Entry → Result ℕ Reason → Result ℕ Reason
 ensure_empty f (Ok slot) = cond (is_null (cap_at f slot)) (Ok slot) (Err (IsFull (held_at (cap_at f) slot)))
 ensure_empty f (Err reason) = Err reason

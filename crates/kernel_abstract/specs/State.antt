@@ -67,7 +67,7 @@ first_of (Some e) _ other = Sending e
 first_of None (Some e) other = Receiving e
 first_of None None other = other
 
--- a thread waits where it has a send or a receive that waits on a live endpoint; else it is Inactive or Ready
+-- a thread waits if it has a send or a receive that waits on a live endpoint; else it is Inactive or Ready
 abbrev pub state_of : State → Instance → ThreadState
 state_of A t =
     first_of (find (is_sending A t) (endpoints_of A.derivations)) (find (is_receiving A t) (endpoints_of A.derivations))

@@ -47,7 +47,7 @@ abbrev pub receive_record : State → ℕ → Service → ReceiveRecord
 receive_record A thread service =
     record { number = A.count + 1; endpoint = endpoint_at A service.endpoint; thread = thread_at A thread }
 
--- the message is delivered where the record completes a pair: where there is a partner at its place
+-- the message is delivered if the record completes a pair: if there is a partner at its place
 abbrev pub reply_to_send : SendRecord → Option ReceiveRecord → Reply
 reply_to_send s (Some a) = Delivered s.endpoint.base s.thread.base a.thread.base s.badge s.message
 reply_to_send s None = Waiting
@@ -80,7 +80,7 @@ is_send_awaited A e = nat_lt (length (sends_to A e)) (length (receives_of A e))
 abbrev pub is_receive_awaited : State → Instance → Bool
 is_receive_awaited A e = nat_lt (length (receives_of A e)) (length (sends_to A e))
 
--- an operation that does not wait is accepted only where it is awaited; otherwise nothing but the count changes
+-- an operation that does not wait is accepted only if it is awaited; otherwise nothing but the count changes
 abbrev pub where_awaited : State → Bool → Outcome → Reply → Outcome
 where_awaited A awaited accepted reply = cond awaited accepted (record { reply = reply; state = next_call A })
 
@@ -88,7 +88,7 @@ where_awaited A awaited accepted reply = cond awaited accepted (record { reply =
 abbrev pub rearranged : State → Forest Entry → Outcome
 rearranged A f = record { reply = Done; state = record (next_call A) { derivations = f } }
 
--- the number of this call where an object stands at one of these addresses, and else its former birth
+-- the number of this call if an object stands at one of these addresses, and else its former birth
 abbrev pub born_at : State → List ℕ → (ℕ → ℕ) → ℕ → ℕ
 born_at A bases birth base = cond (list_any (λ b. base == b) bases) (A.count + 1) (birth base)
 
@@ -143,7 +143,7 @@ outcome p A thread (Ok invocation) = performed p A thread invocation
 unfoldable pub step : ProfileName → State → Call → Outcome
 step p A call = outcome p A call.thread (decoded_call p (shown A) call)
 
--- the refusal that a reply is; None where it is none
+-- the refusal that a reply is; None if it is none
 abbrev pub refusal_in : Reply → Option Refusal
 refusal_in (Refused refusal) = Some refusal
 refusal_in reply = None

@@ -25,7 +25,7 @@ abbrev pub checked_tcb : ℕ → Cap → Result ℕ Reason
 checked_tcb slot (Tcb base) = Ok base
 checked_tcb slot cap = cond (is_null cap) (Err (NoCapability slot kind.Tcb)) (Err (OtherKind (record { slot = slot; cap = cap }) kind.Tcb))
 
--- the CNode's capability in a slot, with the guard that a word holds where it is not 0
+-- the CNode's capability in a slot, with the guard that a word holds if it is not 0
 abbrev pub space_cap : ProfileName → ℕ → ℕ → Cap → Result Cap Reason
 space_cap p word slot cap =
     cond (is_cnode cap) (cond (word == 0) (Ok cap) (ensure_set (no_data p Root word slot cap) (with_data p false word cap)))
@@ -39,7 +39,7 @@ checked_space p f thread slot root word =
     space_cap p word source (cap_at f source) >>= λ cap.
     Ok (record { tcb = tcb; invoked = slot; source = source; cap = cap })
 
--- the root slot is cleared; then, where the invoked slot and the source are still full, the capability is derived into it
+-- the root slot is cleared; then, if the invoked slot and the source are still full, the capability is derived into it
 abbrev pub with_space : ProfileName → NewSpace → Forest Entry → Forest Entry
 with_space p new f =
     let g = clear p new.tcb f in

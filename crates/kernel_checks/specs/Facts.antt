@@ -15,7 +15,7 @@ told_by_miss (OtherGuard node left read) = node ∷ []
 told_by_miss (TooFewBits node left) = node ∷ []
 told_by_miss (BitsLeft found left) = found ∷ []
 
--- the slots that a reason names, each with what it says is in it: nothing, where it says that the slot is empty
+-- the slots that a reason names, each with what it says is in it: nothing, if it says that the slot is empty
 abbrev pub told_by : Reason → List Held
 told_by (NotFound word from miss) = from ∷ told_by_miss miss
 told_by (NoDepth word from most) = from ∷ []

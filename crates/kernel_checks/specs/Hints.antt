@@ -1,4 +1,4 @@
--- What would lead to a slot where a lookup fails: another depth, or a slot's number in place of its address.
+-- What would lead to a slot if a lookup fails: another depth, or a slot's number in place of its address.
 use Rattle.std.specs.Prelude.{ℕ, zero, suc, ◌+◌, ◌/◌, ◌%◌, ◌^◌, cond, ◌==◌, nat_lt, Option, None, Some, Result, Ok, Err}
 use Rattle.cap_core.specs.declared.profile.ProfileName.{ProfileName}
 use Rattle.cap_core.specs.declared.capability.Cap.{Cap}
@@ -34,7 +34,7 @@ depth_from p cap_in root index depth (suc count) =
 abbrev pub depth_hint : ProfileName → (ℕ → Cap) → ℕ → ℕ → Option Hint
 depth_hint p cap_in root index = depth_from p cap_in root index 1 (word_bits p)
 
--- a word that is a slot's address, where the number of that slot leads to it
+-- a word that is a slot's address, if the number of that slot leads to it
 abbrev pub where_same : ℕ → ℕ → Result ℕ Reason → Option Hint
 where_same word number (Ok slot) = cond (slot == word) (Some (Number number word)) None
 where_same word number (Err reason) = None

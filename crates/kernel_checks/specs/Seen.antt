@@ -7,7 +7,7 @@ use Rattle.cspace_core.specs.Bits.{low_bits}
 use Rattle.cspace_core.specs.Resolution.{Choice, Found}
 use Rattle.kernel_abstract.specs.declared.reason.Miss.{Miss}
 
--- with whatever is answered where a check fails
+-- with whatever is answered if a check fails
 abbrev pub slot_seen : {E : Type 0} → ProfileName → Result Slot E → Result ℕ E
 slot_seen p (Ok slot) = Ok (address_of p slot)
 slot_seen p (Err failure) = Err failure

@@ -14,7 +14,7 @@ full l n = list_any (is_at n) l
 abbrev pub has_all : List Entry → (ℕ → Bool) → Entry → Bool
 has_all l X a = list_all (λ (b : Entry). not (same_object a.cap b.cap) || X b.slot) l
 
--- where the set has all capabilities of a live object, it has that object's full slots
+-- if the set has all capabilities of a live object, it has that object's full slots
 abbrev pub IsClosed : ProfileName → List Entry → (ℕ → Bool) → Type 0
 IsClosed p l X =
     Each (λ (a : Entry). has_all l X a ≡ true → Each (λ n. full l n ≡ true → X n ≡ true) (slots_of p a.cap)) l

@@ -7,7 +7,7 @@ use Rattle.cap_core.specs.Objects.{is_untyped, badge_of, same_object}
 use Rattle.kernel_forest.specs.Forest.{Forest, preorder, below, after, root, out, renamed}
 use Rattle.kernel_forest.specs.Entries.{Entry, entry, is_at, is_original, cap_at}
 
--- a capability derived from one in a slot is original where it is untyped or its badge is another
+-- a capability derived from one in a slot is original if it is untyped or its badge is another
 abbrev pub is_new_original : Cap → Cap → Bool
 is_new_original from cap = is_untyped cap || not (badge_of cap == badge_of from)
 

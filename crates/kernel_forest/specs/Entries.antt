@@ -29,7 +29,7 @@ caps f = map (λ (e : Entry). e.cap) (preorder f)
 abbrev pub is_full : ℕ → Forest Entry → Bool
 is_full slot f = list_any (is_at slot) (preorder f)
 
--- the capability of the first entry at a slot, and Null where there is none
+-- the capability of the first entry at a slot, and Null if there is none
 abbrev pub cap_in : ℕ → List Entry → Cap
 cap_in slot [] = Null
 cap_in slot (e ∷ es) = cond (e.slot == slot) e.cap (cap_in slot es)

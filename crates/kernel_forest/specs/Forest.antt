@@ -42,7 +42,7 @@ abbrev pub ancestors : {A : Type 0} → (A → Bool) → Forest A → List A
 ancestors is none = []
 ancestors is (tree a under others) = cond (has is under) (a ∷ ancestors is under) (ancestors is others)
 
--- each, in preorder, and what it stands right below, where it stands below one; the tops stand below `above`
+-- each, in preorder, and what it stands right below, if it stands below one; the tops stand below `above`
 abbrev pub parented : {A : Type 0} → Option A → Forest A → List (A × Option A)
 parented above none = []
 parented above (tree a under others) = (a, above) ∷ (parented (Some a) under ++ parented above others)

@@ -29,7 +29,7 @@ with_cap cap r = marked r.place cap r.revocable r.first_badged
 abbrev pub at_place : ℕ → Marked → Marked
 at_place place r = marked place r.cap r.revocable r.first_badged
 
--- first badged, where it or the one in front of it was
+-- first badged, if it or the one in front of it was
 abbrev pub with_mark : Bool → Marked → Marked
 with_mark mark r = marked r.place r.cap r.revocable (r.first_badged || mark)
 
@@ -102,7 +102,7 @@ abbrev pub first_place : List Marked → Option ℕ
 first_place [] = None
 first_place (r ∷ l) = Some r.place
 
--- the place before it, where `before` comes before the list, and the place after it
+-- the place before it, if `before` comes before the list, and the place after it
 abbrev pub previous_in : ℕ → Option ℕ → List Marked → Option ℕ
 previous_in place before [] = None
 previous_in place before (r ∷ l) = cond (r.place == place) before (previous_in place (Some r.place) l)
@@ -133,7 +133,7 @@ HasRunsBelow p l =
     (pre : List Marked) (s : Marked) (post : List Marked) → l ≡ pre ++ s ∷ post →
     descendants (is_at (s.place * slot_size p)) (forest_of p l) ≡ map (entry_of p) (run_of p s post)
 
--- the next slot, where s is parent of it
+-- the next slot, if s is parent of it
 abbrev pub next_child : ProfileName → Marked → List Marked → Option ℕ
 next_child p s [] = None
 next_child p s (b ∷ l) = cond (is_parent p s b) (Some (b.place * slot_size p)) None

@@ -6,7 +6,7 @@ use Rattle.std.specs.List.{list_any, sum_by, AllByRecursion as Each}
 abbrev pub has_kind_of : {X : Type 0} → (X → X → Bool) → List X → X → Bool
 has_kind_of same ys x = list_any (λ y. same y x) ys
 
--- the list, with this one at the end where it is the first of its kind
+-- the list, with this one at the end if it is the first of its kind
 abbrev pub with_first : {X : Type 0} → (X → X → Bool) → List X → X → List X
 with_first same ys x = cond (has_kind_of same ys x) ys (ys ++ x ∷ [])
 

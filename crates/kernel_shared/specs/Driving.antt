@@ -15,7 +15,7 @@ abbrev pub EachThree : {A B C : Type 0} → List A → List B → List C → (A 
 EachThree {A} {B} {C} xs ys zs P =
     (i : ℕ) (x : A) (y : B) (z : C) → slice_get xs i ≡ Some x → slice_get ys i ≡ Some y → slice_get zs i ≡ Some z → P x y z
 
--- what is known of the client where it ended
+-- what is known of the client if it ended
 abbrev pub Ended : (ℕ → ℕ → Type 0) → ℕ → ClientState → End → Type 0
 Ended ends limit t E.Done = Unit {0}
 Ended ends limit t E.Gate = ends t.id t.done
@@ -26,7 +26,7 @@ Ended ends limit t E.Memory = t.stray ≡ None
 Ended ends limit t E.NoEntry = t.stray ≡ None
 
 -- A client made calls from the list, in order, until one was not answered: so many were answered, and after them one was
--- lost where the client lost one.
+-- lost if the client lost one.
 pub record IsClientRun (old : ClientState) (calls : List Call) (new : ClientState) (made : ℕ) : Type 0 where
   pub id : new.id ≡ old.id
   pub done : new.done ≡ old.done + made

@@ -19,7 +19,7 @@ abbrev pub IsRetypable : Cap → Type 0
 IsRetypable (Untyped base bits free) = IsRegion base bits free
 IsRetypable _ = ⊥
 
--- how much of a region is used: nothing, where it has no children
+-- how much of a region is used: nothing, if it has no children
 abbrev pub start_of : Bool → ℕ → ℕ
 start_of true free = free
 start_of false free = 0
@@ -62,7 +62,7 @@ pub record ArePlacedFrom (base bits start b count : ℕ) (placed : Placed) : Typ
   pub free : placed.free ≡ placed.first - base + count * 2 ^ b
   pub within : placed.free ≤ 2 ^ bits
 
--- the objects are placed where there is room for all of them, and otherwise memory is not enough
+-- the objects are placed if there is room for all of them, and otherwise memory is not enough
 abbrev pub IsRegionPlan : ℕ → ℕ → ℕ → ℕ → ℕ → Result Placed Refusal → Type 0
 IsRegionPlan base bits start b count (Ok placed) = (count ≤ room_of bits start b) × ArePlacedFrom base bits start b count placed
 IsRegionPlan base bits start b count (Err refusal) = (room_of bits start b < count) × (refusal ≡ NotEnoughMemory)
@@ -77,7 +77,7 @@ IsRetypePlan _ has_children b count result = ⊥
 abbrev pub object_at : Placed → ℕ → ℕ
 object_at placed i = placed.first + i * placed.step
 
--- the objects have no address in common, stand at multiples of their size where the region does, and lie between what
+-- the objects have no address in common, stand at multiples of their size if the region does, and lie between what
 -- was used before and what is used now
 pub record LieInRegion (base bits start b count : ℕ) (placed : Placed) : Type 0 where
   pub apart : (i j : ℕ) → i < j → object_at placed i + 2 ^ b ≤ object_at placed j

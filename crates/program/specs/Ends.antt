@@ -27,12 +27,12 @@ use Rattle.command_files.specs.declared.inputs.Used.TheVariants.{Standard, File,
 use Rattle.program_messages.specs.declared.ended.Ended.{Ended}
 use Rattle.program_messages.specs.declared.ended.Ended.TheVariants.{Did, Checked, Helped, Refused, Conflict, Unknown, NoMemory, NoPolicy}
 
--- the name of the file that is to be read, where the words name one; a hyphen stands for standard input
+-- the name of the file that is to be read, if the words name one; a hyphen stands for standard input
 abbrev pub named_input : Option Text → Option Text
 named_input None = None
 named_input (Some name) = if bytes_eq name (codes "-") then None else Some name
 
--- a text and a verdict of that meaning were made of no input, and the text was written, or a front of it where a write failed
+-- a text and a verdict of that meaning were made of no input, and the text was written, or a front of it if a write failed
 pub record IsWriting {K : Type 0} (means : List ℕ → Verdict → Type 0) (to : SinkGhosts K) (sink_old sink_new : K)
     (result : Result Verdict RunFault) : Type 0 where
   pub ok : IfOk result (λ verdict. (text : List ℕ) × Took to.taken to.written sink_old sink_new text × means text verdict)
@@ -44,7 +44,7 @@ pub record IsWriting {K : Type 0} (means : List ℕ → Verdict → Type 0) (to 
   pub memory_keeps : result ≡ Err Memory → sink_new ≡ sink_old
   pub thread_keeps : result ≡ Err Thread → sink_new ≡ sink_old
 
--- the job's run over standard input, where no file is named, and else over the file of that name; where this can't be
+-- the job's run over standard input, if no file is named, and else over the file of that name; if this can't be
 -- opened, a failed read, and nothing is written; a new set-up is made of no input
 abbrev pub IsDone : {S F E K : Type 0} → (S → Type 0) → (Text → F → Type 0) → (Text → E → Type 0)
     → SourceGhosts S → SourceGhosts F → SinkGhosts K
@@ -64,23 +64,23 @@ abbrev pub is_marks : Job → Bool
 is_marks Marks = true
 is_marks job = false
 
--- the bytes of the file that an option names; nothing, where it is not there
+-- the bytes of the file that an option names; nothing, if it is not there
 abbrev pub IsSecond : {F E : Type 0} → (Text → F → Type 0) → (Text → E → Type 0) → SourceGhosts F → Option Text → List ℕ → Type 0
 IsSecond is_file is_fault from_file None bytes = bytes ≡ []
 IsSecond is_file is_fault from_file (Some name) bytes = IsFile is_file is_fault from_file name (Some bytes)
 
--- files were marked, by the exercise with these bytes where `--of` names one
+-- files were marked, by the exercise with these bytes if `--of` names one
 abbrev pub AreMarked : {K : Type 0} → Option Text → List ℕ → (Text → Option Text → Type 0) → SinkGhosts K → List Text → K → K → Result Tally RunFault → Type 0
 AreMarked None exercise = IsMarksOf
 AreMarked (Some name) exercise = AreMarkedBy exercise
 
--- so they were where that is the job, or checked, strictly or not
+-- so they were if that is the job, or checked, strictly or not
 abbrev pub AreDone : {K : Type 0} → Job → Options → List ℕ → (Text → Option Text → Type 0) → SinkGhosts K → List Text → K → K → Result Tally RunFault → Type 0
 AreDone job options exercise Is to names old new answer =
     MatchBool (is_marks job) (AreMarked (option_map (λ s. s.now) options.of) exercise Is to names old new answer)
     (IsCheckOf options.strict Is to names old new answer)
 
--- a text was written, or a front of it where a write failed
+-- a text was written, or a front of it if a write failed
 abbrev pub IsWritten : {K : Type 0} → SinkGhosts K → Result Unit RunFault → K → K → Type 0
 IsWritten to result old new = (text : List ℕ)
     × OnOk result (Took to.taken to.written old new text)
@@ -98,7 +98,7 @@ IsUnreadBy is_file is_fault from name (File source) Memory = (unread : _) × is_
 IsUnreadBy is_file is_fault from name (Unopened fault) Reading = is_fault name fault
 IsUnreadBy is_file is_fault from name _ _ = ⊥
 
--- the second file that the options name: the policy, or, where files are listed, the exercise
+-- the second file that the options name: the policy, or, if files are listed, the exercise
 abbrev pub second_asked : List Text → Options → Option Text
 second_asked [] options = option_map (λ s. s.now) options.policy
 second_asked (name ∷ names) options = option_map (λ s. s.now) options.of
@@ -112,7 +112,7 @@ IsOpened input names_command = ⊤
 abbrev pub looks_like_command : Text → Bool
 looks_like_command word = not (bytes_eq word (codes "-")) && not (list_any (λ byte. byte == 46 || byte == 47) word)
 
--- where no command is named, the first of several files could be opened, if it looks like no file's name
+-- if no command is named, the first of several files could be opened, if it looks like no file's name
 abbrev pub IsFirstOpened : {F : Type 0} → (Text → F → Type 0) → Bool → Option Text → Type 0
 IsFirstOpened is_file names_command None = ⊤
 IsFirstOpened {F} is_file names_command (Some name) =
@@ -120,7 +120,7 @@ IsFirstOpened {F} is_file names_command (Some name) =
 
 -- Did: clap takes the words, their options go together, and their job was done with the one input that they name. Checked:
 -- clap takes them, they list files that are to be checked or marked, of which standard input is one at most, and these were, by the
--- exercise that they name where they name one.
+-- exercise that they name if they name one.
 -- Helped: their fault can be a call for help. Refused: they have another fault, and nothing is written. Conflict: clap takes
 -- them, their options do not go together or standard input is named twice, and nothing is written. Unknown: clap takes them, they name
 -- no command, and the file that they name first can't be opened; nothing is written. NoMemory: nothing is written.

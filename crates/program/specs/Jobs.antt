@@ -73,7 +73,7 @@ IsAuditAt options (Some slot) input text verdict = IsAnswerTo (IsSlotAudited slo
 abbrev pub IsAudit : Options → List ℕ → List ℕ → Verdict → Type 0
 IsAudit options input text verdict = IsAuditAt options (option_map (λ s. s.now) options.slot) input text verdict
 
--- what is to happen: a message, where nothing else is named
+-- what is to happen: a message, if nothing else is named
 abbrev pub happening_in : Options → Happening
 happening_in options = cond options.hold Hold (cond options.loss Loss Message)
 

@@ -14,7 +14,7 @@ use Rattle.command_new.specs.declared.asked.NewSetup.{NewSetup}
 use Rattle.program.specs.Texts.{before_mark, behind_mark}
 use Rattle.program.specs.Commas.{words_in}
 
--- the profile of a name; the wide one, where none is given
+-- the profile of a name; the wide one, if none is given
 abbrev pub IsProfileNamed : Option (List ℕ) → ProfileName → Type 0
 IsProfileNamed None profile = profile ≡ Wide
 IsProfileNamed (Some name) Wide = bytes_eq name (codes "wide") ≡ true
@@ -30,18 +30,18 @@ AreRegionWords [] (region ∷ regions) = ⊥
 AreRegionWords (word ∷ words) [] = ⊥
 AreRegionWords (word ∷ words) (region ∷ regions) = IsRegionWord word region × AreRegionWords words regions
 
--- the sizes: two threads and one endpoint, where no numbers are given, and the regions between commas
+-- the sizes: two threads and one endpoint, if no numbers are given, and the regions between commas
 pub record AsksFor (options : Options) (asked : NewSetup) : Type 0 where
   pub profile : IsProfileNamed (option_map (λ s. s.now) options.profile) asked.profile
   pub threads : asked.threads ≡ unwrap_or options.threads 2
   pub endpoints : asked.endpoints ≡ unwrap_or options.endpoints 1
   pub untypeds : AreRegionWords (words_in (option_map (λ s. s.now) options.untyped)) asked.untypeds.items
 
--- whatever the options ask for, no plan fits it: they may ask for nothing, where a word says no number
+-- whatever the options ask for, no plan fits it: they may ask for nothing, if a word says no number
 abbrev pub NothingFits : Options → Type 0
 NothingFits options = (asked : NewSetup) → AsksFor options asked → NoneFits asked
 
--- a set-up of what is asked for; nothing, where no plan fits; and nothing, where a plan fits whose text is refused
+-- a set-up of what is asked for; nothing, if no plan fits; and nothing, if a plan fits whose text is refused
 unfoldable pub IsNewOf : Options → List ℕ → Verdict → Type 0
 IsNewOf options text AllMet = (asked : NewSetup) × AsksFor options asked × IsNew asked text
 IsNewOf options text NotMet = ⊥

@@ -11,7 +11,7 @@ use Rattle.cap_core.specs.declared.profile.ProfileName.{ProfileName}
 use Rattle.kernel_abstract.specs.Plan.{IsUntypedSize}
 use Rattle.program.specs.NewWords.{AreRegionWords}
 
--- the end of a line that reads one input at the most, which it names so, by the policy with these bytes where its options name one
+-- the end of a line that reads one input at the most, which it names so, by the policy with these bytes if its options name one
 abbrev pub IsEndOfLine : {S F E K : Type 0} → (S → Type 0) → (Text → F → Type 0) → (Text → E → Type 0)
     → SourceGhosts S → SourceGhosts F → SinkGhosts K → Line → List ℕ → Option Text → Ended S F E → K → K → Type 0
 IsEndOfLine is_standard is_file is_fault from_standard from_file to line policy name (Did done) old new =

@@ -16,7 +16,7 @@ before_dot text = before_mark 46 text
 abbrev pub behind_dot : List ℕ → List ℕ
 behind_dot text = behind_mark 46 text
 
--- the number that a text says, or 0, the number of none, where it says none
+-- the number that a text says, or 0, the number of none, if it says none
 abbrev pub Numbers : List ℕ → ℕ → Type 0
 Numbers text n = (said : Option ℕ) × Says (Some text) said × (n ≡ unwrap_or said 0)
 

@@ -11,7 +11,7 @@ fn words_between_commas<'a>(alloc: Global, text: &'a str) -> Result<Vec<&'a str>
     text.split(',').collect(alloc)
 }
 
-/// The same; none, where there is no text.
+/// The same; none, if there is no text.
 pub(crate) fn words_in<'a>(alloc: Global, text: Option<&'a str>) -> Result<Vec<&'a str>, AllocError>
     ensures { IfOk result (λ v. map (λ w. w.now) v.items ≡ words_in_definition (option_map (λ s. s.now) text.entry)) }
 {

@@ -78,7 +78,7 @@ fn words_of<R: Env + AllocGlobal>(rt: &R) -> Result<Vec<String>, LineFault> {
     words.collect(rt.alloc()).map_err(|_| LineFault::Memory)
 }
 
-/// How many bytes of a word are looked at, where it is no text.
+/// How many bytes of a word are looked at, if it is no text.
 const MOST_BYTES: usize = 4096;
 
 /// Says which of the first words is no text, if one is: its other bytes are written as `\xff`.

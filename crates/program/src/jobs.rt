@@ -55,9 +55,9 @@ pub(crate) fn run_work<S: Source, K: Sink>(
 /// set-up's clients have ended.
 ///
 /// # Errors
-/// `Reading` where a read failed in this call, or where `INPUT_LIMIT` bytes came without an end; nothing is written
-/// then. `Writing` where a write failed or took no byte; a front of the text was written then. `Memory`, and `Thread`
-/// where the job starts threads and the set-up was accepted; nothing is written then.
+/// `Reading` if a read failed in this call, or if `INPUT_LIMIT` bytes came without an end; nothing is written
+/// then. `Writing` if a write failed or took no byte; a front of the text was written then. `Memory`, and `Thread`
+/// if the job starts threads and the set-up was accepted; nothing is written then.
 pub fn run_job<R: Threads + Wait + Sync, S: Source, K: Sink>(
     rt: &R,
     alloc: Global,

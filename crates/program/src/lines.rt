@@ -115,7 +115,7 @@ fn run_new<'a, S, F, E, K: Sink>(alloc: Global, line: Line<'a>, sink: &mut K) ->
     }
 }
 
-/// Does what a line asks for that reads one input at the most. A file that cannot be opened is a failed read where a command is named,
+/// Does what a line asks for that reads one input at the most. A file that cannot be opened is a failed read if a command is named,
 /// and else its name is an unknown word.
 fn run_line<'a, R: Threads + Wait + Sync, I: Inputs, K: Sink>(
     rt: &R,
@@ -163,7 +163,7 @@ fn looks_like_command(word: &str) -> bool
     word != "-" && !has_dot_or_slash(word)
 }
 
-/// The first of several files, where no command is named, and it looks like no file's name and cannot be opened.
+/// The first of several files, if no command is named, and it looks like no file's name and cannot be opened.
 fn unknown_first<'a, I: Inputs>(inputs: &I, line: &Line<'a>) -> Option<Unknown<'a, I::Fault>>
     ensures unknown { IfSome result (λ unknown. (line.now.names_command ≡ false)
         × (named_input (option_map (λ s. s.now) line.now.file) ≡ Some unknown.word.now) × I.is_fault inputs.now unknown.word.now unknown.fault) }
@@ -180,7 +180,7 @@ fn unknown_first<'a, I: Inputs>(inputs: &I, line: &Line<'a>) -> Option<Unknown<'
     }
 }
 
-/// The bytes of the policy or of the exercise that a line names; none where it names none. A file that cannot be opened is a
+/// The bytes of the policy or of the exercise that a line names; none if it names none. A file that cannot be opened is a
 /// failed read.
 fn read_second<'a, I: Inputs>(
     alloc: Global,
@@ -221,7 +221,7 @@ fn is_marks(job: Job) -> bool
     matches!(job, Job::Marks)
 }
 
-/// Marks the files of a line, by the exercise with these bytes where it names one.
+/// Marks the files of a line, by the exercise with these bytes if it names one.
 fn mark<I: Inputs, L: Listener<I::Standard, I::File, I::Fault>, K: Sink>(
     alloc: Global,
     inputs: &I,
@@ -275,7 +275,7 @@ fn run_files<'a, I: Inputs, L: Listener<I::Standard, I::File, I::Fault>, K: Sink
 /// Does what the words of a command line ask for, of which the first is the program's name: the job, with the file that
 /// they name or with standard input, the check or the marks of files that are listed, of each of which the listener hears, or the help
 /// text.
-/// Nothing is written where they are not taken, and where a word is neither a command nor a file that can be opened.
+/// Nothing is written if they are not taken, and if a word is neither a command nor a file that can be opened.
 pub fn run_words<
     'a,
     R: Threads + Wait + Sync,

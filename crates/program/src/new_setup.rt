@@ -12,13 +12,13 @@ use command_line::Options;
 use command_new::NewSetup;
 use std::alloc::{AllocError, Global};
 
-/// How many threads a new set-up has, where no number is given.
+/// How many threads a new set-up has, if no number is given.
 const USUAL_THREADS: u64 = 2;
 
-/// How many endpoints a new set-up has, where no number is given.
+/// How many endpoints a new set-up has, if no number is given.
 const USUAL_ENDPOINTS: u64 = 1;
 
-/// The profile of a name; the wide one, where none is given.
+/// The profile of a name; the wide one, if none is given.
 fn profile_named(name: Option<&str>) -> Option<ProfileName>
     ensures { MatchOption result ((profile : Profile) → ¬ IsProfileNamed (option_map (λ s. s.now) name.entry) profile) (IsProfileNamed (option_map (λ s. s.now) name.entry)) }
 {
@@ -36,7 +36,7 @@ fn profile_named(name: Option<&str>) -> Option<ProfileName>
     }
 }
 
-/// The region whose base and bits a word says, with a colon between them; none where it says none whose bits are a number of 32
+/// The region whose base and bits a word says, with a colon between them; none if it says none whose bits are a number of 32
 /// bits.
 fn region_in(word: &str) -> Option<(u64, u32)>
     ensures { MatchOption result ((region : ℕ × ℕ) → IsRegionWord word.now region → 2 ^ 32 ≤ region.1) (λ region. IsRegionWord word.now (region.0, region.1)) }
@@ -48,7 +48,7 @@ fn region_in(word: &str) -> Option<(u64, u32)>
     Some((base, bits))
 }
 
-/// The regions that words say; none where a word says no region.
+/// The regions that words say; none if a word says no region.
 fn regions_of(alloc: Global, words: &[&str]) -> Result<Option<Vec<(u64, u32)>>, AllocError>
     ensures { IfOk result (λ found. MatchOption found (SayNoSizes (map (λ w. w.now) words.now)) (λ v. AreRegionWords (map (λ w. w.now) words.now) v.items)) }
 {
@@ -70,14 +70,14 @@ fn regions_in(alloc: Global, text: Option<&str>) -> Result<Option<Vec<(u64, u32)
     regions_of(alloc, words.as_slice())
 }
 
-/// The number that an option gives, or the usual one; none where it is no number of 32 bits.
+/// The number that an option gives, or the usual one; none if it is no number of 32 bits.
 fn count_in(given: Option<u64>, usual: u64) -> Option<u32>
     ensures { MatchOption result (2 ^ 32 ≤ unwrap_or given usual) (λ count. count ≡ unwrap_or given usual) }
 {
     u32::try_from(given.unwrap_or(usual)).ok()
 }
 
-/// A set-up of these sizes, where the options give them all; none where no plan fits what they give.
+/// A set-up of these sizes, if the options give them all; none if no plan fits what they give.
 fn with_regions(options: Options<'_>, untypeds: Vec<(u64, u32)>) -> Option<NewSetup>
     requires { AreRegionWords (words_in_definition (option_map (λ s. s.now) options.untyped)) untypeds.items }
     ensures { MatchOption result (NothingFits options.entry) (AsksFor options.entry) }
@@ -93,7 +93,7 @@ fn with_regions(options: Options<'_>, untypeds: Vec<(u64, u32)>) -> Option<NewSe
     })
 }
 
-/// What the options ask for; none where an option says no profile, no region or no number of 32 bits, so that no plan fits.
+/// What the options ask for; none if an option says no profile, no region or no number of 32 bits, so that no plan fits.
 pub(crate) fn asked_by(alloc: Global, options: Options<'_>) -> Result<Option<NewSetup>, AllocError>
     ensures { IfOk result (λ found. MatchOption found (NothingFits options.entry) (AsksFor options.entry)) }
 {

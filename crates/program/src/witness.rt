@@ -4,7 +4,7 @@ ghost use Rattle.program.specs.WitnessWords.{NamesWitness, Numbers};
 use crate::marks::{around, number_said};
 use command_explore::Witness;
 
-/// The number that a text says; 0, the number of none, where it says none.
+/// The number that a text says; 0, the number of none, if it says none.
 fn number_in(text: &str) -> usize
     ensures { Numbers text.now result }
 {

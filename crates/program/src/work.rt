@@ -36,7 +36,7 @@ use command_tree::{Form, Tree};
 use command_why::Why;
 use std::alloc::{AllocError, Global};
 
-/// How many states are kept at the most, where no number is given.
+/// How many states are kept at the most, if no number is given.
 const MOST_STATES: u64 = 100_000;
 
 /// What a command makes of an input.
@@ -93,7 +93,7 @@ impl<'a> Words<'a> {
     }
 }
 
-/// What threads can never get, where some are trusted.
+/// What threads can never get, if some are trusted.
 fn make_ever(alloc: Global, options: Options<'_>, input: &[u8]) -> Result<Answer, RunFault>
     ensures made { IfOk result (λ made. IsAnswerTo (IsStateAnswer (IsEver (trust_of options.entry) options.entry.names) options.entry.after) input.now made.text.items made.verdict) }
     ensures memory { IfErr result (λ fault. fault ≡ RunFault.Memory) }
@@ -106,7 +106,7 @@ fn make_ever(alloc: Global, options: Options<'_>, input: &[u8]) -> Result<Answer
     on_state(alloc, Ever { trust, names }, after, input)
 }
 
-/// A policy that the layout keeps, where some threads are trusted.
+/// A policy that the layout keeps, if some threads are trusted.
 fn make_draft(alloc: Global, options: Options<'_>, input: &[u8]) -> Result<Answer, RunFault>
     ensures made { IfOk result (λ made. IsAnswerTo (IsStateAnswer (IsDraft (trust_of options.entry)) options.entry.after) input.now made.text.items made.verdict) }
     ensures memory { IfErr result (λ fault. fault ≡ RunFault.Memory) }
@@ -146,7 +146,7 @@ fn two_threads<'a>(options: &Options<'a>) -> (&'a str, &'a str)
     }
 }
 
-/// Whether the part of the first of two threads is kept from that of the other, but by the endpoints of `--by`, where some threads are
+/// Whether the part of the first of two threads is kept from that of the other, but by the endpoints of `--by`, if some threads are
 /// trusted.
 fn make_never(alloc: Global, options: Options<'_>, input: &[u8]) -> Result<Answer, RunFault>
     ensures made { IfOk result (λ made. IsAnswerTo (IsStateAnswer (IsNever (question_of options.entry)) options.entry.after) input.now made.text.items made.verdict) }
@@ -166,7 +166,7 @@ fn make_never(alloc: Global, options: Options<'_>, input: &[u8]) -> Result<Answe
     on_state(alloc, question, options.after, input)
 }
 
-/// What is to happen: a message, where nothing else is named.
+/// What is to happen: a message, if nothing else is named.
 fn happening_of(options: &Options<'_>) -> Happening
     ensures { result ≡ happening_in options.now }
 {
@@ -179,7 +179,7 @@ fn happening_of(options: &Options<'_>) -> Happening
     }
 }
 
-/// How it could happen between two threads, but by the endpoints of `--by`, where those of `--without` make no more calls.
+/// How it could happen between two threads, but by the endpoints of `--by`, if those of `--without` make no more calls.
 fn make_how(alloc: Global, options: Options<'_>, input: &[u8]) -> Result<Answer, RunFault>
     ensures made { IfOk result (λ made. IsAnswerTo (IsStateAnswer (IsHow (how_of options.entry)) options.entry.after) input.now made.text.items made.verdict) }
     ensures memory { IfErr result (λ fault. fault ≡ RunFault.Memory) }

@@ -1,4 +1,4 @@
--- What may ever stand in which slots, where threads fill only slots that they can name.
+-- What may ever stand in which slots, if threads fill only slots that they can name.
 use Rattle.std.specs.Prelude.{◌≡◌, ℕ, ◌+◌, ◌^◌, ◌≤◌, ◌⊎◌, true, false, Bool, bit_and}
 use Rattle.cap_core.specs.declared.profile.ProfileName.{ProfileName}
 use Rattle.cap_core.specs.declared.capability.Badge.{Badge}
@@ -60,7 +60,7 @@ pub record IsSettledFor (p : ProfileName) (flow : Flow) (c : ℕ) : Type 0 where
   -- their words end in the slots of their roots, or go on
   pub begins : (root : Cap) (slot : ℕ) → flow.may c root ≡ true → IsSlotOf p root slot → LiesAmong flow (flow.names c) slot
   pub goes_on : IsEnding p flow c ⊎ WordsGoOn p flow c
-  -- words end at a CNode's capability in a root where that takes all their bits
+  -- words end at a CNode's capability in a root if that takes all their bits
   pub ends : (base radix : ℕ) (guard : Guard) (slot : ℕ) → flow.may c (CNode base radix guard) ≡ true → guard.size + radix ≡ word_bits p →
       IsSlotOf p (CNode base radix guard) slot → LiesAmong flow (flow.nodes c) slot
   -- they fill and read the slots of CNodes whose capabilities words lead to, or stand in slots that they read

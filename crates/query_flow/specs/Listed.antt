@@ -32,7 +32,7 @@ set_at memory address = unwrap_or (part_at memory address) 0
 abbrev pub fits_badge : Badge → Badge → Bool
 fits_badge most badge = most.0 == badge.0 || most.0 == 0
 
--- the bits that a CNode takes, or any where none are told
+-- the bits that a CNode takes, or any if none are told
 abbrev pub fits_bits : ℕ → ℕ → Bool
 fits_bits most takes = most == takes || most == 0
 

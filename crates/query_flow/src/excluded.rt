@@ -365,7 +365,7 @@ fn are_known(trusted: &[u64], bound: &Bound) -> bool
     true
 }
 
-/// The flows of a kernel with the threads that never make a call, but one, where those that are found pass the tests; none of one with
+/// The flows of a kernel with the threads that never make a call, but one, if those that are found pass the tests; none of one with
 /// more than `MOST_SLOTS` full slots.
 #[tactic(auto, using(crate::proofs::Ruled::is_tested))]
 fn tested_flow<P: Profile, S: DerivationStore<P> + Drop, W: Waiters<P> + Drop>(

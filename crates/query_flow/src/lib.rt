@@ -1,4 +1,4 @@
-//! Flows: a bound on what may ever stand in each set of slots, where threads fill only slots that they can name.
+//! Flows: a bound on what may ever stand in each set of slots, if threads fill only slots that they can name.
 #![tactic(auto)]
 
 mod excluded;

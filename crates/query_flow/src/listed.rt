@@ -29,13 +29,13 @@ pub enum Standing {
         base: u64,
         bits: u64,
     },
-    /// Capabilities to an endpoint, with this badge, or any where it is 0, and these rights at most.
+    /// Capabilities to an endpoint, with this badge, or any if it is 0, and these rights at most.
     Endpoint {
         base: u64,
         badge: Badge,
         rights: Rights,
     },
-    /// Capabilities to a CNode whose guard and radix take so many bits, or any number where it is 0.
+    /// Capabilities to a CNode whose guard and radix take so many bits, or any number if it is 0.
     Node {
         base: u64,
         radix: u64,
@@ -81,7 +81,7 @@ pub struct Flows {
     pub trusted: Vec<u64>,
 }
 
-/// The last address of a range; `None` where that is no word.
+/// The last address of a range; `None` if that is no word.
 pub fn last_of(range: Range) -> Option<u64>
     ensures { result ≡ last_in range.first range.bits }
 {
@@ -233,7 +233,7 @@ pub fn may_end<P: Profile>(what: Standing) -> bool
     }
 }
 
-/// Whether the roots of a caller that may take all bits of a word have their slots where its words may end at CNodes' capabilities.
+/// Whether the roots of a caller that may take all bits of a word have their slots if its words may end at CNodes' capabilities.
 fn ends_at_once<P: Profile>(memory: &[PartMemory], all: &[MayStand], caller: &Caller) -> bool
     ensures { result ≡ list_all (λ s. not (s.set == caller.now.set && spec.may_end P.profile s.what) || spec.slots_lie P.profile memory.now caller.now.nodes.items s.what) all.now }
 {
@@ -762,7 +762,7 @@ fn are_told<P: Profile>(flows: &Flows, derivations: &[Derivation]) -> bool
     derivations.iter().all(|d| is_told::<P>(flows, d))
 }
 
-/// Whether a flow is settled, and tells what the slots of a kernel hold. Where it is so, it stays so, whatever calls threads make that
+/// Whether a flow is settled, and tells what the slots of a kernel hold. If it is so, it stays so, whatever calls threads make that
 /// are not trusted, and whatever others send and receive.
 pub fn is_flow<P: Profile, S: DerivationStore<P> + Drop, W: Waiters<P> + Drop>(
     alloc: Global,

@@ -275,7 +275,7 @@ fn all_put<P: Profile>(
     Ok(Vec::new(alloc))
 }
 
-/// Adds a set of its own for a range, where no stretch has all of it.
+/// Adds a set of its own for a range, if no stretch has all of it.
 fn add_stretch(memory: &mut Vec<PartMemory>, range: Range) -> Result<(), AllocError> {
     let Some(last) = last_of(range) else {
         return Ok(());

@@ -21,14 +21,14 @@ abbrev pub StandOwnBelow : Parts → ℕ → Forest Entry → Type 0
 StandOwnBelow parts i f =
     (slot : ℕ) (e : Entry) → parts.part_of slot ≡ Some i → Contains (descendants (is_at slot) f) e → parts.part_of e.slot ≡ Some i
 
--- a call of a thread of a closed part i leaves each slot of another part j as it is, where none of j stands below a slot of i
+-- a call of a thread of a closed part i leaves each slot of another part j as it is, if none of j stands below a slot of i
 abbrev pub TakesNothing : ProfileName → Parts → ℕ → ℕ → State → Call → Type 0
 TakesNothing p parts i j A call =
     IsReached p A → IsClosed p parts i A.derivations → parts.part_of call.thread ≡ Some i →
     (i ≡ j → ⊥) → StandsNoneBelow parts i j A.derivations →
     (slot : ℕ) → parts.part_of slot ≡ Some j → cap_at (step p A call).state.derivations slot ≡ cap_at A.derivations slot
 
--- and each slot outside the part, where none outside it stands below a slot of it
+-- and each slot outside the part, if none outside it stands below a slot of it
 abbrev pub TakesNothingOutside : ProfileName → Parts → ℕ → State → Call → Type 0
 TakesNothingOutside p parts i A call =
     IsReached p A → IsClosed p parts i A.derivations → parts.part_of call.thread ≡ Some i →

@@ -82,11 +82,11 @@ abbrev pub MayUse : ProfileName → Parts → ℕ → ℕ → ℕ → Badge → 
 MayUse p parts right i endpoint badge =
     (rights : Rights) × (IsWithin p parts i (Endpoint endpoint badge rights) × (has_right right rights ≡ true))
 
--- a send: where its thread lies in a part, that part may send to the endpoint with this badge
+-- a send: if its thread lies in a part, that part may send to the endpoint with this badge
 abbrev pub IsSentWithin : ProfileName → Parts → SendRecord → Type 0
 IsSentWithin p parts s = (i : ℕ) → parts.part_of s.thread.base ≡ Some i → MayUse p parts write_bit i s.endpoint.base s.badge
 
--- a receive: where its thread lies in a part, that part may receive on the endpoint
+-- a receive: if its thread lies in a part, that part may receive on the endpoint
 abbrev pub IsReceivedWithin : ProfileName → Parts → ReceiveRecord → Type 0
 IsReceivedWithin p parts a = (i : ℕ) → parts.part_of a.thread.base ≡ Some i → (badge : Badge) × MayUse p parts read_bit i a.endpoint.base badge
 
@@ -118,7 +118,7 @@ abbrev pub ReceiveWithin : ProfileName → Parts → State → List Call → Typ
 ReceiveWithin p parts A calls =
     IsReached p A → AreClosed p parts A → Each (IsAllowed parts) calls → ReceivesOnly p parts A (state_after p A calls)
 
--- where the threads of closed parts make all calls, each new send is of a thread of some part, which may send so
+-- if the threads of closed parts make all calls, each new send is of a thread of some part, which may send so
 abbrev pub SendByParts : ProfileName → Parts → State → List Call → Type 0
 SendByParts p parts A calls =
     IsReached p A → AreClosed p parts A → Each (IsOfSomePart parts) calls →
@@ -139,6 +139,6 @@ pub record AreJoined (to : ℕ → ℕ) (parts joined : Parts) : Type 0 where
   pub memory : (address : ℕ) → joined.part_of address ≡ option_map to (parts.part_of address)
   pub uses : (i : ℕ) (u : Use) → Contains (parts.uses i) u → Contains (joined.uses (to i)) u
 
--- where all parts are closed, so are those into which they are joined
+-- if all parts are closed, so are those into which they are joined
 abbrev pub JoinedAreClosed : ProfileName → (ℕ → ℕ) → Parts → Parts → State → Type 0
 JoinedAreClosed p to parts joined A = AreJoined to parts joined → AreClosed p parts A → AreClosed p joined A

@@ -32,7 +32,7 @@ parts_listed memory uses = record {
   uses = λ i. map use_of (filter (λ (u : PartUse). u.part == i) uses);
 }
 
--- the last address of 2^bits from the first on, where it is a word
+-- the last address of 2^bits from the first on, if it is a word
 abbrev pub last_in : ℕ → ℕ → Option ℕ
 last_in first bits =
     cond (nat_lt bits 64 && nat_lt (first + (2 ^ bits - 1)) (2 ^ 64)) (Some (first + (2 ^ bits - 1))) None

@@ -11,7 +11,7 @@ use Rattle.query_parts.specs.Listed.{part_at, last_in, owns_range, allows}
 abbrev pub is_stretch : PartMemory → Bool
 is_stretch m = nat_le m.first m.last
 
--- a stretch lies behind another, and does not touch it where both are of one part
+-- a stretch lies behind another, and does not touch it if both are of one part
 abbrev pub lies_behind : PartMemory → PartMemory → Bool
 lies_behind m n = nat_lt m.last n.first && (not (m.part == n.part) || not (n.first == m.last + 1))
 

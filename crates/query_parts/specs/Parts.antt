@@ -11,7 +11,7 @@ use Rattle.cap_core.specs.Objects.{base_of, end_of}
 use Rattle.kernel_forest.specs.Forest.{Forest}
 use Rattle.kernel_forest.specs.Entries.{Entry, cap_at}
 
--- an endpoint that a part may use: with this badge, or with any where it is 0, and with these rights at most
+-- an endpoint that a part may use: with this badge, or with any if it is 0, and with these rights at most
 pub record Use : Type 0 where
   pub endpoint : ℕ
   pub badge : Badge

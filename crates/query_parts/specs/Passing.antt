@@ -41,7 +41,7 @@ GetsNothing p parts i A calls =
     IsReached p A → AreClosed p parts A → PassesAlone p parts i A.derivations → Each (IsAllowed parts) calls →
     AtMostLoses parts i A.derivations (state_after p A calls).derivations
 
--- a send: where its thread lies in the part, a slot of the part holds a capability to the endpoint with this badge and Write
+-- a send: if its thread lies in the part, a slot of the part holds a capability to the endpoint with this badge and Write
 abbrev pub IsSentByHeld : Parts → ℕ → State → SendRecord → Type 0
 IsSentByHeld parts i A s =
     parts.part_of s.thread.base ≡ Some i →

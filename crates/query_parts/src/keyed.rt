@@ -15,7 +15,7 @@ pub enum UseKey {
     EndpointAndBadge,
 }
 
-/// The key of the uses of an endpoint, with a badge where the badge is part of the key.
+/// The key of the uses of an endpoint, with a badge if the badge is part of the key.
 pub fn key(by: UseKey, endpoint: u64, badge: u64) -> u128
     ensures { result ≡ spec.key by endpoint badge }
 {

@@ -25,7 +25,7 @@ pub fn calls_keep_within_their_part()
 {}
 
 /// Whatever calls the threads of closed parts make, in whatever order, every part stays closed. What they send they may
-/// send, by that endpoint and with that badge, and what they receive they may receive. Where all calls are of threads that lie
+/// send, by that endpoint and with that badge, and what they receive they may receive. If all calls are of threads that lie
 /// in the parts, each new send and each new receive is of such a thread.
 pub fn closed_parts_stay_closed()
     ensures closed { (p : ProfileName) (parts : Parts) (A : State) (calls : List Call) → StayClosed p parts A calls }
@@ -55,15 +55,15 @@ pub fn least_parts_are_the_same()
         LieInEachOther p threads v memory uses memory' uses' }
 {}
 
-/// Each address of a live thread's control block is a word. So `parts_around` answers no `Block` where it is asked of live
+/// Each address of a live thread's control block is a word. So `parts_around` answers no `Block` if it is asked of live
 /// threads.
 pub fn live_threads_are_addressed()
     ensures { (p : ProfileName) (memory : ℕ) (v : Shown) → LiveThreadsAreAddressed p memory v }
 {}
 
-/// Where no full slot of part j stands below a slot of part i in the derivation forest, a call of part i leaves each slot of
+/// If no full slot of part j stands below a slot of part i in the derivation forest, a call of part i leaves each slot of
 /// part j as it is: no revoke and no delete takes from it. And whatever calls the threads of closed parts make, it stays so.
-/// The same holds of all slots outside part i, where only slots of part i stand below its slots.
+/// The same holds of all slots outside part i, if only slots of part i stand below its slots.
 pub fn revokes_take_what_stands_below()
     ensures taken { (p : ProfileName) (parts : Parts) (i j : ℕ) (A : State) (call : Call) → TakesNothing p parts i j A call }
     ensures outside { (p : ProfileName) (parts : Parts) (i : ℕ) (A : State) (call : Call) → TakesNothingOutside p parts i A call }
@@ -71,9 +71,9 @@ pub fn revokes_take_what_stands_below()
     ensures stays_outside { (p : ProfileName) (parts : Parts) (i : ℕ) (A : State) (calls : List Call) → StayOwnBelow p parts i A calls }
 {}
 
-/// Where each slot of a part's CNodes holds an endpoint's capability or none, the part only passes messages. Whatever calls the
+/// If each slot of a part's CNodes holds an endpoint's capability or none, the part only passes messages. Whatever calls the
 /// threads of closed parts make, of whatever parts, and whatever messages others send and receive: each slot of such a part holds
-/// what it held, or nothing, where a revoke or a delete in another part has emptied it. And what its threads send they send by a
+/// what it held, or nothing, if a revoke or a delete in another part has emptied it. And what its threads send they send by a
 /// capability that a slot of the part held in the beginning, with its badge.
 pub fn parts_that_pass_messages_get_nothing()
     ensures slots { (p : ProfileName) (parts : Parts) (i : ℕ) (A : State) (calls : List Call) → GetsNothing p parts i A calls }
@@ -87,7 +87,7 @@ pub fn regions_stay_within()
     ensures { (p : ProfileName) (parts : Parts) (i : ℕ) (A : State) (calls : List Call) → RegionsStayWithin p parts i A calls }
 {}
 
-/// Where parts are closed, and several of them are joined into one, which has the memory of each and may use what each of them may, the
+/// If parts are closed, and several of them are joined into one, which has the memory of each and may use what each of them may, the
 /// joined parts are closed, too. So all that holds of closed parts holds of joined ones.
 pub fn joined_parts_are_closed()
     ensures { (p : ProfileName) (to : ℕ → ℕ) (parts joined : Parts) (A : State) → JoinedAreClosed p to parts joined A }

@@ -13,7 +13,7 @@ pub struct PartMemory {
     pub last: u64,
 }
 
-/// An endpoint that a part may use: with this badge, or with any where it is 0, and with these rights at most.
+/// An endpoint that a part may use: with this badge, or with any if it is 0, and with these rights at most.
 #[derive(Clone, Copy, PartialEq, Eq, Debug)]
 pub struct PartUse {
     pub part: u64,
@@ -29,7 +29,7 @@ pub fn contains(memory: &PartMemory, address: u64) -> bool
     memory.first <= address && address <= memory.last
 }
 
-/// The part in whose memory an address lies; `None` where it lies in no part's.
+/// The part in whose memory an address lies; `None` if it lies in no part's.
 pub fn part_at(memory: &[PartMemory], address: u64) -> Option<u64>
     ensures { result ≡ spec.part_at memory.now address }
 {
@@ -41,7 +41,7 @@ pub fn part_at(memory: &[PartMemory], address: u64) -> Option<u64>
     None
 }
 
-/// The last address of a range; `None` where that is no word.
+/// The last address of a range; `None` if that is no word.
 pub fn last_of(range: Range) -> Option<u64>
     ensures { result ≡ spec.last_in range.first range.bits }
 {

@@ -50,7 +50,7 @@ fn all_stand<P: Profile>(
 /// Whether each part that is given by stretches of memory, and by the endpoints that it may use, is closed: whether each
 /// full slot in its memory holds a capability of its own objects, or of an endpoint that it may use.
 ///
-/// Where it is so, it stays so: for whatever calls the threads whose control blocks stand in these parts make, of whatever
+/// If it is so, it stays so: for whatever calls the threads whose control blocks stand in these parts make, of whatever
 /// operations and words, in whatever order. No capability to an object outside comes into a part, nor one with another
 /// badge or more rights than its uses allow, and what its threads send and receive they may send and receive.
 pub fn are_parts_closed<P: Profile, S: DerivationStore<P> + Drop, W: Waiters<P> + Drop>(
@@ -133,7 +133,7 @@ fn found_around<P: Profile, S: DerivationStore<P> + Drop, W: Waiters<P> + Drop>(
 ///
 /// # Errors
 ///
-/// `Memory` where memory was refused; `Block` where the control block of one of the threads would end past the last address.
+/// `Memory` if memory was refused; `Block` if the control block of one of the threads would end past the last address.
 /// No live thread is such a thread: `live_threads_are_addressed`.
 pub fn parts_around<P: Profile, S: DerivationStore<P> + Drop, W: Waiters<P> + Drop>(
     alloc: Global,

@@ -52,7 +52,7 @@ abbrev pub IsChain : ProfileName → Forest Entry → Target → ℕ → List Fu
 IsChain p f target root [] = ⊥
 IsChain p f target root (s ∷ more) = (s.address ≡ root) × LeadsOn p f target s more
 
--- a chain that is no longer than another one, or nothing where there is no chain
+-- a chain that is no longer than another one, or nothing if there is no chain
 abbrev pub IsShortest : ProfileName → Forest Entry → Target → ℕ → List FullSlot → Type 0
 IsShortest p f target root [] = (other : List FullSlot) → IsChain p f target root other → ⊥
 IsShortest p f target root (s ∷ more) =

@@ -8,7 +8,7 @@ use Rattle.kernel_forest.specs.Entries.{Entry, cap_at}
 use Rattle.query_reach.specs.declared.endpoints.EndpointWord.{EndpointWord}
 use Rattle.query_reach.specs.declared.reached.Reached.{Reached}
 
--- a word of a thread that leads to a capability, where that is an endpoint's; another thread may have the same words
+-- a word of a thread that leads to a capability, if that is an endpoint's; another thread may have the same words
 abbrev pub endpoint_word : ℕ → Bool → ℕ → Cap → Option EndpointWord
 endpoint_word thread shared word (Endpoint base badge rights) =
     Some (record { thread = thread; shared = shared; word = word; endpoint = base; badge = badge; rights = rights })

@@ -56,7 +56,7 @@ fn endpoint_word(
 ///
 /// # Errors
 ///
-/// `AllocError` where memory was wanted and not there.
+/// `AllocError` if memory was wanted and not there.
 pub fn endpoint_words(
     alloc: Global,
     filled: &[FullSlot],

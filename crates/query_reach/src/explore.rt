@@ -97,7 +97,7 @@ fn extend_row<P: Profile>(
 ///
 /// # Errors
 ///
-/// `AllocError` where memory was wanted and not there.
+/// `AllocError` if memory was wanted and not there.
 pub fn explore<P: Profile>(
     alloc: Global,
     filled: &[FullSlot],

@@ -55,7 +55,7 @@ fn put_in_order(filled: &mut Vec<FullSlot>) -> Result<(), AllocError>
 ///
 /// # Errors
 ///
-/// `AllocError` where memory was wanted and not there.
+/// `AllocError` if memory was wanted and not there.
 pub fn full_slots<P: Profile>(
     alloc: Global,
     derivations: &[Derivation],

@@ -66,7 +66,7 @@ fn start_rows<P: Profile>(
     Ok(rows)
 }
 
-/// The earlier of an entry, where there is one, and one with a greater depth.
+/// The earlier of an entry, if there is one, and one with a greater depth.
 fn earlier_of(known: Option<Held>, next: Held) -> Held
     ensures { result ≡ earlier known next }
 {
@@ -90,7 +90,7 @@ fn open_depths(alloc: Global, rows: &[Vec<Option<Path>>]) -> Result<Vec<usize>, 
     Ok(depths)
 }
 
-/// The entry for the slot at a place, where no word leads there and some path does. `depths` has the numbers of bits whose
+/// The entry for the slot at a place, if no word leads there and some path does. `depths` has the numbers of bits whose
 /// rows have places.
 fn held_at<P: Profile>(
     rows: &[Vec<Option<Path>>],
@@ -153,7 +153,7 @@ fn found<P: Profile>(
 ///
 /// # Errors
 ///
-/// `AllocError` where memory was wanted and not there.
+/// `AllocError` if memory was wanted and not there.
 pub fn held_slots<P: Profile>(
     alloc: Global,
     filled: &[FullSlot],

@@ -33,7 +33,7 @@ pub fn listed_is_enough()
 
 /// Each full slot that one call of a thread names, by a word or by an index and a depth, is in the thread's list of reached
 /// slots or in that of its held slots: a slot in neither is used, copied, moved, deleted or revoked by no single call of the
-/// thread. It may be emptied by one, where what it was derived from goes, or what it lies in ends.
+/// thread. It may be emptied by one, if what it was derived from goes, or what it lies in ends.
 pub fn one_call_names_these()
     ensures { (p : ProfileName) (f : Forest Entry) (thread : ℕ) (reached : List Reached) (held : List Held) → AreAllThatAreNamed p f thread reached held }
 {}

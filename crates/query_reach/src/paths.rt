@@ -23,7 +23,7 @@ fn lesser(a: Path, b: Path) -> Path
     }
 }
 
-/// Puts a path at a place of a row, where none or a later one stands.
+/// Puts a path at a place of a row, if none or a later one stands.
 fn put_in_row(row: &mut Vec<Option<Path>>, place: usize, path: Path)
     requires { place < vec_len row.old }
     ensures { row.new.items ≡ put_in row.old.items place path }
@@ -35,7 +35,7 @@ fn put_in_row(row: &mut Vec<Option<Path>>, place: usize, path: Path)
     row[place] = Some(first);
 }
 
-/// Puts a path at a place of the row of a number of bits read, where the row has places.
+/// Puts a path at a place of the row of a number of bits read, if the row has places.
 fn put_at(rows: &mut Vec<Vec<Option<Path>>>, read: usize, place: usize, path: Path)
     requires read { read < vec_len rows.old }
     requires place { place < length (path_row (map (λ r. r.items) rows.old.items) read) }
@@ -51,7 +51,7 @@ fn empty_row(alloc: Global, width: usize) -> Result<Vec<Option<Path>>, AllocErro
     vec![in alloc; None; width]
 }
 
-/// Gives the row of a number of bits read its places, where it has none.
+/// Gives the row of a number of bits read its places, if it has none.
 fn open_row(
     alloc: Global,
     rows: &mut Vec<Vec<Option<Path>>>,
@@ -72,7 +72,7 @@ fn open_row(
 ///
 /// # Errors
 ///
-/// `AllocError` where memory was wanted and not there.
+/// `AllocError` if memory was wanted and not there.
 pub fn put_path(
     alloc: Global,
     rows: &mut Vec<Vec<Option<Path>>>,

@@ -63,7 +63,7 @@ pub fn put_in_order<T: Ord + Drop>(list: &mut Vec<T>) -> Result<(), AllocError>
 ///
 /// # Errors
 ///
-/// `AllocError` where memory was wanted and not there.
+/// `AllocError` if memory was wanted and not there.
 pub fn reached_slots<P: Profile>(
     alloc: Global,
     filled: &[FullSlot],

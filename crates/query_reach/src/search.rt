@@ -140,7 +140,7 @@ fn expand_row<P: Profile>(
 ///
 /// # Errors
 ///
-/// `AllocError` where memory was wanted and not there.
+/// `AllocError` if memory was wanted and not there.
 pub fn search<P: Profile>(
     alloc: Global,
     filled: &[FullSlot],

@@ -10,7 +10,7 @@ use cap_core::Rights;
 use std::alloc::{AllocError, Global};
 
 /// A way of messages: a word by which a thread may send to an endpoint, and the first word by which another thread may
-/// receive from it, or none where no other thread may. What is received has the badge of the sender's capability.
+/// receive from it, or none if no other thread may. What is received has the badge of the sender's capability.
 #[derive(Clone, Copy)]
 pub struct Channel {
     pub sender: EndpointWord,
@@ -53,12 +53,12 @@ fn add_channels(
 }
 
 /// The channels between threads: of each word by which a thread may send, to each other thread that may receive from its
-/// endpoint, and where there is none, to nobody. `words` has the words of all threads, as `endpoint_words` gives them, each
+/// endpoint, and if there is none, to nobody. `words` has the words of all threads, as `endpoint_words` gives them, each
 /// thread's together; the channels stand in the order of the senders, and of one sender in that of the receivers.
 ///
 /// # Errors
 ///
-/// `AllocError` where memory was wanted and not there.
+/// `AllocError` if memory was wanted and not there.
 pub fn channels(alloc: Global, words: &[EndpointWord]) -> Result<Vec<Channel>, AllocError>
     ensures { IfOk result (λ list. list.items ≡ all_channels words.now) }
 {
@@ -93,7 +93,7 @@ fn has_sender(words: &[EndpointWord], receiver: &EndpointWord) -> bool
 ///
 /// # Errors
 ///
-/// `AllocError` where memory was wanted and not there.
+/// `AllocError` if memory was wanted and not there.
 pub fn receivers_without_sender(
     alloc: Global,
     words: &[EndpointWord],

@@ -6,7 +6,7 @@ ghost use Rattle.query_reach.specs.Private.Tables.{left_row, noted_in, noted, Ar
 use cap_core::Profile;
 use std::alloc::{AllocError, Global};
 
-/// Notes a word at a place of a row, where none or a greater one stands.
+/// Notes a word at a place of a row, if none or a greater one stands.
 fn note_in(row: &mut Vec<Option<u64>>, place: usize, word: u64)
     requires { place < vec_len row.old }
     ensures { row.new.items ≡ noted_in row.old.items place word }
@@ -18,7 +18,7 @@ fn note_in(row: &mut Vec<Option<u64>>, place: usize, word: u64)
     row[place] = Some(least);
 }
 
-/// Notes a word at a place of the row of a number of bits left, where the row has places.
+/// Notes a word at a place of the row of a number of bits left, if the row has places.
 fn note_at(rows: &mut Vec<Vec<Option<u64>>>, left: usize, place: usize, word: u64)
     requires left { left < vec_len rows.old }
     requires place { place < length (left_row (map (λ r. r.items) rows.old.items) left) }
@@ -34,7 +34,7 @@ fn empty_row(alloc: Global, width: usize) -> Result<Vec<Option<u64>>, AllocError
     vec![in alloc; None; width]
 }
 
-/// Gives the row of a number of bits left its places, where it has none.
+/// Gives the row of a number of bits left its places, if it has none.
 fn open_row(
     alloc: Global,
     rows: &mut Vec<Vec<Option<u64>>>,
@@ -55,7 +55,7 @@ fn open_row(
 ///
 /// # Errors
 ///
-/// `AllocError` where memory was wanted and not there.
+/// `AllocError` if memory was wanted and not there.
 pub fn note(
     alloc: Global,
     rows: &mut Vec<Vec<Option<u64>>>,

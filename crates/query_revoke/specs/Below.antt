@@ -1,4 +1,4 @@
--- What stands below a slot, and what a revoke of the slot takes along where no object with slots ends with it.
+-- What stands below a slot, and what a revoke of the slot takes along if no object with slots ends with it.
 use Rattle.std.specs.Prelude.{◌≡◌, ℕ, ◌==◌, Bool, true, false, List, count_by, map, All}
 use Rattle.std.specs.List.{list_any, Contains, IsDistinct}
 use Rattle.cap_core.specs.declared.profile.ProfileName.{ProfileName}

@@ -1,4 +1,4 @@
--- What stands below a slot, and what a revoke of the slot takes along where no object with slots ends with it: Below has what
+-- What stands below a slot, and what a revoke of the slot takes along if no object with slots ends with it: Below has what
 -- is told, Keyed and Objects how it is looked up, Runs where what stands below is found.
 pub mod Below
 pub mod Index

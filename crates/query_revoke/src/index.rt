@@ -96,7 +96,7 @@ impl<P: Profile> DerivationIndex<P> {
         })
     }
 
-    /// What a revoke of the slot at an address clears and ends; `None` where no derivation is of the slot, and where an object
+    /// What a revoke of the slot at an address clears and ends; `None` if no derivation is of the slot, and if an object
     /// that has slots ends with the revoke: more may be cleared then than what stands below the slot.
     ///
     /// Time: it grows with what stands below the slot, each with the logarithm of the full slots.

@@ -1,4 +1,4 @@
-//! What a revoke takes along where it ends no object that has slots: what stands below its slot, and nothing else.
+//! What a revoke takes along if it ends no object that has slots: what stands below its slot, and nothing else.
 #![tactic(auto)]
 
 mod index;

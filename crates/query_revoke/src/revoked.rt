@@ -1,4 +1,4 @@
-//! What a revoke clears and ends, where it ends no object that has slots.
+//! What a revoke clears and ends, if it ends no object that has slots.
 ghost use Rattle.std.specs.Prelude.{◌≡◌, ℕ, ◌≤◌, IfOk, IfSome, filter, length, map};
 ghost use Rattle.std.specs.List.{list_all, list_any};
 ghost use Rattle.kernel_forest.specs.Forest.{Forest};
@@ -50,7 +50,7 @@ fn has_slots(cap: Cap) -> bool
     matches!(cap, Cap::CNode { .. } | Cap::Tcb { .. })
 }
 
-/// Whether an object that has slots ends where the derivations from a place on, and in front of another one, are cleared.
+/// Whether an object that has slots ends if the derivations from a place on, and in front of another one, are cleared.
 fn ends_slots(list: &[Derivation], objects: &[Keyed], start: usize, end: usize) -> bool
     requires order { AreOrderedByKey objects.now }
     requires ascending { (n : ℕ) → AreAscending (filter (is_keyed_by n) objects.now) }

@@ -9,7 +9,7 @@ use crate::keyed::{Keyed, at_key};
 use cap_core::Profile;
 use slot_core::Derivation;
 
-/// The place of the slot at an address, where one of the derivations is of it.
+/// The place of the slot at an address, if one of the derivations is of it.
 pub fn place_at(places: &[Keyed], address: u64) -> Option<usize>
     requires { AreOrderedByKey places.now }
     ensures { result ≡ option_map (λ k. k.place) (slice_get (filter (is_keyed_by address) places.now) 0) }

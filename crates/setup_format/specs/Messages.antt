@@ -19,6 +19,6 @@ SendsMessage p (Send cap message) = IsMessage p message
 SendsMessage p (NbSend cap message) = IsMessage p message
 SendsMessage p op = Unit {0}
 
--- where a call sends a message, it is one of the profile
+-- if a call sends a message, it is one of the profile
 abbrev pub HasMessage : ProfileName → CallView → Type 0
 HasMessage p call = SendsMessage p call.call.op

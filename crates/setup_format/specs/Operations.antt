@@ -38,7 +38,7 @@ module _ (p : ProfileName) (names : Names) (place : Place) (table : Members) whe
     count ← word_at (codes "count")
     Ok (ops.Retype cap kind size_bits root index depth offset count)
 
-  -- the CNode that is invoked, and the words by which a copy or a move names its slots: where no depth is given, all the bits of a word are; where no CNode of the source is given, it is the one that is invoked
+  -- the CNode that is invoked, and the words by which a copy or a move names its slots: if no depth is given, all the bits of a word are; if no CNode of the source is given, it is the one that is invoked
   unfoldable pub slots_at : Result (ℕ × SlotArguments) Fault
   slots_at = do
     cap ← word_at (codes "cap")
@@ -76,7 +76,7 @@ module _ (p : ProfileName) (names : Names) (place : Place) (table : Members) whe
     value ← word_at (codes "word")
     Ok (ops.CapMutate w.0 w.1.index w.1.depth w.1.src_root w.1.src_index w.1.src_depth value)
 
-  -- a slot of a CNode: where no depth is given, all the bits of a word are
+  -- a slot of a CNode: if no depth is given, all the bits of a word are
   unfoldable pub slot_at : Result (ℕ × ℕ × ℕ) Fault
   slot_at = do
     cap ← word_at (codes "cap")
@@ -92,7 +92,7 @@ module _ (p : ProfileName) (names : Names) (place : Place) (table : Members) whe
     words ← optional place table (codes "words") (filled []) (words p names)
     Ok (cap, record { label = label; words = words.words; count = words.count })
 
-  -- where no guard word is given, it is 0
+  -- if no guard word is given, it is 0
   unfoldable pub set_space_at : Result Op Fault
   set_space_at = do
     cap ← word_at (codes "cap")

@@ -72,7 +72,7 @@ sizes_at place table = do
   endpoints ← required place table (codes "endpoints") (number 0 max_boot_endpoints)
   Ok (record { memory_bits = memory_bits; root_radix = root_radix; threads = threads; endpoints = endpoints })
 
--- the plan of a boot, and the fault where it has a defect
+-- the plan of a boot, and the fault if it has a defect
 abbrev pub planned_with : Sizes → List (ℕ × ℕ) → Plan
 planned_with sizes untypeds = planned sizes.memory_bits sizes.root_radix sizes.threads sizes.endpoints untypeds
 
@@ -83,7 +83,7 @@ laid_out_unless (Some defect) plan = Err (layout defect)
 abbrev pub laid_out : ProfileName → Plan → Result Plan Fault
 laid_out p plan = laid_out_unless (first_defect p plan) plan
 
--- the number of calls, at least 1, where no limit is given
+-- the number of calls, at least 1, if no limit is given
 abbrev pub limit_of : ℕ → ℕ → ℕ
 limit_of given calls = if given == 0 then max 1 calls else given
 

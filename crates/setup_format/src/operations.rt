@@ -30,7 +30,7 @@ fn retype_at<P: Profile>(keys: &Keys<'_, '_, '_, P>) -> Result<Op, SetupFault>
 }
 
 /// The address of the CNode by which a copy or a move is made, and the words by which it names its slots. A depth that is
-/// not given is all the bits of a word, and the source's CNode is the one that is invoked where none is given.
+/// not given is all the bits of a word, and the source's CNode is the one that is invoked if none is given.
 #[tactic(auto, unfolding(crate::specs::Operations::slots_at))]
 fn slots_at<P: Profile>(keys: &Keys<'_, '_, '_, P>) -> Result<(u64, SlotArguments), SetupFault>
     ensures { Gives (λ w. w) result (spec.slots_at P.profile (names_view keys.now.names.now) keys.now.place (table_view keys.now.table.now)) }

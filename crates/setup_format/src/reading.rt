@@ -131,7 +131,7 @@ fn plan_of<P: Profile>(sizes: Sizes, untypeds: Vec<(u64, u32)>) -> Result<BootPl
     .map_err(|defect| SetupFault::Layout(defect))
 }
 
-/// The most entries of a history: the number of calls, at least 1, where the set-up gives none.
+/// The most entries of a history: the number of calls, at least 1, if the set-up gives none.
 fn limit_of(given: u32, calls: usize) -> u32
     requires calls { calls ≤ MAX_CALLS }
     requires given { given ≤ MAX_HISTORY_LIMIT }
@@ -240,7 +240,7 @@ fn setup_up_to(newest: u32, alloc: Global, table: &Table) -> Result<Setup, Setup
 ///
 /// # Errors
 ///
-/// The first fault in this order, or `Memory` in place of any answer where memory was refused: the key `format`; an unknown key
+/// The first fault in this order, or `Memory` in place of any answer if memory was refused: the key `format`; an unknown key
 /// of the table, the least by its bytes; the key `profile`; its other keys, of which `names` comes after `limit`; each table of
 /// `untyped`; the plan of the boot; each table of `call`.
 /// `Text` is never answered. The formats are this project's profile.
@@ -255,7 +255,7 @@ pub fn read_table(alloc: Global, table: &Table) -> Result<Setup, SetupFault>
     setup_up_to(NEWEST_FORMAT, alloc, table)
 }
 
-/// The names that a table gives to words, in the order of their bytes; none where the key `names` is not there.
+/// The names that a table gives to words, in the order of their bytes; none if the key `names` is not there.
 fn names_of(alloc: Global, profile: ProfileName, table: &Table) -> Result<Vec<Name>, SetupFault>
     ensures { Gives (λ v. names_view v.items) result (spec.names_of profile (table_view table.now)) }
 {
@@ -287,7 +287,7 @@ fn read_of(alloc: Global, table: Table) -> Result<ReadSetup, SetupFault>
 ///
 /// # Errors
 ///
-/// As `read_table`, where every later format is refused as one that does not exist.
+/// As `read_table`, if every later format is refused as one that does not exist.
 pub fn read_first_format(alloc: Global, table: &Table) -> Result<Setup, SetupFault>
     ensures setup { Gives (λ s. s) result (spec.first_format_setup_of (table_view table.now)) }
     ensures plan { IfOk result (λ s. IsPlan s.profile s.plan) }
@@ -300,7 +300,7 @@ pub fn read_first_format(alloc: Global, table: &Table) -> Result<Setup, SetupFau
 ///
 /// # Errors
 ///
-/// `Text` where the bytes are no TOML document; `Memory` where memory was refused.
+/// `Text` if the bytes are no TOML document; `Memory` if memory was refused.
 #[tactic(auto, using(crate::proofs::Grammar::Bytes::document_of_text, crate::proofs::Grammar::Bytes::document_of_no_text))]
 pub fn read_document(alloc: Global, bytes: &[u8]) -> Result<Table, SetupFault>
     ensures { Gives table_view result (spec.document_of bytes.now) }
@@ -324,7 +324,7 @@ pub fn read_document(alloc: Global, bytes: &[u8]) -> Result<Table, SetupFault>
 ///
 /// # Errors
 ///
-/// `Text` where the bytes are no TOML document; else as `read_table` of the document's table.
+/// `Text` if the bytes are no TOML document; else as `read_table` of the document's table.
 #[tactic(auto, unfolding(crate::specs::Setups::setup_of_bytes))]
 pub fn read_setup(alloc: Global, bytes: &[u8]) -> Result<Setup, SetupFault>
     ensures setup { Gives (λ s. s) result (spec.setup_of_bytes bytes.now) }

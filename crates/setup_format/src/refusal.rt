@@ -16,7 +16,7 @@ fn is_plain(text: &[u8]) -> bool
     text.iter().all(|b| matches!(*b, b'0'..=b'9' | b'A'..=b'Z' | b'a'..=b'z' | b'_' | b'-'))
 }
 
-/// A key as a line shows it: `?` where it is empty, long, or has other bytes than ASCII letters, digits, `_` and `-`.
+/// A key as a line shows it: `?` if it is empty, long, or has other bytes than ASCII letters, digits, `_` and `-`.
 fn shown(key: &str) -> &str
     ensures { result.now ≡ line.key_text key.now }
 {

@@ -204,7 +204,7 @@ impl Setup {
         self.calls.client_of(i)
     }
 
-    /// How the reply to the call at place `i`, 0 the first, is expected to begin; `None` where nothing is expected.
+    /// How the reply to the call at place `i`, 0 the first, is expected to begin; `None` if nothing is expected.
     pub fn expect(&self, i: usize) -> Option<&str>
         requires { i < length self.now.calls }
         ensures { option_map (λ c. c.expect) (slice_get self.now.calls i) ≡ Some (option_copied result) }

@@ -91,7 +91,7 @@ impl<'t, 'n, 'k, P: Profile> Keys<'t, 'n, 'k, P> {
         }
     }
 
-    /// An expectation; none where the key is not there.
+    /// An expectation; none if the key is not there.
     pub fn expect(&self, alloc: Global, key: &'static str) -> Result<Option<String>, SetupFault>
         ensures { Gives (λ o. option_map string_bytes o) result (spec.optional self.now.place (table_view self.now.table.now) key.now None kind.expect) }
     {
@@ -104,7 +104,7 @@ impl<'t, 'n, 'k, P: Profile> Keys<'t, 'n, 'k, P> {
         }
     }
 
-    /// The tables of an array of at most `most` tables; none where the key is not there.
+    /// The tables of an array of at most `most` tables; none if the key is not there.
     pub fn tables(
         &self,
         alloc: Global,
@@ -140,7 +140,7 @@ impl<'t, 'n, 'k, P: Profile> Keys<'t, 'n, 'k, P> {
         Ok(tables)
     }
 
-    /// Names; none where the key is not there.
+    /// Names; none if the key is not there.
     pub fn names(&self, alloc: Global, key: &'static str) -> Result<Vec<Name>, SetupFault>
         ensures { Gives (λ v. names_view v.items) result (spec.optional self.now.place (table_view self.now.table.now) key.now [] (kind.names P.profile)) }
     {

@@ -30,7 +30,7 @@ pub fn operations() -> [&'static str; 15] {
     OpName::ALL.map(|op| op.text())
 }
 
-/// The bound of a word, where the words of the machine are shorter than a set-up's.
+/// The bound of a word, if the words of the machine are shorter than a set-up's.
 pub fn word_bound(profile: ProfileName) -> &'static str {
     match profile {
         ProfileName::Wide => "",

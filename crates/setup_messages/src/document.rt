@@ -43,12 +43,12 @@ impl<'a> Document<'a> {
         self.table_at(place)?.get(key)
     }
 
-    /// The names, where there are any.
+    /// The names, if there are any.
     pub fn names(&self) -> Option<&'a Table> {
         self.table.get("names")?.as_table()
     }
 
-    /// The profile, where its key was read.
+    /// The profile, if its key was read.
     pub fn profile(&self) -> ProfileName {
         read_at(self.table, "profile", ProfileKind).unwrap_or(ProfileName::Wide)
     }
@@ -72,7 +72,7 @@ impl<'a> Document<'a> {
     }
 }
 
-/// What a kind reads at a key, without names; none where the key is not there or was not read.
+/// What a kind reads at a key, without names; none if the key is not there or was not read.
 pub fn read_at<K: Kind + Copy>(table: &Table, key: &str, kind: K) -> Option<K::Out>
     ensures { IfSome result (K.holds kind) }
 {

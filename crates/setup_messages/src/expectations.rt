@@ -20,7 +20,7 @@ const REFUSALS: [&str; 13] = [
     "1", "2", "3", "4", "6/1", "6/2", "6/3", "6/4", "8", "9", "10", "100", "101",
 ];
 
-/// The words of a reply that delivers a message; a number stands where a word is empty, and the words of the message
+/// The words of a reply that delivers a message; a number stands if a word is empty, and the words of the message
 /// behind them all.
 #[rattlefmt::skip]
 const DELIVERED: [&str; 11] = ["delivered", "", "from", "", "to", "", "badge", "", "label", "", "words"];
@@ -164,7 +164,7 @@ fn hint(alloc: Global, word: &str, text: &str) -> Result<String, AllocError> {
     }
 }
 
-/// The expectation of a call, where it does not ask and no reply of the call's operation begins with it.
+/// The expectation of a call, if it does not ask and no reply of the call's operation begins with it.
 fn unmeetable(setup: &Setup, i: usize) -> Option<&str>
     requires { i < length setup.now.calls }
 {
@@ -178,7 +178,7 @@ fn unmeetable(setup: &Setup, i: usize) -> Option<&str>
 }
 
 /// Says of a call, by its number, that no reply to its operation begins with its expectation, and what may have been meant;
-/// nothing where a reply can, or where there is no such call.
+/// nothing if a reply can, or if there is no such call.
 fn unmeetable_words(
     alloc: Global,
     named: &ReadSetup,
@@ -202,10 +202,10 @@ fn unmeetable_words(
 }
 
 /// Of each of some calls of the set-up that the bytes are, by their numbers: that no reply to its operation begins with its
-/// expectation, and what may have been meant; nothing where a reply can.
+/// expectation, and what may have been meant; nothing if a reply can.
 ///
 /// # Errors
-/// Where memory was refused.
+/// If memory was refused.
 pub fn unmeetable_expectations(
     alloc: Global,
     bytes: &[u8],

@@ -6,7 +6,7 @@ use setup_positions::array_of;
 use std::alloc::{AllocError, Global};
 use toml::{Table, Value};
 
-/// The sizes of a set-up, with those that can be laid out where there are no untyped regions.
+/// The sizes of a set-up, with those that can be laid out if there are no untyped regions.
 const SIZES: [(&str, u32); 4] = [
     ("memory_bits", MAX_MEMORY_BITS),
     ("root_radix", MAX_ROOT_RADIX),
@@ -28,7 +28,7 @@ pub enum Mended {
     Size,
 }
 
-/// Puts a size that is accepted at a key, where the key is one of a size.
+/// Puts a size that is accepted at a key, if the key is one of a size.
 fn mend_size(alloc: Global, table: &mut Table, key: &str) -> Result<Mended, AllocError> {
     for (name, size) in SIZES {
         if name == key {
@@ -63,7 +63,7 @@ fn table_at(table: &mut Table, place: Place) -> Option<&mut Table> {
 /// read without it. The names of a set-up stay, too: without them each use of one would be a fault.
 ///
 /// # Errors
-/// Where memory was refused.
+/// If memory was refused.
 pub fn mend(alloc: Global, table: &mut Table, fault: &SetupFault) -> Result<Mended, AllocError> {
     let (wrong, place, key) = match fault {
         SetupFault::At { wrong, place, key } => (*wrong, *place, text_of(key)),

@@ -33,7 +33,7 @@ pub fn quoted(alloc: Global, key: &str) -> Result<String, AllocError> {
     }
 }
 
-/// Asks whether a name was meant, where there is one.
+/// Asks whether a name was meant, if there is one.
 pub fn question(alloc: Global, name: Option<&str>) -> Result<String, AllocError> {
     match name {
         Some(name) => format!(in alloc; "; did you mean {name}?"),

@@ -34,7 +34,7 @@ fn is_synonym(found: &str, name: &str) -> bool {
     SYNONYMS.contains(&(found, name))
 }
 
-/// Of some names the one that looks most like what was found, or the last one that means the same, where one does. Nothing looks
+/// Of some names the one that looks most like what was found, or the last one that means the same, if one does. Nothing looks
 /// like a text that is too long to be shown.
 pub fn nearest<'a>(
     alloc: Global,

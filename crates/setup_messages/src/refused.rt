@@ -20,7 +20,7 @@ use toml::Table;
 /// The most faults of a set-up that are told.
 const MAX_FAULTS: usize = 20;
 
-/// What is said where more are not.
+/// What is said if more are not.
 const NO_MORE: &str = "more faults are not looked for";
 
 /// What is said of names in a set-up of format 1.
@@ -73,7 +73,7 @@ pub fn text_of(key: &Key) -> &str {
     }
 }
 
-/// The words on a fault of a document, and the line of the text at which it stands, where that is found.
+/// The words on a fault of a document, and the line of the text at which it stands, if that is found.
 fn fault_words(
     document: Document<'_>,
     source: NamedText<'_>,
@@ -141,14 +141,14 @@ fn document_words(
 }
 
 /// Says in words why a set-up is refused that is read by these formats: each fault with the line of the text at which it
-/// stands, or what is wrong with a text that is no TOML document; nothing where it is not refused. `name` is the file's.
+/// stands, or what is wrong with a text that is no TOML document; nothing if it is not refused. `name` is the file's.
 ///
 /// The first fault is the one for which the set-up is refused. The others are those that are found once it is mended:
 /// of a call each unknown key and one other, and `MAX_FAULTS` in all. Behind a fault of a region, or of the layout, the regions
 /// are not looked at any more, and behind one of another key of the top table than a size nothing is.
 ///
 /// # Errors
-/// Where memory was refused.
+/// If memory was refused.
 pub fn refusal_words(
     alloc: Global,
     bytes: &[u8],

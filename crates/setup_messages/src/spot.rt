@@ -6,7 +6,7 @@ use setup_positions::Part;
 use std::fmt;
 use toml::Value;
 
-/// A key of a table of a document, or an element of the array there, 1 the first, and the value; none where the key is missing.
+/// A key of a table of a document, or an element of the array there, 1 the first, and the value; none if the key is missing.
 #[derive(Clone, Copy)]
 pub struct Spot<'a> {
     pub document: Document<'a>,
@@ -33,7 +33,7 @@ impl<'a> Spot<'a> {
         spot
     }
 
-    /// Goes to the first of some words that is none; not where there are more than a message has.
+    /// Goes to the first of some words that is none; not if there are more than a message has.
     fn find_element(&mut self, words: &'a [Value]) {
         if words.len() > MAX_MESSAGE_WORDS {
             return;
@@ -47,7 +47,7 @@ impl<'a> Spot<'a> {
         }
     }
 
-    /// The part of the text that is at fault: a name, where the value is one, and else the key.
+    /// The part of the text that is at fault: a name, if the value is one, and else the key.
     pub fn part(&self) -> Part {
         let Some(Value::String(text)) = self.value else {
             return Part::Key;

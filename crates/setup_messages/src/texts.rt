@@ -31,7 +31,7 @@ const NO_SEMICOLON: &str = "a value has no ; behind it";
 
 const NO_SUM: &str = "a value is one number, and no sum or product";
 
-/// What helps where a value is none that TOML knows, by what stands there.
+/// What helps if a value is none that TOML knows, by what stands there.
 fn hint_on_value(there: &str) -> &'static str {
     let mut letters = there.chars();
     match (letters.next(), letters.next()) {
@@ -43,7 +43,7 @@ fn hint_on_value(there: &str) -> &'static str {
     }
 }
 
-/// What helps where something stands behind a value.
+/// What helps if something stands behind a value.
 fn hint_behind(there: &str) -> &'static str {
     match there.trim_start().chars().next() {
         Some('/') => NO_COMMENT,
@@ -92,7 +92,7 @@ fn line_of(above: &str, key: &str) -> Option<usize> {
 /// The words on bytes that are no TOML document, which were read from a file of that name. The text up to the fault is UTF-8.
 ///
 /// # Errors
-/// Where memory was refused.
+/// If memory was refused.
 pub fn text_words(alloc: Global, bytes: &[u8], name: &str) -> Result<String, AllocError> {
     let Err(error) = toml::table_from_slice(alloc, bytes) else {
         return Ok(String::new(alloc));

@@ -25,7 +25,7 @@ const IS_LEFT_OUT: &str = "this one of seL4's is left out";
 /// No number of bits is so large.
 const NO_BITS: u64 = 64;
 
-/// The most names that are told where none looks like the one that is not there.
+/// The most names that are told if none looks like the one that is not there.
 const FEW_NAMES: usize = 8;
 
 /// Why a value is not taken, or that there is none: what was found, what is accepted, and a hint.
@@ -109,7 +109,7 @@ fn no_name(spot: Spot<'_>, text: &str) -> Result<String, AllocError> {
     }
 }
 
-/// What may have been meant by a name that is not there: the one that looks most like it, or which there are, where they are few.
+/// What may have been meant by a name that is not there: the one that looks most like it, or which there are, if they are few.
 fn hint_on_name(alloc: Global, name: &str, known: &[&str]) -> Result<String, AllocError> {
     match nearest(alloc, name, known)? {
         None if !known.is_empty() && known.len() <= FEW_NAMES => {
@@ -148,7 +148,7 @@ fn no_client(spot: Spot<'_>) -> Result<String, AllocError> {
     }
 }
 
-/// What helps where a value has the type of another spelling of the same.
+/// What helps if a value has the type of another spelling of the same.
 fn hint_on_type(spot: Spot<'_>) -> &'static str {
     let takes_all = matches!(spot.document.formats, Formats::All);
     match (spot.key, spot.value) {
@@ -182,7 +182,7 @@ fn no_names(spot: Spot<'_>, names: &Table) -> Result<String, AllocError> {
 /// Why the value at a key is not taken, or that there is none.
 ///
 /// # Errors
-/// Where memory was refused.
+/// If memory was refused.
 pub fn value_words(spot: Spot<'_>) -> Result<String, AllocError> {
     match (spot.key, spot.value) {
         ("memory_bits" | "root_radix" | "bits", Some(Value::Integer(n))) => no_bits(spot, *n),

@@ -23,7 +23,7 @@ with_member k d no_members = member k d no_members
 with_member k d (member l e ms) =
     match_ordering (slice_cmp nat_cmp k l) (member k d (member l e ms)) (member l d ms) (member l e (with_member k d ms))
 
--- a table with the value at a key changed, where it has the key
+-- a table with the value at a key changed, if it has the key
 abbrev pub with_changed : List ℕ → (Data → Data) → Members → Members
 with_changed k f no_members = no_members
 with_changed k f (member l d ms) = if same_key k l then member l (f d) ms else member l d (with_changed k f ms)

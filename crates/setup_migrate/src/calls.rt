@@ -28,7 +28,7 @@ fn boot_thread<P: Profile>(plan: &BootPlan, thread: &Value) -> Option<u32>
     thread_at::<P>(plan, address)
 }
 
-/// Replaces the thread of a call by its name, where it is a boot thread.
+/// Replaces the thread of a call by its name, if it is a boot thread.
 fn name_thread<P: Profile>(
     alloc: Global,
     plan: &BootPlan,

@@ -39,7 +39,7 @@ fn rewrite<P: Profile>(alloc: Global, plan: &BootPlan, table: &mut Table) -> Res
 /// # Errors
 ///
 /// The first fault of the set-up by the rules of format 1 alone, in which format 2 is no format; or `Memory` in place
-/// of any answer where memory was refused.
+/// of any answer if memory was refused.
 #[tactic(auto, unfolding(crate::specs::Migration::migrated_bytes, setup_format::specs::Setups::first_format_setup_of_bytes))]
 pub fn migrate(alloc: Global, bytes: &[u8]) -> Result<Table, SetupFault>
     ensures table { Gives table_view result (spec.migrated_bytes bytes.now) }

@@ -7,7 +7,7 @@ use std::ops::Range;
 /// The most characters of a line that are shown.
 const MAX_SHOWN: usize = 100;
 
-/// How many characters are shown before what is underlined, where a line is too long to be shown whole.
+/// How many characters are shown before what is underlined, if a line is too long to be shown whole.
 const SHOWN_BEFORE: usize = 40;
 
 /// The text of a set-up, and the name of the file from which it was read.
@@ -25,11 +25,11 @@ impl<'a> NamedText<'a> {
         Excerpt { source: self, span }
     }
 
-    /// The bytes of the text that are a key of a table, or a part of its value, or, where the key is missing, those with which
-    /// the table begins. None where the text is no TOML document.
+    /// The bytes of the text that are a key of a table, or a part of its value, or, if the key is missing, those with which
+    /// the table begins. None if the text is no TOML document.
     ///
     /// # Errors
-    /// Where memory was refused.
+    /// If memory was refused.
     pub fn excerpt_at(
         self,
         alloc: Global,

@@ -81,7 +81,7 @@ struct Search<'t, 's> {
 }
 
 impl<'t> Search<'t, '_> {
-    /// Passes the head of a table, and gives the text behind it: none where the table in which the key stands has ended.
+    /// Passes the head of a table, and gives the text behind it: none if the table in which the key stands has ended.
     fn pass_head(&mut self, alloc: Global, at: &'t str) -> Result<&'t str, Unfound> {
         if self.table.is_some() {
             return Ok("");
@@ -103,7 +103,7 @@ impl<'t> Search<'t, '_> {
         Ok(rest)
     }
 
-    /// Passes a key with its value, and gives the text behind it: none where the table was in that value.
+    /// Passes a key with its value, and gives the text behind it: none if the table was in that value.
     fn pass_entry(&mut self, alloc: Global, at: &'t str) -> Result<&'t str, Unfound> {
         let (key, value) = entry_of(alloc, at)?;
         match self.array {
@@ -121,7 +121,7 @@ impl<'t> Search<'t, '_> {
     }
 }
 
-/// The text from the key on; from the head of the table on, where the key is not there.
+/// The text from the key on; from the head of the table on, if the key is not there.
 fn text_from<'t>(
     alloc: Global,
     text: &'t str,
@@ -174,7 +174,7 @@ fn value_at(alloc: Global, text: &str, part: Part) -> Result<(&str, usize), Unfo
     Ok((from, length.ok_or(Unfound::Nowhere)?))
 }
 
-/// The text from a part of a key on, and how many bytes it has: those of the key where the part is not there.
+/// The text from a part of a key on, and how many bytes it has: those of the key if the part is not there.
 fn part_at(alloc: Global, text: &str, part: Part) -> Result<(&str, usize), AllocError> {
     match found(value_at(alloc, text, part))? {
         Some(value) => Ok(value),
@@ -182,11 +182,11 @@ fn part_at(alloc: Global, text: &str, part: Part) -> Result<(&str, usize), Alloc
     }
 }
 
-/// Which bytes of a set-up's text are a key of a table, as it is written, or the part of its value that is looked for; where the
-/// key is missing, those with which the table begins. None where the text is no TOML document.
+/// Which bytes of a set-up's text are a key of a table, as it is written, or the part of its value that is looked for; if the
+/// key is missing, those with which the table begins. None if the text is no TOML document.
 ///
 /// # Errors
-/// Where memory was refused.
+/// If memory was refused.
 pub fn span_at(
     alloc: Global,
     text: &str,
@@ -199,7 +199,7 @@ pub fn span_at(
 /// count from 1.
 ///
 /// # Errors
-/// Where memory was refused.
+/// If memory was refused.
 pub fn span_in(
     alloc: Global,
     text: &str,

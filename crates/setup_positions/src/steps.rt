@@ -27,10 +27,10 @@ impl From<ParseError> for Unfound {
     }
 }
 
-/// What was found, or `None` where it is not there.
+/// What was found, or `None` if it is not there.
 ///
 /// # Errors
-/// Where memory was refused.
+/// If memory was refused.
 pub fn found<T>(searched: Result<T, Unfound>) -> Result<Option<T>, AllocError> {
     match searched {
         Ok(part) => Ok(Some(part)),

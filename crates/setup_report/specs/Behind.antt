@@ -30,7 +30,7 @@ is_refused_reply reply = false
 abbrev pub refused_behind : ProfileName → SetupView → ℕ → ℕ
 refused_behind p setup made = count_by is_refused_reply (replies_behind p setup made)
 
--- how many calls are made: all of them, where no number is given; none where the set-up has fewer
+-- how many calls are made: all of them, if no number is given; none if the set-up has fewer
 abbrev pub calls_made : SetupView → Option ℕ → Option ℕ
 calls_made setup None = Some (length setup.calls)
 calls_made setup (Some count) = cond (nat_le count (length setup.calls)) (Some count) None

@@ -43,11 +43,11 @@ abbrev pub is_met : Option (List ℕ) → List ℕ → Bool
 is_met None text = false
 is_met (Some expected) text = begins_as text expected
 
--- 1 where a reply is what was expected, else 0
+-- 1 if a reply is what was expected, else 0
 abbrev pub one_met : Option (List ℕ) → List ℕ → ℕ
 one_met expected text = if is_met expected text then 1 else 0
 
--- 1 where a call expects something, else 0
+-- 1 if a call expects something, else 0
 abbrev pub one_expected : Option (List ℕ) → ℕ
 one_expected expected = if is_some expected then 1 else 0
 

@@ -44,7 +44,7 @@ by_address list = filter_map (found list) (rising (map slot_of list))
 abbrev pub is_slot_of : ProfileName → ℕ → ℕ → ℕ → Bool
 is_slot_of p base radix slot = nat_le base slot && nat_lt ((slot - base) / 2 ^ slot_bits p) (2 ^ radix)
 
--- the CNode that a capability names, where its base and its radix pass a test
+-- the CNode that a capability names, if its base and its radix pass a test
 abbrev pub node_base : (ℕ → ℕ → Bool) → Cap → Option ℕ
 node_base test Null = None
 node_base test (Untyped base bits free) = None

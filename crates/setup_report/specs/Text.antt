@@ -84,7 +84,7 @@ answered_text texts call reply =
 abbrev pub begins_as : List ℕ → List ℕ → Bool
 begins_as text expected = pointwise nat_eq text expected || starts_with nat_eq text (expected ++ codes " ")
 
--- what is said of an expectation, where a call has one, by the text of the reply
+-- what is said of an expectation, if a call has one, by the text of the reply
 abbrev pub expectation_text : Option (List ℕ) → List ℕ → List ℕ
 expectation_text None text = []
 expectation_text (Some expected) text =
@@ -107,7 +107,7 @@ next_thread_text texts thread = codes " " ++ texts.object (Object.Thread thread)
 abbrev pub threads_text : Texts → List ℕ → List ℕ
 threads_text texts threads = flat_map (next_thread_text texts) threads
 
--- the last message that was delivered to a thread, where there is one
+-- the last message that was delivered to a thread, if there is one
 abbrev pub inbox_text : Option Inbox → List ℕ
 inbox_text None = []
 inbox_text (Some inbox) = codes " inbox badge " ++ (decimal inbox.badge.0 ++ (codes " " ++ message_text inbox.message))

@@ -73,7 +73,7 @@ pub fn count_refused(replies: &[Reply]) -> usize
     count
 }
 
-/// How many calls are asked for, where the set-up has them: all of them, where no number is given. `None` where it has fewer.
+/// How many calls are asked for, if the set-up has them: all of them, if no number is given. `None` if it has fewer.
 pub fn calls_made(setup: &Setup, after: Option<u64>) -> Option<usize>
     ensures { result ≡ spec.calls_made setup.now after }
 {

@@ -32,7 +32,7 @@ fn is_met(shown: &str, expected: &str) -> bool
     }
 }
 
-/// What is said of an expectation, by the text of the reply. Where nothing is expected no memory is taken.
+/// What is said of an expectation, by the text of the reply. If nothing is expected no memory is taken.
 fn compared(
     alloc: Global,
     expected: Option<&str>,

@@ -10,7 +10,7 @@ use cap_core::Cap;
 use kernel_core::{Inbox, ThreadState};
 use std::fmt;
 
-/// What is said of the expectation of a call, where it has one.
+/// What is said of the expectation of a call, if it has one.
 #[derive(Clone, Copy)]
 pub enum ExpectationText<'a> {
     None,

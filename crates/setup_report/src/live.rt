@@ -39,7 +39,7 @@ fn is_slot_of<P: Profile>(base: u64, radix: u32, slot: u64) -> bool
     slot >= base && is_below_power((slot - base) >> P::SLOT_BITS, radix)
 }
 
-/// The base of the object that the capability in a slot, at its address in bytes, names, where that is asked for.
+/// The base of the object that the capability in a slot, at its address in bytes, names, if that is asked for.
 pub fn base_named<P: Profile>(naming: NamedObject, slot: u64, cap: Cap) -> Option<u64>
     ensures { result ≡ spec.base_named P.profile naming slot cap }
 {

@@ -92,7 +92,7 @@ fn add_slots<P: Profile, S: CapStore<P> + Drop, W: Waiters<P> + Drop>(
     Ok(())
 }
 
-/// The threads that wait on an endpoint, the first to be served first; none where no live endpoint is at the address.
+/// The threads that wait on an endpoint, the first to be served first; none if no live endpoint is at the address.
 pub fn waiting_threads<P: Profile, S: CapStore<P> + Drop, W: Waiters<P> + Drop>(
     alloc: Global,
     endpoint: u64,

@@ -19,7 +19,7 @@ use std::fmt;
 pub enum Naming<'a> {
     /// As numbers, a thread that a line is about also by its name.
     Addresses(&'a [Name]),
-    /// By the name of the object that is there, where it has one.
+    /// By the name of the object that is there, if it has one.
     Named(ObjectNames<'a>),
 }
 
@@ -28,7 +28,7 @@ pub enum Naming<'a> {
 pub enum Told<'a> {
     /// As a number.
     Number(u64),
-    /// As a number with a name behind it, where there is one.
+    /// As a number with a name behind it, if there is one.
     Thread(ThreadName<'a>),
     /// By the name of the object.
     Name(&'a str),
@@ -52,7 +52,7 @@ impl fmt::Display for Told<'_> {
     }
 }
 
-/// An object, by its name where it has one.
+/// An object, by its name if it has one.
 fn object_told<'a>(known: &'a ObjectNames<'a>, object: Object) -> Told<'a>
     ensures { spec.told_as result ≡ spec.object_told (spec.name_by known.entry.now) object }
 {
@@ -62,7 +62,7 @@ fn object_told<'a>(known: &'a ObjectNames<'a>, object: Object) -> Told<'a>
     }
 }
 
-/// The slot of a thread's CSpace, by the thread's name where it has one.
+/// The slot of a thread's CSpace, by the thread's name if it has one.
 fn space_told<'a>(known: &'a ObjectNames<'a>, slot: u64) -> Told<'a>
     ensures { spec.told_as result ≡ spec.space_or_number slot (spec.name_by known.entry.now (Object.Thread slot)) }
 {

@@ -88,7 +88,7 @@ fn boot_name<'a>(names: &'a [Name], boot: &[Derivation], object: Object) -> Opti
     }
 }
 
-/// The one name of an address, where it is none of a slot of the root CNode.
+/// The one name of an address, if it is none of a slot of the root CNode.
 fn address_name(names: &[Name], slots: u64, base: u64) -> Option<&str>
     ensures { option_copied result ≡ spec.address_name (names_view names.entry.now) slots base }
 {

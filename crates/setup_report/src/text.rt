@@ -12,7 +12,7 @@ use kernel_core::{Call, Inbox, Reply, ThreadState};
 use setup_format::op_name;
 use std::fmt;
 
-/// The rights of an endpoint capability: a letter for each right, or `-` where it is missing.
+/// The rights of an endpoint capability: a letter for each right, or `-` if it is missing.
 #[derive(Clone, Copy)]
 pub struct RightsText(pub Rights);
 
@@ -279,7 +279,7 @@ impl fmt::Display for ThreadsText<'_, '_> {
     }
 }
 
-/// The last message that was delivered to a thread, where there is one.
+/// The last message that was delivered to a thread, if there is one.
 #[derive(Clone, Copy)]
 pub struct InboxText(pub Option<Inbox>);
 

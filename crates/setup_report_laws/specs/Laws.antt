@@ -16,7 +16,7 @@ abbrev pub Stops : (ℕ → Bool) → List ℕ → Type 0
 Stops test [] = ⊤
 Stops test (byte ∷ rest) = test byte ≡ false
 
--- two texts begin with those of two capabilities, and no digit follows there: they are equal only where these are, and what
+-- two texts begin with those of two capabilities, and no digit follows there: they are equal only if these are, and what
 -- comes after them
 abbrev pub EndByThemselves : Cap → Cap → Type 0
 EndByThemselves a b =

@@ -10,7 +10,7 @@ ghost use Rattle.setup_report.specs.Text.{cap_text};
 ghost use Rattle.setup_report_laws.specs.Laws.{EndByThemselves, IsOneLine, IsWithinWords};
 
 /// Where the text of a capability ends is told by the text: of two texts that begin with those of capabilities, and go on
-/// with no digit, the capabilities' texts are equal where the whole is, and so is what stands behind them.
+/// with no digit, the capabilities' texts are equal if the whole is, and so is what stands behind them.
 pub fn texts_of_capabilities_end_by_themselves()
     ensures { (a b : Cap) → EndByThemselves a b }
 {}

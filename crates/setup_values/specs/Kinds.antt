@@ -30,7 +30,7 @@ wrong_code OtherValue = 204
 
 -- ---- what is read
 
--- what a function returned, where its value is seen by a view: a function that reads by a kind promises of this
+-- what a function returned, if its value is seen by a view: a function that reads by a kind promises of this
 -- that it is what the kind says of the value
 abbrev pub seen : {X A E : Type 0} → (X → A) → Result X E → Result A E
 seen view (Ok x) = Ok (view x)
@@ -156,7 +156,7 @@ entry p e = if is_name e.0 then (word p [] e.1 >>= λ n. Ok (e.0, n)) else Err O
 abbrev pub entry_at_fault : ProfileName → List (List ℕ × Data) → Option (List ℕ × Data)
 entry_at_fault p entries = least (λ e. e.0) (filter (λ e. is_err (entry p e)) entries)
 
--- where an entry is at fault, that one is told; otherwise all are read
+-- if an entry is at fault, that one is told; otherwise all are read
 abbrev pub told : {A : Type 0} → Option A → List A → List A
 told None entries = entries
 told (Some e) entries = e ∷ []

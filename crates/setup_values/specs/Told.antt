@@ -14,12 +14,12 @@ profile_text Narrow = codes "narrow"
 abbrev pub has_value : ℕ → List ℕ × ℕ → Bool
 has_value value name = name.1 == value
 
--- the name of a value: where exactly one name of the set-up has it
+-- the name of a value: if exactly one name of the set-up has it
 abbrev pub name_of : Names → ℕ → Option (List ℕ)
 name_of names value =
     cond (count_by (has_value value) names == 1) (option_map (λ (n : List ℕ × ℕ). n.0) (find (has_value value) names)) None
 
--- an address, and after it the name, where there is one
+-- an address, and after it the name, if there is one
 abbrev pub named_text : ℕ → Option (List ℕ) → List ℕ
 named_text address None = decimal address
 named_text address (Some name) = decimal address ++ (codes " @" ++ name)

@@ -37,7 +37,7 @@ pub trait Kind {
     ///
     /// # Errors
     ///
-    /// `OtherType` or `OtherValue` where the kind does not accept it.
+    /// `OtherType` or `OtherValue` if the kind does not accept it.
     fn read<P: Profile>(&self, names: &KnownNames<'_>, value: &Value) -> Result<Self::Out, Wrong>
         ensures means { result ≡ means self.now P.profile (names_view names.now) (view value.now) }
         ensures holds { IfOk result (holds self.now) };

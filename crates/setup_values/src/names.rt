@@ -65,7 +65,7 @@ fn word_listed(names: &[Name], text: &[u8]) -> Option<u64>
 /// The word of each name, by its bytes.
 type WordTable<'a> = HashMap<&'a [u8], u64>;
 
-/// The names that a set-up gives, by which words are looked up; in a table, where there can be many.
+/// The names that a set-up gives, by which words are looked up; in a table, if there can be many.
 #[derive(Drop)]
 pub struct KnownNames<'a> {
     names: &'a [Name],

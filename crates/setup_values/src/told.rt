@@ -17,7 +17,7 @@ pub fn profile_text(profile: ProfileName) -> &'static str
     }
 }
 
-/// A thread, by its address, with the name of the set-up that stands for it, where there is one.
+/// A thread, by its address, with the name of the set-up that stands for it, if there is one.
 #[derive(Clone, Copy)]
 pub struct ThreadName<'a> {
     pub address: u64,
@@ -59,7 +59,7 @@ fn first_named(names: &[Name], value: u64) -> Option<&Name>
     None
 }
 
-/// The name of a value: where exactly one name of the set-up has it.
+/// The name of a value: if exactly one name of the set-up has it.
 #[tactic(auto, using(crate::proofs::Named::not_one))]
 fn name_of(names: &[Name], value: u64) -> Option<&str>
     ensures { option_copied result ≡ spec.name_of (names_view names.entry.now) value }

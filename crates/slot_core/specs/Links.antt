@@ -34,12 +34,12 @@ row_of links i = marked i (link_at links i).cap (link_at links i).revocable (lin
 abbrev pub unplaced : Link → Marked
 unplaced link = marked 0 link.cap link.revocable link.first_badged
 
--- the first of a list, and `behind` where it has none
+-- the first of a list, and `behind` if it has none
 abbrev pub head_or : List ℕ → Option ℕ → Option ℕ
 head_or [] behind = behind
 head_or (i ∷ l) behind = Some i
 
--- the last of a list, and `before` where it has none
+-- the last of a list, and `before` if it has none
 abbrev pub last_or : Option ℕ → List ℕ → Option ℕ
 last_or before [] = before
 last_or before (i ∷ l) = last_or (Some i) l
@@ -72,7 +72,7 @@ order_of links first = walk (next_of links) (length links) first
 abbrev pub rows_of : List Link → Option ℕ → List Marked
 rows_of links first = map (row_of links) (order_of links first)
 
--- the number up to `most` to which 2 has to be raised to give n, and 0 where there is none
+-- the number up to `most` to which 2 has to be raised to give n, and 0 if there is none
 abbrev pub exponent : ℕ → ℕ → ℕ
 exponent zero n = 0
 exponent (suc most) n = cond (2 ^ suc most == n) (suc most) (exponent most n)

@@ -32,7 +32,7 @@ const CALLS: [Op; 2] = [
     },
 ];
 
-/// A kernel in which a thread waits to send, or `None` where it was out of memory.
+/// A kernel in which a thread waits to send, or `None` if it was out of memory.
 pub fn waiting<S: MakeStore<Wide>, W: MakeWaiters<Wide>>(
     alloc: Global,
 ) -> Option<Kernel<Wide, S, W>> {

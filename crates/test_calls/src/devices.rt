@@ -40,7 +40,7 @@ impl Read for EndlessReader {
     }
 }
 
-/// Takes at most `piece` bytes at a time, and none once it took `room`: then it fails, or answers 0 where it is `shy`. What it
+/// Takes at most `piece` bytes at a time, and none once it took `room`: then it fails, or answers 0 if it is `shy`. What it
 /// takes is compared with the front of a text.
 #[derive(Drop)]
 struct PieceWriter<'a> {
@@ -70,7 +70,7 @@ impl Write for PieceWriter<'_> {
     }
 }
 
-/// How the text, which has 55 bytes, is read: in pieces of so many bytes, where so many reads succeed, and below which limit;
+/// How the text, which has 55 bytes, is read: in pieces of so many bytes, if so many reads succeed, and below which limit;
 /// whether it is read, and how many of its bytes the reader has left.
 type Reading = (usize, usize, usize, bool, usize);
 
@@ -87,7 +87,7 @@ const READINGS: [Reading; 8] = [
     (4096, 9, 54, false, 1),
 ];
 
-/// What is read below a limit, nothing where reading failed; `None` where it was out of memory.
+/// What is read below a limit, nothing if reading failed; `None` if it was out of memory.
 fn read_of<S: Source>(alloc: Global, source: &mut S, limit: usize) -> Option<Option<Vec<u8>>>
     requires { S.failed source.old ≡ false }
 {
@@ -98,7 +98,7 @@ fn read_of<S: Source>(alloc: Global, source: &mut S, limit: usize) -> Option<Opt
     }
 }
 
-/// Whether the text is read so; `None` where it was out of memory.
+/// Whether the text is read so; `None` if it was out of memory.
 fn is_read(alloc: Global, (piece, reads_left, limit, is_read, left): Reading) -> Option<bool> {
     let mut text = PieceReader {
         rest: TEXT,
@@ -124,7 +124,7 @@ fn counts_what_it_gives() -> bool {
     source.read(&mut buffer).ok() == Some(8) && source.read(&mut buffer).is_err()
 }
 
-/// Whether each reading ends as it should, also that of a source without an end; `None` where it was out of memory.
+/// Whether each reading ends as it should, also that of a source without an end; `None` if it was out of memory.
 pub fn reads(alloc: Global) -> Option<bool> {
     for reading in READINGS {
         if !is_read(alloc, reading)? {
@@ -167,7 +167,7 @@ fn counts_what_it_takes() -> bool {
         && sink.write(b"text").is_err()
 }
 
-/// Whether writing fails at each byte in turn, and not where there is room for all.
+/// Whether writing fails at each byte in turn, and not if there is room for all.
 pub fn writes() -> bool {
     for room in 0..TEXT.len() {
         if !is_written(room, false) || !is_written(room, true) {

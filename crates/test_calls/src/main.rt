@@ -1,10 +1,10 @@
 //! Makes calls of the libraries that the program `sel4sim` does not make.
 //!
-//! With no words these are calls that take memory, where a request for memory may be refused, and calls over devices that fail.
-//! For each one line says how it ended: `done` where it gave what is wanted, and `out of memory, then done` where
+//! With no words these are calls that take memory, if a request for memory may be refused, and calls over devices that fail.
+//! For each one line says how it ended: `done` if it gave what is wanted, and `out of memory, then done` if
 //! it answered want of memory, left what it was given as it was, and gave what is wanted when it was made again. With
 //! ample memory each is done. The settling of a shared kernel and the writes take no memory, and so are done whatever is
-//! refused. The exit status is 1 where one ended otherwise.
+//! refused. The exit status is 1 if one ended otherwise.
 //!
 //! - `LinkedStore RowWaiters`, or the names of another pair of a capability store and a store of waiting threads, checks the
 //!   set-up on standard input over this pair, as `sel4sim check` does over the linked ones;
@@ -49,7 +49,7 @@ mod stored;
 /// The status of a command line that is refused.
 const REFUSED: u8 = 4;
 
-/// How a call ends that is made once more where it answered want of memory. A call is `None` where it did, and else
+/// How a call ends that is made once more if it answered want of memory. A call is `None` if it did, and else
 /// whether it gave what is wanted.
 macro_rules! outcome {
     ($call:expr) => {
@@ -109,8 +109,8 @@ fn run<
     Some(answer.text.as_slice() == REPORT)
 }
 
-/// Set-ups, each with how many clients it has, the limit, and how many calls. Where nothing is said of the limit it is as many as
-/// there are calls, and one where there is none.
+/// Set-ups, each with how many clients it has, the limit, and how many calls. If nothing is said of the limit it is as many as
+/// there are calls, and one if there is none.
 const COUNTS: [(&[u8], (u32, u32, usize)); 3] = [
     (SETUP, (1, 2, 2)),
     (
@@ -239,7 +239,7 @@ fn tell_all<R: Print + AllocGlobal + Wait>(rt: &R) -> anyhow::Result<bool> {
     Ok(taken && understood && planned && explored && ran && reads && writes && links && rows)
 }
 
-/// The words that the program was started with; none where it was out of memory.
+/// The words that the program was started with; none if it was out of memory.
 fn words_given<R: Env + AllocGlobal>(rt: &R) -> Option<Vec<String>> {
     env::args(rt).ok()?.collect::<Vec<String>>(rt.alloc()).ok()
 }

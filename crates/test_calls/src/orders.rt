@@ -1,4 +1,4 @@
-//! The exploration of orders, where a limit on states ends it, and behind first calls.
+//! The exploration of orders, if a limit on states ends it, and behind first calls.
 use cap_core::{Message, Wide};
 use ipc_core::RowWaiters;
 use kernel_core::{BootPlan, Call, Kernel, Op};
@@ -63,7 +63,7 @@ const TWO_LOCKS: [[Call; 4]; 4] = [
 /// So many calls there are, and one more.
 const COUNT: usize = 17;
 
-/// What the orders give that begin with calls of these clients, as far as the limit on states lets them go; `None` where it was
+/// What the orders give that begin with calls of these clients, as far as the limit on states lets them go; `None` if it was
 /// out of memory.
 fn explored(alloc: Global, first: &[usize], limit: u64) -> Option<Explored> {
     let mut calls = Vec::new(alloc);
@@ -75,7 +75,7 @@ fn explored(alloc: Global, first: &[usize], limit: u64) -> Option<Explored> {
     explore(alloc, calls.as_slice(), &kernel, first, limit, COUNT).ok()
 }
 
-/// Whether the orders have as many calls as wanted, and so many states are left to go on from; `None` where it was out of memory.
+/// Whether the orders have as many calls as wanted, and so many states are left to go on from; `None` if it was out of memory.
 pub fn orders(alloc: Global) -> Option<bool> {
     let limited = explored(alloc, &[], 60)?;
     let behind = explored(alloc, &[0, 1], 1000)?;

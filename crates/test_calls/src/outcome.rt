@@ -1,4 +1,4 @@
-//! How a call ends, where a request for memory may be refused.
+//! How a call ends, if a request for memory may be refused.
 
 /// How a call ended.
 #[derive(Clone, Copy, PartialEq, Eq, Drop)]

@@ -12,7 +12,7 @@ use setup_report::report;
 use slot_core::{DerivationStore, MakeStore};
 use std::alloc::{AllocError, Global};
 
-/// How the report of a set-up ends, which is made once more where it was out of memory.
+/// How the report of a set-up ends, which is made once more if it was out of memory.
 ///
 /// # Errors
 ///

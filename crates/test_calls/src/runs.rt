@@ -3,7 +3,7 @@ use crate::stored::{REPORT, SETUP};
 use command_check::{ReaderSource, Verdict, WriterSink, check, migrate_run};
 use std::alloc::Global;
 
-/// What is written of a set-up that is checked; `None` where it was out of memory.
+/// What is written of a set-up that is checked; `None` if it was out of memory.
 fn checked(alloc: Global, setup: &[u8]) -> Option<Vec<u8>> {
     let mut text = Vec::new(alloc);
     let mut source = ReaderSource::new(setup);
@@ -14,7 +14,7 @@ fn checked(alloc: Global, setup: &[u8]) -> Option<Vec<u8>> {
     }
 }
 
-/// What a set-up is migrated to; `None` where it was out of memory, or is refused.
+/// What a set-up is migrated to; `None` if it was out of memory, or is refused.
 fn migrated(alloc: Global, setup: &[u8]) -> Option<Vec<u8>> {
     let mut text = Vec::new(alloc);
     let mut source = ReaderSource::new(setup);
@@ -25,7 +25,7 @@ fn migrated(alloc: Global, setup: &[u8]) -> Option<Vec<u8>> {
     }
 }
 
-/// Whether the stored set-up has its report, as it is and as what it is migrated to; `None` where it was out of memory.
+/// Whether the stored set-up has its report, as it is and as what it is migrated to; `None` if it was out of memory.
 pub fn runs(alloc: Global) -> Option<bool> {
     let setup = migrated(alloc, SETUP)?;
     let before = checked(alloc, SETUP)?;

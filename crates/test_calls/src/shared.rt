@@ -69,7 +69,7 @@ const WRONG: SharedOutcomes = SharedOutcomes {
     settle: Outcome::Wrong,
 };
 
-/// Makes a call: whether it is answered so, or `None` where it was out of memory and the history, which has so many
+/// Makes a call: whether it is answered so, or `None` if it was out of memory and the history, which has so many
 /// entries, has no more than before.
 fn call<N: Naming, T: history_copy::HistoryCopy<N>, R: Wait>(
     rt: &R,
@@ -89,7 +89,7 @@ fn call<N: Naming, T: history_copy::HistoryCopy<N>, R: Wait>(
     }
 }
 
-/// How the calls end, each made once more where it was out of memory.
+/// How the calls end, each made once more if it was out of memory.
 fn make_calls<N: Naming, T: history_copy::HistoryCopy<N>, R: Wait>(
     rt: &R,
     shared: &shared::Shared<N, T>,
@@ -153,7 +153,7 @@ fn booted<S: MakeStore<Wide>, W: MakeWaiters<Wide>>(
     }
 }
 
-/// Shares a kernel with one client, and uses it: how that ends, or `None` where the start was out of memory.
+/// Shares a kernel with one client, and uses it: how that ends, or `None` if the start was out of memory.
 fn share<N: Naming, S: MakeStore<Wide>, W: MakeWaiters<Wide>, R: Wait>(
     rt: &R,
     alloc: Global,
@@ -183,7 +183,7 @@ fn share<N: Naming, S: MakeStore<Wide>, W: MakeWaiters<Wide>, R: Wait>(
     }
 }
 
-/// How a start, the calls and the settling end, where a start that was out of memory is made again.
+/// How a start, the calls and the settling end, if a start that was out of memory is made again.
 pub fn shared_outcomes<S: MakeStore<Wide>, W: MakeWaiters<Wide>, R: Wait>(
     rt: &R,
     alloc: Global,

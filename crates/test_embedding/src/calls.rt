@@ -22,7 +22,7 @@ pub fn mint_badge(thread: u64, source: u64, slot: u64, badge: u64) -> Call {
     Call { thread, op }
 }
 
-/// Sends a label and the words 1 and 2, where a receiver waits.
+/// Sends a label and the words 1 and 2, if a receiver waits.
 pub fn send_now(thread: u64, cap: u64, label: u64) -> Call {
     let message = Message {
         label,
@@ -35,7 +35,7 @@ pub fn send_now(thread: u64, cap: u64, label: u64) -> Call {
     }
 }
 
-/// Receives, and waits where nobody sends.
+/// Receives, and waits if nobody sends.
 pub fn receive(thread: u64, cap: u64) -> Call {
     Call {
         thread,

@@ -43,7 +43,7 @@ const MINTED_SLOT: u64 = 256;
 /// stores the kernel is made over.
 ///
 /// # Errors
-/// `AllocError` where memory was wanted and not there.
+/// `AllocError` if memory was wanted and not there.
 fn run_from_boot<P: Profile, S: MakeStore<P>, W: MakeWaiters<P>>(
     alloc: Global,
     plan: &BootPlan,
@@ -98,7 +98,7 @@ fn go_on(rt: &impl Print, kernel: &mut LinkedKernel, replies: &[Reply]) -> io::R
 /// Whether a kernel over this program's own store makes these replies.
 ///
 /// # Errors
-/// `AllocError` where memory was wanted and not there.
+/// `AllocError` if memory was wanted and not there.
 fn replies_alike(
     alloc: Global,
     plan: &BootPlan,

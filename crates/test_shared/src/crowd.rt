@@ -46,7 +46,7 @@ fn clients_of<N: Naming, T: HistoryCopy<N>>(
     Some(clients)
 }
 
-/// Drives the clients, where there is a list for each: they themselves, and how they ended.
+/// Drives the clients, if there is a list for each: they themselves, and how they ended.
 pub fn driven<
     N: Naming + Send + Sync,
     T: HistoryCopy<N> + Send + Sync,
@@ -135,7 +135,7 @@ fn settles<N: Naming, S: MakeStore<Wide>, W: MakeWaiters<Wide>, R: Wait>(
     })
 }
 
-/// Drives a crowd: its clients, where they ended as they should.
+/// Drives a crowd: its clients, if they ended as they should.
 fn crowd_after_its_calls<
     N: Naming + Send + Sync,
     T: HistoryCopy<N> + Send + Sync,

@@ -18,7 +18,7 @@ impl Gate for Open {
 }
 
 /// A client raises its flag for the number of its call and waits for those of all clients, at most eight, with two
-/// calls each. Where client 1 goes first, client 0 then waits until client 1's call is answered.
+/// calls each. If client 1 goes first, client 0 then waits until client 1's call is answered.
 #[derive(Drop)]
 pub struct Meeting {
     clients: usize,

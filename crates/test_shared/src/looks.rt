@@ -181,7 +181,7 @@ fn follow<N: Naming, T: HistoryCopy<N>, R: Wait>(
     steps.len()
 }
 
-/// How many steps of a script come out, and one more where the book is then as it should be.
+/// How many steps of a script come out, and one more if the book is then as it should be.
 pub fn follow_and_settle<N: Naming, S: MakeStore<Wide>, W: MakeWaiters<Wide>, R: Wait>(
     rt: &R,
     shared: Shared<N, S, W>,

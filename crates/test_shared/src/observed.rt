@@ -77,7 +77,7 @@ struct Observer<N: Naming, T: HistoryCopy<N>> {
     kept: bool,
 }
 
-/// How many entries a look shows, where it is no fewer than before and the last of them is there.
+/// How many entries a look shows, if it is no fewer than before and the last of them is there.
 fn seen_since<N: Naming, T: HistoryCopy<N>>(
     client: &mut CallerOver<N, T>,
     before: u32,
@@ -119,7 +119,7 @@ fn observe<N: Naming, T: HistoryCopy<N>>(
     Observer { client, kept }
 }
 
-/// Drives the callers, and says then that all is over: they themselves, where each call was made.
+/// Drives the callers, and says then that all is over: they themselves, if each call was made.
 fn drive_to_the_end<
     N: Naming + Send + Sync,
     T: HistoryCopy<N> + Send + Sync,
@@ -147,7 +147,7 @@ fn put_back<N: Naming, T: HistoryCopy<N>>(
     clients.push(client).is_ok() && kept
 }
 
-/// The callers with the observers behind them, where the observers kept what they saw.
+/// The callers with the observers behind them, if the observers kept what they saw.
 fn all_back<N: Naming, T: HistoryCopy<N>>(
     mut clients: Vec<CallerOver<N, T>>,
     first: Observer<N, T>,
@@ -158,7 +158,7 @@ fn all_back<N: Naming, T: HistoryCopy<N>>(
     (first_kept && second_kept).then_some(clients)
 }
 
-/// Drives the callers while the observers look, and gives all clients back, or `None` where a call was not made or a look
+/// Drives the callers while the observers look, and gives all clients back, or `None` if a call was not made or a look
 /// went back.
 fn drive_observed<
     N: Naming + Send + Sync,

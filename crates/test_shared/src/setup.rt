@@ -42,7 +42,7 @@ pub const EMPTY: Message = Message {
     count: 0,
 };
 
-/// Calls of the first thread and of the second that send an empty message through the endpoint where a receiver waits.
+/// Calls of the first thread and of the second that send an empty message through the endpoint if a receiver waits.
 pub const FIRST_CALL: Call = Call {
     thread: FIRST,
     op: Op::NbSend {
@@ -92,7 +92,7 @@ pub fn begin<N: Naming, S: MakeStore<Wide>, W: MakeWaiters<Wide>, R: Wait>(
     SharedKernel::start(rt, alloc, blank, kernel, clients, limit)
 }
 
-/// The book of a shared kernel that is settled. Where it cannot be, it is given up.
+/// The book of a shared kernel that is settled. If it cannot be, it is given up.
 pub fn settled<N: Naming, S: MakeStore<Wide>, W: MakeWaiters<Wide>, R: Wait>(
     rt: &R,
     shared: Shared<N, S, W>,

@@ -20,7 +20,7 @@ fn is_ready<P: Profile, S: MakeStore<P> + DerivationStore<P>, W: MakeWaiters<P>>
     kernel.thread_state(thread) == Some(ThreadState::Ready)
 }
 
-/// The first word that leads to a capability to an endpoint with a right, and with the badge, where one is given.
+/// The first word that leads to a capability to an endpoint with a right, and with the badge, if one is given.
 fn word_to(words: &[Word], endpoint: u64, right: Rights, badge: Option<u64>) -> Option<u64> {
     for word in words {
         if let Cap::Endpoint {
@@ -46,7 +46,7 @@ struct Meeting {
     receives: Option<u64>,
 }
 
-/// The next call for a message by an endpoint: a send, where others wait there already or the other thread waits there; else a
+/// The next call for a message by an endpoint: a send, if others wait there already or the other thread waits there; else a
 /// receive.
 fn next_call<P: Profile, S: MakeStore<P> + DerivationStore<P>, W: MakeWaiters<P>>(
     kernel: &Kernel<P, S, W>,
@@ -81,7 +81,7 @@ fn next_call<P: Profile, S: MakeStore<P> + DerivationStore<P>, W: MakeWaiters<P>
     }
 }
 
-/// The calls for a message by an endpoint, where they come to be one.
+/// The calls for a message by an endpoint, if they come to be one.
 fn message_by<P: Profile, S: MakeStore<P> + DerivationStore<P>, W: MakeWaiters<P>>(
     alloc: Global,
     kernel: &Kernel<P, S, W>,
@@ -189,7 +189,7 @@ fn probe(thread: u64, word: &Word) -> Call {
     Call { thread, op }
 }
 
-/// The last calls of a loss, where an operation of the one thread empties a slot to which a word of the other leads, or ends it.
+/// The last calls of a loss, if an operation of the one thread empties a slot to which a word of the other leads, or ends it.
 fn loss_by<P: Profile, S: MakeStore<P> + DerivationStore<P>, W: MakeWaiters<P>>(
     alloc: Global,
     kernel: &Kernel<P, S, W>,
@@ -250,7 +250,7 @@ fn root_of<P: Profile, S: MakeStore<P> + DerivationStore<P>, W: MakeWaiters<P>>(
     }
 }
 
-/// The last calls from a state, where there are some. `filled` has all full slots, by rising addresses.
+/// The last calls from a state, if there are some. `filled` has all full slots, by rising addresses.
 pub fn last_calls<P: Profile, S: MakeStore<P> + DerivationStore<P>, W: MakeWaiters<P>>(
     alloc: Global,
     kernel: &Kernel<P, S, W>,

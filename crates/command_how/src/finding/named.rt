@@ -13,7 +13,7 @@ pub struct Word {
     pub cap: Cap,
 }
 
-/// A slot that is named by an index and a depth from the CNode to which a word leads; `Null` where it is empty.
+/// A slot that is named by an index and a depth from the CNode to which a word leads; `Null` if it is empty.
 #[derive(Clone, Copy)]
 pub struct Target {
     pub word: u64,

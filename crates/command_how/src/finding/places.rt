@@ -6,7 +6,7 @@ use std::alloc::{AllocError, Global};
 /// How many slots a lookup is followed from at the most.
 const MOST_PLACES: usize = 4_096;
 
-/// A slot that a lookup leads to, in the CNode at `node`, with what it holds: `Null` where it is the first empty slot of that CNode.
+/// A slot that a lookup leads to, in the CNode at `node`, with what it holds: `Null` if it is the first empty slot of that CNode.
 /// `index` has the bits that are looked up, and `left` is how many are left of those that are given.
 #[derive(Clone, Copy)]
 pub struct Place {
@@ -91,7 +91,7 @@ fn add_places<P: Profile>(
     Ok(())
 }
 
-/// Whether a lookup goes on from a place, where it has bits left.
+/// Whether a lookup goes on from a place, if it has bits left.
 pub fn goes_on(place: &Place) -> bool {
     place.left > 0 && node_of(place.cap).is_some()
 }

@@ -67,7 +67,7 @@ fn threads_of(alloc: Global, filled: &[FullSlot]) -> Result<Vec<u64>, AllocError
     rising(alloc, threads.as_slice())
 }
 
-/// What a thread is made to do, where it may call and is ready.
+/// What a thread is made to do, if it may call and is ready.
 fn ops_of<P: Profile, S: MakeStore<P> + DerivationStore<P>, W: MakeWaiters<P>>(
     alloc: Global,
     kernel: &Kernel<P, S, W>,
@@ -92,7 +92,7 @@ fn joined(alloc: Global, first: &[Call], more: &[Call]) -> Result<Vec<Call>, All
 }
 
 impl Search {
-    /// Tries one more call after a way: the calls that are looked for, where they are found; or the way is one to go on from.
+    /// Tries one more call after a way: the calls that are looked for, if they are found; or the way is one to go on from.
     fn try_call<P: Profile, S: MakeStore<P> + DerivationStore<P>, W: MakeWaiters<P>>(
         &mut self,
         alloc: Global,

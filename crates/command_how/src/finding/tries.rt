@@ -28,7 +28,7 @@ fn whole_guard<P: Profile>(radix: u32) -> u64 {
     u64::from(P::WORD_BITS.saturating_sub(radix))
 }
 
-/// A copy from one slot to another; a mint, where there is a word.
+/// A copy from one slot to another; a mint, if there is a word.
 fn copy_to(from: &Target, to: &Target, word: Option<u64>) -> Op {
     let (cap, index, depth) = (to.word, to.index, to.depth);
     let (src_root, src_index, src_depth) = (from.word, from.index, from.depth);

@@ -1,4 +1,4 @@
-//! What is answered of two threads: by their parts; and where these leave it open, by flows, and by what still parts do.
+//! What is answered of two threads: by their parts; and if these leave it open, by flows, and by what still parts do.
 ghost use Rattle.std.specs.Prelude.{◌≡◌, ℕ, true, false, IfErr, IfOk};
 ghost use Rattle.kernel_abstract.specs.Memory.{IsInMemory};
 ghost use Rattle.setup_report.specs.State.{endpoints as endpoints_of, threads as threads_of};
@@ -32,7 +32,7 @@ pub struct StateParts {
 ///
 /// # Errors
 ///
-/// `Memory` where memory was refused; `Block` where the control block of a live thread would end past the last address. No kernel
+/// `Memory` if memory was refused; `Block` if the control block of a live thread would end past the last address. No kernel
 /// whose objects lie in its memory has such a thread (`fault`).
 pub fn state_parts<P: Profile, S: DerivationStore<P> + Drop, W: Waiters<P> + Drop>(
     alloc: Global,
@@ -101,7 +101,7 @@ fn are_kept_by_flow<P: Profile, S: DerivationStore<P> + Drop, W: Waiters<P> + Dr
     Ok(are)
 }
 
-/// What is answered where the parts exclude nothing.
+/// What is answered if the parts exclude nothing.
 fn answer_past_parts<P: Profile, S: DerivationStore<P> + Drop, W: Waiters<P> + Drop>(
     alloc: Global,
     kernel: &Kernel<P, S, W>,

@@ -41,7 +41,7 @@ impl Line<FullSlot> for SlotLine<'_> {
     }
 }
 
-/// Adds the lines of a chain, where it has slots.
+/// Adds the lines of a chain, if it has slots.
 fn add_chain(
     out: &mut String,
     told: &PartNaming<'_>,
@@ -60,7 +60,7 @@ fn add_chain(
     add_each(out, chain, &SlotLine { told: &*told })
 }
 
-/// The text of a shortest chain from a thread's root slot to a capability that is sought, to an object; nothing where there is no chain.
+/// The text of a shortest chain from a thread's root slot to a capability that is sought, to an object; nothing if there is no chain.
 fn chain_text<P: Profile>(
     alloc: Global,
     told: &PartNaming<'_>,
@@ -116,7 +116,7 @@ fn open_endpoint<P: Profile>(memory: &[PartMemory], part: u64, endpoint: u64) ->
     }
 }
 
-/// The chain to the first endpoint that is open to a part, where there is one.
+/// The chain to the first endpoint that is open to a part, if there is one.
 fn chain_to_open<P: Profile>(
     alloc: Global,
     told: &PartNaming<'_>,

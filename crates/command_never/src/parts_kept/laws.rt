@@ -9,7 +9,7 @@ ghost use Rattle.command_never.specs.Waits.{waits};
 ghost use Rattle.command_never.specs.Never.{are_open};
 ghost use Rattle.command_never.specs.Kept.{AreKeptEver};
 
-/// Where parts are confined, and nothing is open from one part to another but by the endpoints that are named, then, whatever
+/// If parts are confined, and nothing is open from one part to another but by the endpoints that are named, then, whatever
 /// calls the threads of the parts make: no slot of the one part ever holds a capability to an object that has bytes in the
 /// other's memory, and no message of a thread of the one is ever delivered to a thread of the other, but by those endpoints.
 pub fn what_is_not_open_is_kept()

@@ -316,7 +316,7 @@ impl<P: Profile, S: DerivationStore<P> + Drop, W: Waiters<P> + Drop> Telling<'_,
         Ok(())
     }
 
-    /// Adds the endpoints that are open between the parts of the threads, where these are two.
+    /// Adds the endpoints that are open between the parts of the threads, if these are two.
     fn add_between(
         &self,
         out: &mut String,
@@ -342,7 +342,7 @@ impl<P: Profile, S: DerivationStore<P> + Drop, W: Waiters<P> + Drop> Telling<'_,
         self.add_all_open(out, &between, open.as_slice())
     }
 
-    /// Adds what passes between the parts of the threads in seL4, beside messages, where these are two.
+    /// Adds what passes between the parts of the threads in seL4, beside messages, if these are two.
     fn add_sel4_between(
         &self,
         out: &mut String,
@@ -370,7 +370,7 @@ impl<P: Profile, S: DerivationStore<P> + Drop, W: Waiters<P> + Drop> Telling<'_,
         )
     }
 
-    /// Adds a line where one of the parts of the threads may take slots from the other.
+    /// Adds a line if one of the parts of the threads may take slots from the other.
     fn add_taken_between(
         &self,
         out: &mut String,
@@ -446,13 +446,13 @@ impl<P: Profile, S: DerivationStore<P> + Drop, W: Waiters<P> + Drop> Telling<'_,
 }
 
 /// Whether a thread's part is kept from another's, but for the endpoints that `by` names, whatever calls the threads make that are
-/// not trusted; and the text that says so, with the endpoints that are open where it is not, what passes between the parts in seL4
+/// not trusted; and the text that says so, with the endpoints that are open if it is not, what passes between the parts in seL4
 /// beside messages, which of them may take slots from the other, and the slots through which the one thread comes to what is open.
-/// Where the parts exclude nothing, flows are asked if `asks_flows` is set.
+/// If the parts exclude nothing, flows are asked if `asks_flows` is set.
 ///
 /// # Errors
 ///
-/// `Memory` where memory was refused; `Block` where the control block of a live thread would end past the last address. No kernel
+/// `Memory` if memory was refused; `Block` if the control block of a live thread would end past the last address. No kernel
 /// whose objects lie in its memory has such a thread (`fault`).
 pub fn never_gets<P: Profile, S: DerivationStore<P> + Drop, W: Waiters<P> + Drop>(
     alloc: Global,

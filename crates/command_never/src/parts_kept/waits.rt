@@ -10,7 +10,7 @@ use list_questions::{Finds, all_found};
 use slot_core::CapStore;
 use std::alloc::{AllocError, Global};
 
-/// A thread that waits on an endpoint: to send where `sends` is set, and else to receive.
+/// A thread that waits on an endpoint: to send if `sends` is set, and else to receive.
 #[derive(Clone, Copy)]
 pub struct Wait {
     pub thread: u64,

@@ -9,7 +9,7 @@ abbrev pub path_up_to : Option ℕ → List ℕ → List ℕ
 path_up_to None path = []
 path_up_to (Some place) path = take (place + 1) path
 
--- the first ones, up to a slot; none where no slot is given
+-- the first ones, up to a slot; none if no slot is given
 abbrev pub kept : Option ℕ → List ℕ → List ℕ
 kept None path = []
 kept (Some slot) path = path_up_to (position (λ s. s == slot) path) path

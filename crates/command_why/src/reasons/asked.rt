@@ -11,7 +11,7 @@ use kernel_core::{Call, Word};
 use setup_report::Naming;
 use toml::Table;
 
-/// A call, the table that spells it, where there is one, and how objects and slots are told.
+/// A call, the table that spells it, if there is one, and how objects and slots are told.
 #[derive(Clone, Copy)]
 pub struct Asked<'a, 'n> {
     pub naming: &'a Naming<'n>,

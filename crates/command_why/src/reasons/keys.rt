@@ -67,7 +67,7 @@ impl KeyWords {
             .with("src_depth", src_depth)
     }
 
-    /// These words, and one more where there is room. For the words of an operation there always is.
+    /// These words, and one more if there is room. For the words of an operation there always is.
     fn with(mut self, key: &'static str, word: u64) -> Self
         ensures { result ≡ take spec.most_words (self ++ (key.now, word) ∷ []) }
     {
@@ -85,7 +85,7 @@ impl KeyWords {
         &self.words[..self.count]
     }
 
-    /// The word of a key; 0 where the operation has no such key.
+    /// The word of a key; 0 if the operation has no such key.
     #[tactic(auto, using(crate::proofs::Keyed::no_word, crate::proofs::Keyed::one_word))]
     pub fn word_of(&self, key: &str) -> u64
         ensures { result ≡ spec.word_of self.now key.now }

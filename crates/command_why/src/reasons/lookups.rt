@@ -108,7 +108,7 @@ impl fmt::Display for SlotsText<'_, '_> {
     }
 }
 
-/// Adds the way of a lookup, where it comes to a slot.
+/// Adds the way of a lookup, if it comes to a slot.
 fn add_way(out: &mut String, naming: &Naming<'_>, path: &[Held]) -> Result<(), AllocError>
     ensures { OnOk result (string_bytes out.new ≡ string_bytes out.old ++ spec.lookup_line (naming_view naming.now) path.now) }
 {

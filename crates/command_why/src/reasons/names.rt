@@ -20,7 +20,7 @@ fn name_in(text: &str) -> Option<&str>
     text.strip_prefix('@')
 }
 
-/// The name by which a value is spelt, where it is a text that begins with `@`.
+/// The name by which a value is spelt, if it is a text that begins with `@`.
 fn name_of(value: &Value) -> Option<&str>
     ensures { option_copied result ≡ spec.spelt_name (view value.now) }
 {

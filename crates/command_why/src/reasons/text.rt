@@ -10,7 +10,7 @@ use setup_format::op_name;
 use setup_report::{CapText, Naming};
 use std::fmt;
 
-/// The name by which a value is spelt, after `@`, where it has one.
+/// The name by which a value is spelt, after `@`, if it has one.
 #[derive(Clone, Copy)]
 pub struct NameText<'a>(pub Option<&'a str>);
 

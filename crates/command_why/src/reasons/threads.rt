@@ -57,7 +57,7 @@ pub fn add_live(out: &mut String, naming: &Naming<'_>, threads: &[u64]) -> Resul
     writeln!(out, "  live threads:{first}{more}")
 }
 
-/// The calling thread: as it is told and, where objects are told by their addresses, by the name that spells it.
+/// The calling thread: as it is told and, if objects are told by their addresses, by the name that spells it.
 #[derive(Clone, Copy)]
 struct ThreadText<'a, 'n>(Asked<'a, 'n>);
 

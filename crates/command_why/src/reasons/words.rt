@@ -52,7 +52,7 @@ pub fn is_whole(word: Word) -> bool
     }
 }
 
-/// The word that leads to the CNode from which an index is looked up, where that is no CNode.
+/// The word that leads to the CNode from which an index is looked up, if that is no CNode.
 pub fn root_of(word: Word) -> Word
     ensures { result ≡ spec.root_of word }
 {

@@ -78,7 +78,7 @@ offer_by thread badge message None = None
 offer_by thread badge message (Some (Receiving e)) = None
 offer_by thread badge message (Some (Sending e)) = Some (record { thread = thread; badge = badge; message = message })
 
--- the thread, where it receives; what it sends, where it sends
+-- the thread, if it receives; what it sends, if it sends
 abbrev pub receiver_in : ℕ → QueueRow → Option ℕ
 receiver_in thread row = receiver_by thread row.role
 

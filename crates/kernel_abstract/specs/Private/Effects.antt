@@ -63,7 +63,7 @@ send_to_first v t service message list block (Some to) =
       after = changed v to (with_message service.badge message) service.endpoint (drop 1 list);
     }
 
--- a send by a thread, which may wait or not, where this is the endpoint's waiting list
+-- a send by a thread, which may wait or not, if this is the endpoint's waiting list
 abbrev pub send_effect : Shown → ℕ → Service → Message → Bool → List Waiter → Effect
 send_effect v t service message block list = send_to_first v t service message list block (first_receiver list)
 
@@ -83,7 +83,7 @@ receive_from_first v t service list block (Some offer) =
       after = changed w t (with_message offer.badge offer.message) service.endpoint (drop 1 list);
     }
 
--- a receive by a thread, which may wait or not, where this is the endpoint's waiting list
+-- a receive by a thread, which may wait or not, if this is the endpoint's waiting list
 abbrev pub receive_effect : Shown → ℕ → Service → Bool → List Waiter → Effect
 receive_effect v t service block list = receive_from_first v t service list block (first_sender list)
 

@@ -16,7 +16,7 @@ use Rattle.kernel_abstract.specs.Shown.{Shown, ThreadView, threads_of, endpoints
 abbrev pub new_thread : ThreadView
 new_thread = record { state = Inactive; inbox = None }
 
--- what a thread does once an endpoint on which it waited may have ended: it is ready where it did
+-- what a thread does once an endpoint on which it waited may have ended: it is ready if it did
 abbrev pub state_among : List ℕ → ThreadState → ThreadState
 state_among endpoints Ready = Ready
 state_among endpoints Inactive = Inactive
@@ -60,7 +60,7 @@ abbrev pub readied : Bool → Option ThreadView → ThreadView
 readied named None = new_thread
 readied named (Some thread) = record { state = cond named Ready thread.state; inbox = thread.inbox }
 
--- a thread, ready where it is among those that a test names on an endpoint
+-- a thread, ready if it is among those that a test names on an endpoint
 abbrev pub view_released : Shown → ℕ → (Waiter → Bool) → ℕ → ThreadView
 view_released v e names t = readied (list_any (is_thread t) (those names (waiting_at v e))) (get v.threads t)
 

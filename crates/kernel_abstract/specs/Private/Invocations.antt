@@ -31,7 +31,7 @@ pub record IsPlacement (p : ProfileName) (f : Forest Entry) (placement : CapPlac
   pub lawful : (memory : ℕ) → All (IsLawful p memory) (caps f) → IsLawful p memory placement.cap
   pub same : names_same (cap_at f placement.source) placement.cap ≡ true
 
--- a badge is set where there was none, and an untyped region of which nothing was made is handed on
+-- a badge is set if there was none, and an untyped region of which nothing was made is handed on
 pub record IsDerivation (p : ProfileName) (f : Forest Entry) (placement : CapPlacement) : Type 0 where
   pub ends : IsPlacement p f placement
   pub badge : (badge_of placement.cap ≡ badge_of (cap_at f placement.source)) ⊎ (badge_of (cap_at f placement.source) ≡ 0)

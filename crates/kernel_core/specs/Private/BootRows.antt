@@ -7,7 +7,7 @@ use Rattle.kernel_core.specs.declared.rows.ThreadRow.{ThreadRow}
 abbrev pub ready_row : ThreadRow
 ready_row = record { inactive = false; inbox = None }
 
--- row k, where the first thread has the row `first`
+-- row k, if the first thread has the row `first`
 abbrev pub boot_row : ℕ → ℕ → ℕ → Option ThreadRow
 boot_row first threads k = cond (nat_le first k && nat_lt k (first + threads)) (Some ready_row) None
 

@@ -1,4 +1,4 @@
--- These serve the proofs of private functions, no public contract cites them: what becomes of the threads where objects
+-- These serve the proofs of private functions, no public contract cites them: what becomes of the threads if objects
 -- end.
 use Rattle.std.specs.Prelude.{◌≡◌, ℕ, Bool, true, cond, List, [], Option, None, Some, ⊤}
 use Rattle.std.specs.FinMap.{get}
@@ -38,7 +38,7 @@ StandsIn p memory (Endpoint base badge rights) = IsEndpointAddress p memory base
 StandsIn p memory (CNode base radix guard) = ⊤
 StandsIn p memory (Tcb base) = IsThreadAddress p memory base
 
--- how a thread waits that did not end: no more where the endpoint ended
+-- how a thread waits that did not end: no more if the endpoint ended
 abbrev pub role_left : (Cap → Bool) → Option Role → Option Role
 role_left ended None = None
 role_left ended (Some role) = cond (ends_endpoint ended (endpoint_of role)) None (Some role)
@@ -53,7 +53,7 @@ pub record AreLeft (p : ProfileName) (ended : Cap → Bool) (memory memory' : �
       cond (ends_endpoint ended e) [] (others (λ (x : Waiter). ends_thread ended (thread_of x)) (w.queue e))
   pub roles_left : (t : ℕ) → w'.role t ≡ cond (ends_thread ended t) None (role_left ended (w.role t))
 
--- so it is where all that ended stood in the memory
+-- so it is if all that ended stood in the memory
 abbrev pub HaveEnded : ProfileName → (Cap → Bool) → ℕ → ℕ → List (Option ThreadRow) → List (Option ThreadRow) →
     Waits → Waits → Type 0
 HaveEnded p ended memory memory' rows rows' w w' =

@@ -10,6 +10,6 @@ use Rattle.kernel_abstract.specs.declared.invocation.CapPlacement.{CapPlacement}
 abbrev pub space_placement : NewSpace → CapPlacement
 space_placement new = record { source = new.source; slot = new.tcb; cap = new.cap }
 
--- so it is where both slots are full
+-- so it is if both slots are full
 abbrev pub with_root : NewSpace → Forest Entry → Forest Entry
 with_root new f = cond (is_full new.source f && is_full new.invoked f) (derived new.source new.tcb new.cap f) f

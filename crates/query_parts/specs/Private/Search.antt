@@ -20,7 +20,7 @@ use Rattle.query_parts.specs.Listed.{lies_in, part_at, last_in, is_within, entry
 abbrev pub overlaps : ℕ → ℕ → PartMemory → Bool
 overlaps first last m = nat_le m.first last && nat_le first m.last
 
--- the number of a part where one part has become another
+-- the number of a part if one part has become another
 abbrev pub renamed : ℕ → ℕ → ℕ → ℕ
 renamed from to k = cond (k == from) to k
 
@@ -111,7 +111,7 @@ is_outside p memory uses e = not (is_inside p memory uses e)
 abbrev pub EndsInWords : ProfileName → Cap → Type 0
 EndsInWords p cap = is_some (last_in (base_of cap) (bits_of p cap)) ≡ true
 
--- the part in which some other parts have an address, 0 where none has
+-- the part in which some other parts have an address, 0 if none has
 abbrev pub whose : Parts → ℕ → ℕ
 whose other address = unwrap_or (other.part_of address) 0
 
@@ -124,7 +124,7 @@ pub record AreBounded (p : ProfileName) (other : Parts) (memory : List PartMemor
   pub memory_lies : (m : PartMemory) → In m memory → (address : ℕ) → m.first ≤ address → address ≤ m.last → other.part_of address ≡ Some (whose other m.part)
   pub uses_lie : (u : PartUse) → In u uses → IsWithin p other (whose other u.part) (Endpoint u.endpoint u.badge u.rights)
 
--- what is kept where things are taken in: sound parts stay sound, what stands in a part stands there still, the parts lie
+-- what is kept if things are taken in: sound parts stay sound, what stands in a part stands there still, the parts lie
 -- in others as before, and stretches are added behind, at most as many as slots come to hold what may stand there
 pub record AreGrown (p : ProfileName) (es : List Entry) (memory : List PartMemory) (uses : List PartUse) (memory' : List PartMemory) (uses' : List PartUse) : Type 0 where
   pub sound : AreSound memory' uses'
@@ -139,7 +139,7 @@ pub record AreGrown (p : ProfileName) (es : List Entry) (memory : List PartMemor
 abbrev pub AreHeld : ProfileName → List PartMemory → List PartUse → PartMemory → List Entry → Type 0
 AreHeld p memory uses m es = (e : Entry) → In e es → lies_in m e.slot ≡ true → EndsInWords p e.cap → is_inside p memory uses e ≡ true
 
--- some of the slots were looked at, and what they hold was taken in where they lie in a stretch of sound parts
+-- some of the slots were looked at, and what they hold was taken in if they lie in a stretch of sound parts
 pub record AreLooked (p : ProfileName) (es : List Entry) (m : PartMemory) (seen : List Entry) (memory : List PartMemory) (uses : List PartUse) (memory' : List PartMemory) (uses' : List PartUse) : Type 0 where
   pub grown : AreGrown p es memory uses memory' uses'
   pub still : In m memory'
@@ -175,7 +175,7 @@ pub record AreFound (p : ProfileName) (es : List Entry) (threads : List ℕ) (me
   pub bounded : (other : Parts) → AreOf p es threads other → AreBounded p other memory uses
   pub closed : ((e : Entry) → In e es → EndsInWords p e.cap) → list_all (entry_stands p memory uses) es ≡ true
 
--- the same before they are closed, where so many stretches were looked at
+-- the same before they are closed, if so many stretches were looked at
 pub record AreFoundSoFar (p : ProfileName) (es : List Entry) (threads : List ℕ) (memory : List PartMemory) (uses : List PartUse) (place : ℕ) : Type 0 where
   pub sound : AreSound memory uses
   pub has : (t : ℕ) → In t threads → EndsInWords p (Tcb t) → is_inside p memory uses (block_of t) ≡ true

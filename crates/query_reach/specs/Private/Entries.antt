@@ -17,7 +17,7 @@ pub record HasStarts (filled : List FullSlot) (list : List Reached) (count : ℕ
 abbrev pub path_of : Held → Path
 path_of h = record { word = h.word; index = h.index }
 
--- the earlier of an entry, where there is one, and one with a greater depth
+-- the earlier of an entry, if there is one, and one with a greater depth
 abbrev pub earlier : Option Held → Held → Held
 earlier None next = next
 earlier (Some known) next = cond (nat_le known.word next.word) known next

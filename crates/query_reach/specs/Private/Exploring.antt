@@ -14,7 +14,7 @@ use Rattle.query_reach.specs.declared.filled.FullSlot.{FullSlot}
 use Rattle.query_reach.specs.declared.paths.Path.{Path}
 use Rattle.query_reach.specs.Private.Paths.{path_at, IsUpTo, HasUpTo}
 
--- the slot that is found, where no bits are left over
+-- the slot that is found, if no bits are left over
 abbrev pub whole_slot : Result Found LookupFault → Option ℕ
 whole_slot (Ok found) = cond (found.left == 0) (Some found.slot) None
 whole_slot (Err fault) = None
@@ -82,7 +82,7 @@ pub record ComesFrom (p : ProfileName) (f : Forest Entry) (filled : List FullSlo
   pub goes : (left rest : ℕ) → rest < 2 ^ left → target_from p f (read + left) from.address (path.index * 2 ^ left + rest) ≡ target_from p f left slot rest
 
 -- a path of a table stands for a word and an index of `depth` bits: it goes on to the slot that they name, is no later, and is
--- still to be followed where bits are left
+-- still to be followed if bits are left
 pub record StandsForIndex (p : ProfileName) (f : Forest Entry) (filled : List FullSlot) (rows : List (List (Option Path))) (done word depth index slot : ℕ) : Type 0 where
   pub read : ℕ
   pub left : ℕ

@@ -20,7 +20,7 @@ next_layer p layer rest = filter (is_next p layer) rest
 abbrev pub others_of : ProfileName → List FullSlot → List FullSlot → List FullSlot
 others_of p layer rest = filter (λ t. not (is_next p layer t)) rest
 
--- the layers from one on, where the rest is in none before
+-- the layers from one on, if the rest is in none before
 abbrev pub IsLaid : ProfileName → List FullSlot → List FullSlot → List (List FullSlot) → Type 0
 IsLaid p layer rest [] = layer ≡ []
 IsLaid p layer rest (l ∷ ls) = (l ≡ layer) × IsLaid p (next_layer p layer rest) (others_of p layer rest) ls

@@ -11,7 +11,7 @@ use Rattle.cspace_core.specs.Bits.{low_bits}
 use Rattle.cspace_core.specs.Resolution.{is_cnode, slot_of, resolution}
 use Rattle.kernel_abstract.specs.Lookups.{slot_found}
 
--- where `left` bits of a word are left at a slot: with none left the slot is found, and else its CNode is entered
+-- if `left` bits of a word are left at a slot: with none left the slot is found, and else its CNode is entered
 abbrev pub found_from : ProfileName → Forest Entry → ℕ → ℕ → ℕ → Result ℕ LookupFault
 found_from p f zero slot word = Ok slot
 found_from p f (suc left) slot word = slot_found (resolution p (cap_at f) (cap_at f slot) (low_bits (suc left) word))

@@ -14,7 +14,7 @@ use bitflags::Flags;
 use cap_core::{Cap, Profile, Range, Rights, range_of};
 use std::alloc::{AllocError, Global};
 
-/// What a chain is to come to: a capability whose object has some of `size` addresses from `first` on, and where `to_send` is
+/// What a chain is to come to: a capability whose object has some of `size` addresses from `first` on, and if `to_send` is
 /// set, one by which its holder may send, as an endpoint's with the Write right.
 #[derive(Clone, Copy)]
 pub struct Target {
@@ -163,7 +163,7 @@ fn chain_to<P: Profile>(
     turned_round(alloc, back.as_slice())
 }
 
-/// A shortest chain of full slots from the one at `root` to a capability that is sought; no slots where there is no chain.
+/// A shortest chain of full slots from the one at `root` to a capability that is sought; no slots if there is no chain.
 pub fn shortest_chain<P: Profile>(
     alloc: Global,
     filled: &[FullSlot],

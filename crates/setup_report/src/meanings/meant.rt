@@ -30,7 +30,7 @@ pub enum ObjectKind {
     Region,
 }
 
-/// The address of the object that a capability names, where it is of the kind.
+/// The address of the object that a capability names, if it is of the kind.
 fn object_of(kind: ObjectKind, cap: Cap) -> Option<u64>
     ensures { result ≡ spec.object_of_kind kind cap }
 {
@@ -42,7 +42,7 @@ fn object_of(kind: ObjectKind, cap: Cap) -> Option<u64>
     }
 }
 
-/// The first slot of the root CNode that boot puts an endpoint into, where it makes one.
+/// The first slot of the root CNode that boot puts an endpoint into, if it makes one.
 fn first_endpoint<P: Profile>(plan: &BootPlan) -> u64
     requires { IsWithinLimits P.profile plan.now }
     ensures { result ≡ spec.first_endpoint plan.now }
@@ -50,7 +50,7 @@ fn first_endpoint<P: Profile>(plan: &BootPlan) -> u64
     FIRST_THREAD + u64::from(plan.threads())
 }
 
-/// The first slot of the root CNode that boot puts a region into, where there is one.
+/// The first slot of the root CNode that boot puts a region into, if there is one.
 fn first_region<P: Profile>(plan: &BootPlan) -> u64
     requires { IsWithinLimits P.profile plan.now }
     ensures { result ≡ spec.first_region plan.now }
@@ -101,7 +101,7 @@ fn boot_region<P: Profile>(plan: &BootPlan, index: u64) -> Option<u64>
     Some(region.0)
 }
 
-/// The address of the object that boot puts into a slot of the root CNode, where it is of the kind.
+/// The address of the object that boot puts into a slot of the root CNode, if it is of the kind.
 fn boot_object<P: Profile>(plan: &BootPlan, kind: ObjectKind, index: u64) -> Option<u64>
     requires { IsWithinLimits P.profile plan.now }
     ensures { result ≡ spec.boot_object kind P.profile plan.now index }
@@ -168,7 +168,7 @@ fn object_at<P: Profile, S: CapStore<P> + Drop, W: Waiters<P> + Drop>(
 /// The address of the object of a kind that a word stands for. A word is a number in decimal digits, or a name of the set-up, also
 /// behind a `@`. A number below the count of the root CNode's slots is one of them: it stands for the thread, the endpoint or the
 /// region that boot put there, and another slot for what it holds in the kernel. Every other number is an address, of whatever is
-/// there. `None` where the word is neither a number nor a name, and where the slot has nothing of the kind.
+/// there. `None` if the word is neither a number nor a name, and if the slot has nothing of the kind.
 pub fn object_meant<P: Profile, S: CapStore<P> + Drop, W: Waiters<P> + Drop>(
     names: &[Name],
     setup: &Setup,
@@ -216,7 +216,7 @@ pub fn are_meant<P: Profile, S: CapStore<P> + Drop, W: Waiters<P> + Drop>(
     each_is_meant::<P, S, W>(names, setup, kernel, kind, words)
 }
 
-/// Adds an object, where there is one.
+/// Adds an object, if there is one.
 fn add_meant(objects: &mut Vec<u64>, object: Option<u64>) -> Result<(), AllocError>
     ensures { OnOk result (objects.new.items ≡ objects.old.items ++ cons_option object []) }
 {

@@ -1,4 +1,4 @@
-//! Calls of a store, each made only where it is lawful.
+//! Calls of a store, each made only if it is lawful.
 ghost use Rattle.std.specs.Prelude.{◌≡◌, ◌<◌, ◌*◌, ◌+◌, ◌≤◌, ◌%◌, ◌⊎◌, true, false, IfSome, IfOk, None};
 ghost use Rattle.std.specs.List.{AllByRecursion as Each};
 ghost use Rattle.cap_core.specs.Numbers.{slot_size};
@@ -50,7 +50,7 @@ pub fn is_untyped(cap: Cap) -> bool
     }
 }
 
-/// A new object at an address: an untyped region of 2^6 or, where it fits, of 2^8 or 2^10 bytes, a CNode or an
+/// A new object at an address: an untyped region of 2^6 or, if it fits, of 2^8 or 2^10 bytes, a CNode or an
 /// endpoint.
 pub fn object<P: Profile>(base: u64, choice: u64) -> Cap
     requires aligned { base % 64 ≡ 0 }
@@ -236,7 +236,7 @@ pub fn put_new<P: Profile, S: CapStore<P>>(store: &mut S, source: u64, target: u
     }
 }
 
-/// The same capability, with a badge where it is an endpoint's without one.
+/// The same capability, with a badge if it is an endpoint's without one.
 pub fn rebadged<P: Profile>(cap: Cap, badge: u64) -> Cap
     requires { IsLawful P.profile 12 cap }
     ensures lawful { IsLawful P.profile 12 result }
@@ -257,7 +257,7 @@ pub fn rebadged<P: Profile>(cap: Cap, badge: u64) -> Cap
     }
 }
 
-/// Whether a capability may be derived from the one in a slot: an untyped one only where the slot has no child.
+/// Whether a capability may be derived from the one in a slot: an untyped one only if the slot has no child.
 pub fn may_derive<P: Profile, S: CapStore<P>>(store: &S, source: Slot, cap: Cap) -> bool
     ensures { result ≡ true → IsChildless P.profile source cap (S.forest store.now) }
 {

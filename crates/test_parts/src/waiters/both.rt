@@ -8,7 +8,7 @@ use std::test::Fail;
 
 const CALLS: u32 = 4000;
 
-/// The same send through both, where the thread may make it: whether both answer the same.
+/// The same send through both, if the thread may make it: whether both answer the same.
 fn send_both<A: Waiters<Wide>, B: Waiters<Wide>>(a: &mut A, b: &mut B, drawn: u64) -> bool
     requires a { A.memory_bits a.old ≡ MEMORY_BITS }
     requires b { B.memory_bits b.old ≡ MEMORY_BITS }
@@ -27,7 +27,7 @@ fn send_both<A: Waiters<Wide>, B: Waiters<Wide>>(a: &mut A, b: &mut B, drawn: u6
     first == second
 }
 
-/// The same receive through both, where the thread may make it: whether both answer the same.
+/// The same receive through both, if the thread may make it: whether both answer the same.
 fn receive_both<A: Waiters<Wide>, B: Waiters<Wide>>(a: &mut A, b: &mut B, drawn: u64) -> bool
     requires a { A.memory_bits a.old ≡ MEMORY_BITS }
     requires b { B.memory_bits b.old ≡ MEMORY_BITS }

@@ -93,7 +93,7 @@ pub fn is_thread<P: Profile>(address: u64) -> bool
     address % 2048 == 0 && address < 16384
 }
 
-/// Sends where the thread may: whether the answer is this one.
+/// Sends if the thread may: whether the answer is this one.
 fn is_sent<P: Profile, W: Waiters<P>>(
     waiters: &mut W,
     endpoint: u64,
@@ -111,7 +111,7 @@ fn is_sent<P: Profile, W: Waiters<P>>(
     waiters.send(endpoint, thread, Badge(badge), message(badge), block) == answer
 }
 
-/// Receives where the thread may: whether the answer is this one.
+/// Receives if the thread may: whether the answer is this one.
 fn is_received<P: Profile, W: Waiters<P>>(
     waiters: &mut W,
     endpoint: u64,
