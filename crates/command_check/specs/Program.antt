@@ -46,13 +46,13 @@ abbrev pub outcome_in : Result SetupView Fault → List ℕ × Verdict
 outcome_in (Ok setup) = outcome_of setup.profile setup
 outcome_in (Err fault) = (refusal_line fault, Refused)
 
--- what is told of a run: the report, and how many of the expectations are met
+-- what is written about a run: the report, and how many of the expectations are met
 abbrev pub HasCounts : ProfileName → SetupView → Option ExpectationCount → Type 0
 HasCounts p setup None = ⊥
 HasCounts p setup (Some count) =
     (count.met ≡ met_count setup.calls (replies_to p setup)) × (count.expected ≡ expectation_count setup.calls (replies_to p setup))
 
--- what is written of a run, with objects and slots as `texts` tells them, and these counts
+-- what is written of a run, with objects and slots as `texts` writes them, and these counts
 abbrev pub IsTextTold : Texts → ProfileName → SetupView → CountedText → Type 0
 IsTextTold texts p setup made =
     (made.text.items ≡ report_told texts p setup.calls (replies_to p setup) (shown (end_state p setup))) × HasCounts p setup made.count

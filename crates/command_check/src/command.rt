@@ -21,7 +21,7 @@ pub trait Command {
     /// The text and the verdict are right for a set-up that was read, in a profile.
     ghost answers: { Self → ProfileName → ReadView → List ℕ → Verdict → Type 0 };
 
-    /// The text that is to be written of the set-up, the verdict, and what standard error tells. A kernel that it boots can be of
+    /// The text that is to be written of the set-up, the verdict, and what standard error says. A kernel that it boots can be of
     /// these stores.
     fn answer<P: Profile, S: SaveStore<P> + DerivationStore<P>, W: SaveWaiters<P>>(
         &self,

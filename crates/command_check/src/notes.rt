@@ -1,4 +1,4 @@
-//! What standard error tells of a run: which calls were refused and had no expectation, and whose expectation is not met.
+//! What standard error says about a run: which calls were refused and had no expectation, and whose expectation is not met.
 ghost use Rattle.std.specs.Prelude.{◌≡◌, ◌++◌, length, option_copied, IfOk, OnOk};
 ghost use Rattle.setup_report.specs.Text.{begins_as};
 ghost use Rattle.command_check.specs.Notes as spec;
@@ -55,7 +55,7 @@ fn is_met(shown: &str, expected: &str) -> bool
     }
 }
 
-/// Adds what is told of a call, if its reply is not the expected one. Of an expectation that asks nothing is told.
+/// Adds what is said about a call, if its reply is not the expected one. Nothing is said about an expectation that asks.
 pub fn add_unmet(
     alloc: Global,
     unmet: &mut Vec<CallNote>,
@@ -109,7 +109,7 @@ fn asking_calls(alloc: Global, setup: &Setup) -> Result<Vec<usize>, AllocError> 
     Ok(numbers)
 }
 
-/// What standard error tells of the calls of a set-up, given the reply to each and the count of their expectations: which were
+/// What standard error says about the calls of a set-up, given the reply to each and the count of their expectations: which were
 /// refused if nothing was expected, whose expectation is not met, and which ask what the reply is.
 pub fn notes_on(
     alloc: Global,

@@ -20,14 +20,14 @@ use setup_values::Name;
 use slot_core::{DerivationStore, MakeStore};
 use std::alloc::{AllocError, Global};
 
-/// The text that is written for an input, the count of its expectations, and what standard error tells.
+/// The text that is written for an input, the count of its expectations, and what standard error says.
 #[derive(Drop)]
 pub struct CountedText {
     /// The report, or the line by which the set-up is refused.
     pub text: Vec<u8>,
     /// How many calls have an expectation, and how many of these are met; nothing if the set-up is refused.
     pub count: Option<ExpectationCount>,
-    /// What standard error tells.
+    /// What standard error says.
     pub notes: Notes,
 }
 
@@ -42,7 +42,7 @@ impl CountedText {
         }
     }
 
-    /// The text with its verdict, and what standard error tells.
+    /// The text with its verdict, and what standard error says.
     pub fn answer(self) -> Answer
         ensures text { result.text ≡ self.text }
         ensures verdict { result.verdict ≡ verdict_in self.count }

@@ -41,7 +41,7 @@ pub trait StateCommand {
     /// to this state.
     ghost answers: { Self → ProfileName → Names → SetupView → ℕ → State → List ℕ → Verdict → Type 0 };
 
-    /// The text that is to be written, by the kernel that the first calls led to, the verdict, and what standard error tells.
+    /// The text that is to be written, by the kernel that the first calls led to, the verdict, and what standard error says.
     fn answer<P: Profile, S: MakeStore<P> + DerivationStore<P>, W: MakeWaiters<P>>(
         &self,
         alloc: Global,

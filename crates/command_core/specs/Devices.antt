@@ -1,16 +1,16 @@
--- What a run of reads gave, and what a run of writes took: counted for every device, and byte for byte if a device tells its bytes.
+-- What a run of reads gave, and what a run of writes took: counted for every device, and byte for byte if a device shows its bytes.
 use Rattle.std.specs.Prelude.{◌≡◌, ◌+◌, ◌≤◌, ℕ, Bool, List, ◌++◌, Option, length, IfSome}
 use Rattle.std.specs.Io.KnownBytes.{Appends}
 
--- the source gave as many bytes as the input has, and had just the input to give, if it tells what it has
+-- the source gave as many bytes as the input has, and had just the input to give, if it shows what it has
 abbrev pub Gave : {S : Type 0} → (S → Option (List ℕ)) → (S → ℕ) → S → S → List ℕ → Type 0
 Gave left given old new input = (given new ≡ given old + length input) × IfSome (left old) (λ told. told ≡ input)
 
--- the source gave that many bytes and may have more; it has no fewer, if it tells what it has
+-- the source gave that many bytes and may have more; it has no fewer, if it shows what it has
 abbrev pub GaveAsMany : {S : Type 0} → (S → Option (List ℕ)) → (S → ℕ) → S → S → ℕ → Type 0
 GaveAsMany left given old new limit = (given new ≡ given old + limit) × IfSome (left old) (λ told. limit ≤ length told)
 
--- the sink took as many bytes as the text has, and just the text, if it tells what it took
+-- the sink took as many bytes as the text has, and just the text, if it shows what it took
 abbrev pub Took : {K : Type 0} → (K → Option (List ℕ)) → (K → ℕ) → K → K → List ℕ → Type 0
 Took taken written old new text = (written new ≡ written old + length text) × Appends (taken old) (taken new) text
 

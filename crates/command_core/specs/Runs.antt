@@ -17,7 +17,7 @@ verdict_of (Ok found) = Ok found.verdict
 verdict_of (Err fault) = Err fault
 
 -- what a run answers, and what it leaves of the source and of the sink, where `means` says which text and which verdict are
--- right for an input; `from` and `to` say what the devices tell
+-- right for an input; `from` and `to` say what the devices show
 pub record IsRun {S K : Type 0} (means : List ℕ → List ℕ → Verdict → Type 0) (from : SourceGhosts S) (to : SinkGhosts K)
     (source_old source_new : S) (sink_old sink_new : K) (result : Result Verdict RunFault) : Type 0 where
   -- Ok: the source gave the input to its end, and the sink took just a text that is right for the input, with the verdict
@@ -44,7 +44,7 @@ pub record IsRun {S K : Type 0} (means : List ℕ → List ℕ → Verdict → T
   pub thread_keeps : result ≡ Err Thread → sink_new ≡ sink_old
 
 -- what a run found: the text that it wrote and the verdict are right for its input, as `means` says, and so is what standard error
--- tells beside them, as `tells` says
+-- says besides them, as `tells` says
 abbrev pub IsFound : {S K : Type 0} → (List ℕ → List ℕ → Verdict → Type 0) → (List ℕ → Notes → Type 0) → SourceGhosts S → SinkGhosts K
     → S → S → K → K → Found → Type 0
 IsFound means tells from to source_old source_new sink_old sink_new found = (input text : List ℕ)

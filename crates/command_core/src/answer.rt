@@ -1,34 +1,34 @@
-//! What is made of an input: the text that is written, the verdict, and what standard error tells beside them.
+//! What is made of an input: the text that is written, the verdict, and what standard error says besides them.
 ghost use Rattle.std.specs.Prelude.{◌≡◌, [], None};
 
 use crate::fault::Verdict;
 use std::alloc::Global;
 
-/// A call of a set-up, and what standard error tells of it.
+/// A call of a set-up, and what standard error says about it.
 #[derive(Drop)]
 pub struct CallNote {
     /// The call's number, counted from 1.
     pub call: usize,
-    /// What is told of it.
+    /// What is said about it.
     pub text: String,
 }
 
-/// What standard error tells of a policy.
+/// What standard error says about a policy.
 #[derive(Drop)]
 pub enum PolicyNote {
-    /// What is told of a place of the policy's text: its line and column, counted from 1.
+    /// What is said about a place of the policy's text: its line and column, counted from 1.
     Place {
         line: usize,
         column: usize,
         text: String,
     },
-    /// What is told of a call of the set-up.
+    /// What is said about a call of the set-up.
     Call(CallNote),
-    /// How many more there are to be told.
+    /// How many more there are to be listed.
     More(usize),
 }
 
-/// What standard error tells of an answer. No clause of a command says what it is, unless the command's own says so.
+/// What standard error says about an answer. No clause of a command says what it is, unless the command's own says so.
 #[derive(Drop)]
 pub struct Notes {
     /// The numbers, counted from 1, of the calls that were refused and of which nothing was expected.
@@ -39,12 +39,12 @@ pub struct Notes {
     pub asking: Vec<usize>,
     /// What the command line names and the input does not have.
     pub absent: Option<String>,
-    /// What is told of a policy, in this order.
+    /// What is said about a policy, in this order.
     pub policy: Vec<PolicyNote>,
 }
 
 impl Notes {
-    /// Nothing is told.
+    /// Nothing is said.
     pub fn none(alloc: Global) -> Notes
         ensures refused { result.refused.items ≡ [] }
         ensures unmet { result.unmet.items ≡ [] }
@@ -62,12 +62,12 @@ impl Notes {
     }
 }
 
-/// What a run found, beside the text that it wrote.
+/// What a run found, besides the text that it wrote.
 #[derive(Drop)]
 pub struct Found {
     /// The verdict.
     pub verdict: Verdict,
-    /// What standard error tells.
+    /// What standard error says.
     pub notes: Notes,
 }
 
@@ -78,12 +78,12 @@ pub struct Answer {
     pub text: Vec<u8>,
     /// What was found.
     pub verdict: Verdict,
-    /// What standard error tells.
+    /// What standard error says.
     pub notes: Notes,
 }
 
 impl Answer {
-    /// An answer of which standard error tells nothing.
+    /// An answer of which standard error says nothing.
     pub fn new(alloc: Global, text: Vec<u8>, verdict: Verdict) -> Answer
         ensures text { result.text ≡ text }
         ensures verdict { result.verdict ≡ verdict }
@@ -96,7 +96,7 @@ impl Answer {
         }
     }
 
-    /// An answer of which standard error tells that these calls have an expectation that is not met.
+    /// An answer of which standard error says that these calls have an expectation that is not met.
     pub fn with_unmet(
         alloc: Global,
         text: Vec<u8>,
@@ -118,7 +118,7 @@ impl Answer {
         }
     }
 
-    /// An answer of which standard error tells this of a policy.
+    /// An answer of which standard error says this of a policy.
     pub fn with_policy(
         alloc: Global,
         text: Vec<u8>,

@@ -17,10 +17,10 @@ pub trait Engine {
     /// The text and the verdict are right for the input.
     ghost means: { Self → List ℕ → List ℕ → Verdict → Type 0 };
 
-    /// What standard error tells is right for the input. An engine that does not say what is right promises nothing of it.
+    /// What standard error says is right for the input. An engine that does not say what is right promises nothing of it.
     ghost tells: { Self → List ℕ → Notes → Type 0 } = { λ _ _ _. Unit {0} };
 
-    /// The text that is to be written for the input, the verdict, and what standard error tells.
+    /// The text that is to be written for the input, the verdict, and what standard error says.
     ///
     /// # Errors
     /// `Memory`.
@@ -31,7 +31,7 @@ pub trait Engine {
 }
 
 /// Reads the source to its end, and writes to the sink the text that the engine makes of it. Its verdict is the engine's, and so
-/// is what standard error tells.
+/// is what standard error says.
 ///
 /// # Errors
 /// `Reading` if a read failed in this call, or if `INPUT_LIMIT` bytes came without an end; nothing is written

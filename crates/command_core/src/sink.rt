@@ -9,7 +9,7 @@ use std::marker::Model;
 
 /// A device that takes bytes.
 pub trait Sink {
-    /// The bytes that it has taken, if the device tells them.
+    /// The bytes that it has taken, if the device shows them.
     ghost taken: { Self → Option (List ℕ) };
 
     /// How many bytes it has taken.
@@ -30,7 +30,7 @@ pub trait Sink {
         ensures err { OnErr result (failed self.new ≡ true) };
 }
 
-/// A writer of std as a sink: it tells the bytes that the writer tells.
+/// A writer of std as a sink: it shows the bytes that the writer shows.
 #[derive(Drop)]
 pub struct WriterSink<W> {
     writer: W,

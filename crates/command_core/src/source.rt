@@ -9,7 +9,7 @@ use std::marker::Model;
 
 /// A device that gives bytes.
 pub trait Source {
-    /// The bytes that it has still to give, if the device tells them.
+    /// The bytes that it has still to give, if the device shows them.
     ghost left: { Self → Option (List ℕ) };
 
     /// How many bytes it has given.
@@ -28,7 +28,7 @@ pub trait Source {
         ensures err { OnErr result (failed self.new ≡ true) };
 }
 
-/// A reader of std as a source: it tells the bytes that the reader tells.
+/// A reader of std as a source: it shows the bytes that the reader shows.
 #[derive(Drop)]
 pub struct ReaderSource<R> {
     reader: R,

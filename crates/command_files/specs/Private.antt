@@ -16,7 +16,7 @@ IsJudgedFound verdict IsMade None (Some answer) = ⊥
 IsJudgedFound verdict IsMade (Some bytes) None = ⊥
 IsJudgedFound verdict IsMade (Some bytes) (Some answer) = IsMade bytes answer.told × (answer.verdict ≡ verdict bytes)
 
--- what is told of a file, and the verdict, if it could be read
+-- what is said about a file, and the verdict, if it could be read
 abbrev pub told_in : Option FileAnswer → Option CountedText
 told_in = option_map (λ answer. answer.told)
 

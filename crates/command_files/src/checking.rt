@@ -74,7 +74,7 @@ impl Telling for Summary {
 ///
 /// # Errors
 /// `Writing` if a write failed or took no byte; a front of the text was written then. `Memory`; nothing is written
-/// then, and the files behind are not run.
+/// then, and the files after it are not run.
 pub fn check_files<I: Inputs, L: Listener<I::Standard, I::File, I::Fault>, K: Sink>(
     alloc: Global,
     inputs: &I,

@@ -12,7 +12,7 @@ use std::fmt::Write;
 /// What is said of a file that cannot be read.
 const UNREAD: &[u8] = b"cannot be read\n";
 
-/// How many expectations are met, as the last line of a report tells it.
+/// How many expectations are met, as the last line of a report has it.
 fn count_line(alloc: Global, count: ExpectationCount) -> Result<String, AllocError>
     ensures { IfOk result (λ line. string_bytes line ≡ count_text count) }
 {

@@ -8,7 +8,7 @@ use crate::telling::{FileAnswer, Telling, told_in};
 use command_core::{INPUT_LIMIT, RunFault, Source, read_below};
 use std::alloc::{AllocError, Global};
 
-/// Reads the source to its end, and makes what is told of it; nothing, if it cannot be read.
+/// Reads the source to its end, and makes what is said about it; nothing, if it cannot be read.
 fn make_source<T: Telling, S: Source>(
     alloc: Global,
     telling: &T,
@@ -24,7 +24,7 @@ fn make_source<T: Telling, S: Source>(
     }
 }
 
-/// Makes what is told of standard input.
+/// Makes what is said about standard input.
 fn make_standard<I: Inputs, L: Listener<I::Standard, I::File, I::Fault>, T: Telling>(
     alloc: Global,
     inputs: &I,
@@ -41,7 +41,7 @@ fn make_standard<I: Inputs, L: Listener<I::Standard, I::File, I::Fault>, T: Tell
     Ok(found)
 }
 
-/// Makes what is told of the file of that name.
+/// Makes what is said about the file of that name.
 fn make_named<I: Inputs, L: Listener<I::Standard, I::File, I::Fault>, T: Telling>(
     alloc: Global,
     inputs: &I,
@@ -66,7 +66,7 @@ fn make_named<I: Inputs, L: Listener<I::Standard, I::File, I::Fault>, T: Telling
     }
 }
 
-/// Makes what is told of what the name stands for.
+/// Makes what is said about what the name stands for.
 pub(crate) fn make_file<I: Inputs, L: Listener<I::Standard, I::File, I::Fault>, T: Telling>(
     alloc: Global,
     inputs: &I,

@@ -1,4 +1,4 @@
-//! The check of one file, strict or not, told by addresses or by names.
+//! The check of one file, strict or not, written by addresses or by names.
 ghost use Rattle.std.specs.Prelude.{◌≡◌};
 ghost use Rattle.command_files.specs.Strict as spec;
 
@@ -65,7 +65,7 @@ impl Engine for FileCheck {
     }
 }
 
-/// The same with names in place of addresses: objects and slots that have a name in the state after the calls are told by it.
+/// The same with names in place of addresses: objects and slots that have a name in the state after the calls are written by it.
 #[derive(Clone, Copy, Drop)]
 pub struct NamedCheck {
     /// As `FileCheck` has it.

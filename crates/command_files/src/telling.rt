@@ -1,4 +1,4 @@
-//! What is told of several files: a text with a line for each.
+//! What is said about several files: a text with a line for each.
 ghost use Rattle.std.specs.Prelude.{◌≡◌, ◌++◌, false, map, option_map, IfOk, OnOk, List, ℕ, Option};
 ghost use Rattle.command_files.specs.Files.{Each, IsInput, IsToldOf, lines_of, tally_of, told_text};
 ghost use Rattle.command_files.specs.Private as spec;
@@ -13,13 +13,13 @@ use std::alloc::{AllocError, Global};
 /// What is made of a file that was read.
 #[derive(Drop)]
 pub struct FileAnswer {
-    /// What is told of it, with the count of its expectations.
+    /// What is said about it, with the count of its expectations.
     pub told: CountedText,
     /// Whether all is as it is to be, something is not, or the set-up is refused.
     pub verdict: Verdict,
 }
 
-/// What is told of a file, if it could be read.
+/// What is said about a file, if it could be read.
 pub(crate) fn told_in(found: &Option<FileAnswer>) -> Option<&CountedText>
     ensures { option_map (λ m. m.now) result ≡ spec.told_in found.now }
 {
@@ -39,7 +39,7 @@ fn verdict_found(found: &Option<FileAnswer>) -> Option<Verdict>
     }
 }
 
-/// What is told of several files.
+/// What is said about several files.
 pub trait Telling {
     ghost use Rattle.std.specs.Prelude.{◌≡◌, ◌++◌, ℕ, List, Option, option_map, IfOk, OnOk};
     ghost use Rattle.setup_format.specs.Setups.{setup_of_bytes};
@@ -55,7 +55,7 @@ pub trait Telling {
     /// It is what is made of these bytes.
     ghost is_made: { Self → List ℕ → CountedText → Type 0 };
 
-    /// Standard error tells this of a file with these bytes.
+    /// Standard error says this of a file with these bytes.
     ghost tells: { Self → List ℕ → Notes → Type 0 } = { λ _ _ _. Unit {0} };
 
     /// What stands before the lines.
@@ -64,7 +64,7 @@ pub trait Telling {
     /// The line of the file of that name, with these contents.
     ghost line: { Self → List ℕ → Option (List ℕ) → List ℕ };
 
-    /// What stands behind the lines of so many files, with that tally.
+    /// What stands after the lines of so many files, with that tally.
     ghost last: { Self → ℕ → Tally → List ℕ };
 
     /// What is made of the bytes of a file, with the count of its expectations, and the verdict.
@@ -89,7 +89,7 @@ pub trait Telling {
         ensures { OnOk result ((contents : Option (List ℕ)) → IsFoundFile (is_made self.now) contents (option_map (λ m. m.now) found.entry)
             → out.new.items ≡ out.old.items ++ line self.now name.now contents) };
 
-    /// Adds what stands behind the lines.
+    /// Adds what stands after the lines.
     fn add_last(
         &self,
         alloc: Global,
@@ -143,13 +143,13 @@ fn tell_all<I: Inputs, L: Listener<I::Standard, I::File, I::Fault>, T: Telling>(
     Ok((out, tally))
 }
 
-/// Makes what is told of each of the files, of which `-` is standard input, and writes a text with a line for each to the sink.
+/// Makes what is said about each of the files, of which `-` is standard input, and writes a text with a line for each to the sink.
 /// A file that cannot be read has its line too, and the others are still read. The listener hears of each file in turn; the
 /// text is written at the end.
 ///
 /// # Errors
 /// `Writing` if a write failed or took no byte; a front of the text was written then. `Memory`; nothing is written
-/// then, and the files behind are not read.
+/// then, and the files after it are not read.
 pub fn tell_files<I: Inputs, L: Listener<I::Standard, I::File, I::Fault>, T: Telling, K: Sink>(
     alloc: Global,
     inputs: &I,

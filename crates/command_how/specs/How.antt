@@ -90,7 +90,7 @@ IsSought p names q most setup made text verdict =
     ((verdict ≡ AllMet) × IsWitnessText p q setup made text)
     ⊎ ((answer : NoWitness) × (IsNotFound most answer × IsLine names q answer text verdict))
 
--- the same before it is told: a witness, or that none is found
+-- the same before it is written: a witness, or that none is found
 abbrev pub IsFound : ProfileName → Asking → ℕ → SetupView → ℕ → Outcome → Type 0
 IsFound p q most setup made (Witness text) = IsWitnessText p q setup made text.items
 IsFound p q most setup made (Without answer) = IsNotFound most answer
@@ -107,7 +107,7 @@ IsWithout p q most uses v ExcludedByFlow = IsInside p q v q.what × IsOutsideFlo
 IsWithout p q most uses v NotFound = IsInside p q v q.what
 IsWithout p q most uses v (NotFoundOf copies) = IsInside p q v q.what × (copies ≡ most)
 
--- what comes of a question, by so many copies at most: a witness, if it is not excluded; or why there is none
+-- what a question is answered, by so many copies at most: a witness, if it is not excluded; or why there is none
 abbrev pub IsOutcome : ProfileName → Asking → ℕ → List PartUse → Shown → SetupView → ℕ → Outcome → Type 0
 IsOutcome p q most uses v setup made (Witness text) = IsInside p q v q.what × IsWitnessText p q setup made text.items
 IsOutcome p q most uses v setup made (Without answer) = IsWithout p q most uses v answer
@@ -123,7 +123,7 @@ IsHowTold p names q most uses v setup made text verdict =
     (IsExcluded p q uses v × (IsRuledOut p q uses v q.what × IsLine names q Excluded text verdict))
     ⊎ (IsInside p q v q.what × IsInsideTold p names q most v setup made text verdict)
 
--- the same by parts that may be told
+-- the same by parts that may be listed
 pub record IsToldByParts (p : ProfileName) (w : Words) (names : Names) (setup : SetupView) (made : ℕ) (v : Shown) (from to : ℕ) (text : List ℕ) (verdict : Verdict) : Type 0 where
   pub memory : List PartMemory
   pub uses : List PartUse
@@ -148,7 +148,7 @@ IsToldOfMeant p w names setup made v (Some from) (Some to) text verdict = IsTold
 abbrev pub has_asked_how : ProfileName → Names → Plan → Shown → Words → Bool
 has_asked_how p names plan v w = are_meant Thread p names plan v w.without && are_meant Endpoint p names plan v w.by
 
--- the text and the verdict of what is shown behind so many calls: nothing, if `import --flows` made the set-up, since a thread uses
+-- the text and the verdict of what is shown after so many calls: nothing, if `import --flows` made the set-up, since a thread uses
 -- there what no call of it can name; nor if a word stands for nothing
 abbrev pub IsHowBy : Words → ProfileName → Names → SetupView → ℕ → Shown → List ℕ → Verdict → Type 0
 IsHowBy w p names setup made v text verdict =

@@ -46,7 +46,7 @@ pub fn flows_absent(alloc: Global) -> Result<Answer, AllocError>
     Ok(Answer::absent(alloc, absent))
 }
 
-/// What is asked behind the first calls of a set-up: whether it can happen from the thread `from` to the thread `to`; by messages but by the endpoints `by`, with a badge if one is given; if the threads `without` make no more calls; and
+/// What is asked after the first calls of a set-up: whether it can happen from the thread `from` to the thread `to`; by messages but by the endpoints `by`, with a badge if one is given; if the threads `without` make no more calls; and
 /// by so many copies of the kernel at most. Each thread and each endpoint is given by its address, by its name, or by a slot of the
 /// root CNode (`object_meant`).
 ///
@@ -131,7 +131,7 @@ impl How<'_> {
         Ok(Answer::new(alloc, text, verdict))
     }
 
-    /// What is told if no thread is live at one of the two addresses, or both are one.
+    /// What is said if no thread is live at one of the two addresses, or both are one.
     fn no_two_threads<P: Profile, S: CapStore<P> + Drop, W: Waiters<P> + Drop>(
         &self,
         alloc: Global,

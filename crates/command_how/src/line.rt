@@ -7,7 +7,7 @@ ghost use Rattle.command_how.specs.Line as spec;
 use command_how_witness::Happening;
 use std::fmt;
 
-/// Why no calls are told.
+/// Why no calls are given.
 #[derive(Clone, Copy, PartialEq, Eq, Debug, Drop)]
 pub enum NoWitness {
     /// The laws say that it can't happen.

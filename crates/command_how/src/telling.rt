@@ -1,4 +1,4 @@
-//! What comes of a question of two threads, and what is told of it: calls that were found, as a set-up, or a line.
+//! What comes of a question of two threads, and what is said about it: calls that were found, as a set-up, or a line.
 ghost use Rattle.std.specs.Prelude.{◌≡◌, ◌≤◌, ◌++◌, ℕ, true, false, IfOk, List, OnOk, length, string_bytes};
 ghost use Rattle.kernel_abstract.specs.Memory.{IsInMemory};
 ghost use Rattle.kernel_abstract.specs.Plan.{IsPlan};
@@ -195,7 +195,7 @@ pub fn outcome_of<P: Profile, S: MakeStore<P> + DerivationStore<P>, W: MakeWaite
     Ok(outcome)
 }
 
-/// What is told of two threads, by so many copies of the kernel at most.
+/// What is said about two threads, by so many copies of the kernel at most.
 pub fn told<P: Profile, S: MakeStore<P> + DerivationStore<P>, W: MakeWaiters<P>>(
     alloc: Global,
     behind: &Behind<'_>,

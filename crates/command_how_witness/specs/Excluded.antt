@@ -23,7 +23,7 @@ use Rattle.command_how_witness.specs.declared.asked.Happening.{Happening}
 use Rattle.command_how_witness.specs.declared.asked.Happening.TheVariants.{Message, Hold, Loss}
 use Rattle.command_how_witness.specs.Witness.{Asking, IsShown}
 
--- the one thread's part is kept from the other's, of parts that may be told
+-- the one thread's part is kept from the other's, by parts that may be listed
 pub record IsKept (p : ProfileName) (q : Asking) (v : Shown) : Type 0 where
   pub memory : List PartMemory
   pub uses : List PartUse
@@ -52,14 +52,14 @@ IsOutside p q uses v Message = IsKept p q v
 IsOutside p q uses v Hold = (part_at q.memory q.from ≡ None) ⊎ LiesElsewhere q.memory q.from q.to
 IsOutside p q uses v Loss = (part_at q.memory q.from ≡ None) ⊎ StandsApart q.memory uses v q.from q.to
 
--- by parts that may be told it is excluded
+-- by parts that may be listed it is excluded
 pub record IsExcluded (p : ProfileName) (q : Asking) (uses : List PartUse) (v : Shown) : Type 0 where
   pub right : AreRightParts p v q.without q.memory uses
   pub outside : IsOutside p q uses v q.what
 
 -- ---- if the line says so, and if it does not
 
--- what `never` answers of the two threads, by parts that may be told
+-- what `never` answers of the two threads, by parts that may be listed
 pub record IsNeverSaid (p : ProfileName) (q : Asking) (v : Shown) (answer : Never) : Type 0 where
   pub memory : List PartMemory
   pub uses : List PartUse

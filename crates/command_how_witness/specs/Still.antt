@@ -54,7 +54,7 @@ IsReceive op = ⊥
 abbrev pub SendsOrReceives : ℕ → ℕ → Call → Type 0
 SendsOrReceives from to call = ((call.thread ≡ from) × IsSend call.op) ⊎ ((call.thread ≡ to) × IsReceive call.op)
 
--- a message passes by such calls alone: two, and one for each thread that waits on the endpoint before. The last reply tells of it
+-- only such calls are needed for a message to pass: two, and one for each thread that waits on the endpoint before. The last reply shows it
 pub record PassesMessage (p : ProfileName) (A : State) (endpoint from to : ℕ) (badge : Badge) (message : Message) : Type 0 where
   pub calls : List Call
   pub kinds : Each (SendsOrReceives from to) calls

@@ -23,14 +23,14 @@ pub record IsShownAlone (p : ProfileName) (q : Asking) (A : State) : Type 0 wher
   pub kinds : Each (SendsOrReceives q.from q.to) calls
   pub shows : IsShown p q A calls
 
--- a message between live threads of two still parts is excluded, or sends of the one thread and receives of the other alone show it;
+-- a message between live threads of two still parts is excluded, or sends of the one thread and receives of the other are enough to show it;
 -- no badge is asked for
 abbrev pub IsDecided : ProfileName → Asking → List PartUse → State → Type 0
 IsDecided p q uses A =
     IsReached p A → AreRightParts p (shown A) q.without q.memory uses → LieInTwoStill p q.without q.memory uses (shown A) q.from q.to →
     q.what ≡ Message → q.badge ≡ None → IsExcluded p q uses (shown A) ⊎ IsShownAlone p q A
 
--- also if a badge is asked for: no calls show such a message, or sends of the one thread and receives of the other alone show it
+-- also if a badge is asked for: no calls show such a message, or sends of the one thread and receives of the other are enough to show it
 abbrev pub IsDecidedWithBadge : ProfileName → Asking → List PartUse → State → Type 0
 IsDecidedWithBadge p q uses A =
     IsReached p A → AreRightParts p (shown A) q.without q.memory uses → LieInTwoStill p q.without q.memory uses (shown A) q.from q.to →

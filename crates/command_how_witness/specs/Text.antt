@@ -31,7 +31,7 @@ pub record BeginsAs (setup other : SetupView) (made : ℕ) : Type 0 where
   pub plan : setup.plan ≡ other.plan
   pub calls : first_witness_calls made setup ≡ first_witness_calls made other
 
--- a call behind the first ones expects the whole text of its reply, and a first one nothing
+-- a call after the first ones expects the whole text of its reply, and a first one nothing
 abbrev pub later_expectation : Bool → Reply → Option (List ℕ)
 later_expectation is_later reply = cond is_later (Some (reply_text reply)) None
 
@@ -45,7 +45,7 @@ ExpectLater made setup replies =
 abbrev pub AreMet : ProfileName → SetupView → Type 0
 AreMet p setup = met_count setup.calls (witness_replies p setup) ≡ expectation_count setup.calls (witness_replies p setup)
 
--- a set-up goes on where another stands behind so many calls; from there its calls show what is asked, and it meets all that it expects
+-- a set-up goes on where another stands after so many calls; from there its calls show what is asked, and it meets all that it expects
 pub record IsWitness (p : ProfileName) (q : Asking) (other : SetupView) (made : ℕ) (setup : SetupView) : Type 0 where
   pub begins : BeginsAs setup other made
   pub expects : ExpectLater made setup (witness_replies p setup)

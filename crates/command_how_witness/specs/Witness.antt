@@ -62,7 +62,7 @@ abbrev pub is_badge : Option ℕ → ℕ → Bool
 is_badge None badge = true
 is_badge (Some wanted) badge = badge == wanted
 
--- a reply tells of a message from the one thread to the other, but by the endpoints that are named, with the badge
+-- a reply shows a message from the one thread to the other, but by the endpoints that are named, with the badge
 abbrev pub is_message : Asking → Reply → Bool
 is_message q (Delivered endpoint from to badge message) =
     (from == q.from) && ((to == q.to) && (not (is_in endpoint q.by) && is_badge q.badge badge.0))

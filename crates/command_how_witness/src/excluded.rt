@@ -113,7 +113,7 @@ fn has_one_of(memory: &[PartMemory], part: u64, slots: &[u64]) -> bool
     false
 }
 
-/// Whether no full slot of one part stands below a slot of another, for derivations as a kernel tells them.
+/// Whether no full slot of one part stands below a slot of another, for derivations as a kernel gives them.
 fn stands_none_below<P: Profile>(
     alloc: Global,
     memory: &[PartMemory],

@@ -22,7 +22,7 @@ pub fn what_a_flow_excludes_has_no_witness()
     ensures { (p : ProfileName) (q : Asking) (A : State) (calls : List Call) → HasNoWitnessByFlow p q A calls }
 {}
 
-/// What is excluded is never not excluded as well, of whatever parts that may be told: so a line says *excluded* exactly if it is.
+/// What is excluded is never not excluded as well, of whatever parts that may be listed: so a line says *excluded* exactly if it is.
 pub fn what_is_excluded_is_decided()
     ensures { (p : ProfileName) (q : Asking) (uses : List PartUse) (A : State) → IsOnlyOne p q uses A }
 {}
@@ -40,18 +40,19 @@ pub fn still_parts_can_pass()
 {}
 
 /// Between two still parts the answer of a message is exact: of two live threads that are not trusted, of two still ones of parts
-/// that may be told, a message is excluded, so that no calls show it; or sends of the one and receives of the other alone show it.
+/// that may be listed, a message is excluded, so that no calls show it; or sends of the one and receives of the other are enough to
+/// show it.
 pub fn still_parts_are_decided()
     ensures { (p : ProfileName) (q : Asking) (uses : List PartUse) (A : State) → IsDecided p q uses A }
 {}
 
 /// The same of a message with a badge that is asked for: no calls of threads that are not trusted show it, or sends of the one and
-/// receives of the other alone do.
+/// receives of the other are enough to show it.
 pub fn still_parts_are_decided_with_badge()
     ensures { (p : ProfileName) (q : Asking) (uses : List PartUse) (A : State) → IsDecidedWithBadge p q uses A }
 {}
 
-/// If `never` answers `possible decided`, such a message happens: sends of the one thread and receives of the other alone show it.
+/// If `never` answers `possible decided`, such a message happens: sends of the one thread and receives of the other are enough to show it.
 pub fn what_is_told_decided_is_shown()
     ensures { (p : ProfileName) (q : Asking) (uses : List PartUse) (A : State) → IsToldDecided p q uses A }
 {}

@@ -110,7 +110,7 @@ fn is_badge(wanted: Option<u64>, badge: u64) -> bool
     }
 }
 
-/// Whether a reply tells of the message that is asked for.
+/// Whether a reply shows the message that is asked for.
 pub fn is_message(asked: &Asked<'_>, reply: Reply) -> bool
     ensures { result ≡ spec.is_message (spec.asking_of asked.now) reply }
 {

@@ -46,7 +46,7 @@ fn first_calls(setup: &Setup, made: usize) -> &[Call]
     &setup.calls()[..made]
 }
 
-/// The calls of a set-up behind its first ones.
+/// The calls of a set-up after its first ones.
 fn later_calls(setup: &Setup, made: usize) -> &[Call]
     requires { made ≤ length setup.now.calls }
     ensures { result.now ≡ spec.later_calls made setup.entry.now }
@@ -91,7 +91,7 @@ fn replies_to<P: Profile, S: MakeStore<P>, W: MakeWaiters<P>>(
     Ok(replies)
 }
 
-/// Whether a call behind the first ones expects the whole text of its reply, or a first one expects nothing.
+/// Whether a call after the first ones expects the whole text of its reply, or a first one expects nothing.
 fn expects(
     alloc: Global,
     expected: Option<&str>,
@@ -108,7 +108,7 @@ fn expects(
     Ok(is_later && expected == whole.as_str())
 }
 
-/// Whether each call of a set-up behind its first ones expects the whole text of its reply, and no other call expects anything.
+/// Whether each call of a set-up after its first ones expects the whole text of its reply, and no other call expects anything.
 fn expect_later(
     alloc: Global,
     setup: &Setup,
@@ -127,7 +127,7 @@ fn expect_later(
     Ok(true)
 }
 
-/// Whether the calls of a set-up expect what a witness expects behind so many first calls, and all of it is met.
+/// Whether the calls of a set-up expect what a witness expects after so many first calls, and all of it is met.
 #[tactic(auto, using(crate::proofs::Runs::length_replies_to))]
 fn are_met<P: Profile, S: MakeStore<P>, W: MakeWaiters<P>>(
     alloc: Global,
@@ -168,7 +168,7 @@ fn is_witness<P: Profile, S: MakeStore<P> + DerivationStore<P>, W: MakeWaiters<P
     are_met::<P, S, W>(alloc, setup, made)
 }
 
-/// Whether a text is read as a set-up that goes on where another stands behind so many of its calls, and shows what is asked.
+/// Whether a text is read as a set-up that goes on where another stands after so many of its calls, and shows what is asked.
 pub fn is_witness_text<P: Profile, S: MakeStore<P> + DerivationStore<P>, W: MakeWaiters<P>>(
     alloc: Global,
     text: &[u8],

@@ -1,4 +1,4 @@
--- The chains that an answer tells. Numbers are decimal.
+-- The chains that an answer lists. Numbers are decimal.
 use Rattle.std.specs.Prelude.{◌≡◌, codes, ℕ, ◌==◌, not, false, List, [], ◌∷◌, ◌++◌, Option, Some, None, find, MatchBool}
 use Rattle.std.specs.List.{flat_map}
 use Rattle.cap_core.specs.declared.profile.ProfileName.{ProfileName}
@@ -76,7 +76,7 @@ AreChainsBetween p texts f memory uses waits by from to None second text = text 
 AreChainsBetween p texts f memory uses waits by from to (Some i) None text = text ≡ []
 AreChainsBetween p texts f memory uses waits by from to (Some i) (Some j) text = AreChainsOfParts p texts f memory uses waits by from to i j text
 
--- the chains that are told of what is shown
+-- the chains that are listed for what is shown
 abbrev pub AreChains : ProfileName → Texts → List PartMemory → List PartUse → Shown → List ℕ → ℕ → ℕ → List ℕ → Type 0
 AreChains p texts memory uses v by from to text =
     AreChainsBetween p texts v.derivations memory uses (waits p v) by from to (part_at memory from) (part_at memory to) text

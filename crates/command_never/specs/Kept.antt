@@ -41,13 +41,13 @@ IsKeptFrom p parts by j (Tcb base) = HasNoByteIn p parts j (Tcb base)
 abbrev pub HoldsKept : ProfileName → Parts → List ℕ → ℕ → ℕ → Forest Entry → Type 0
 HoldsKept p parts by i j f = (slot : ℕ) → parts.part_of slot ≡ Some i → IsKeptFrom p parts by j (cap_at f slot)
 
--- a reply tells of no delivery from a thread of part i to a thread of part j, but by an endpoint that is named
+-- a reply shows no delivery from a thread of part i to a thread of part j, but by an endpoint that is named
 abbrev pub TellsKept : Parts → List ℕ → ℕ → ℕ → Reply → Type 0
 TellsKept parts by i j (Delivered endpoint from to badge message) =
     parts.part_of from ≡ Some i → parts.part_of to ≡ Some j → IsNamed by endpoint
 TellsKept parts by i j reply = ⊤
 
--- after these calls no slot of part i holds more, no thread of it names more, and none of their replies tells of more
+-- after these calls no slot of part i holds more, no thread of it names more, and none of their replies shows more
 pub record AreKept (p : ProfileName) (parts : Parts) (by : List ℕ) (i j : ℕ) (A : State) (calls : List Call) : Type 0 where
   pub slots : HoldsKept p parts by i j (state_after p A calls).derivations
   pub names : (thread slot : ℕ) → parts.part_of thread ≡ Some i → Names p (state_after p A calls).derivations thread slot →

@@ -109,7 +109,7 @@ lines_between p told memory uses v by (Some i) None = []
 lines_between p told memory uses v by (Some i) (Some j) =
     cond (i == j) [] (flat_map (open_lines p told memory uses v by i j) (endpoints_met uses (waits p v)))
 
--- what passes between two parts in seL4, beside messages
+-- what passes between two parts in seL4 besides messages
 abbrev pub sel4_between : PartTexts → ProfileName → List PartMemory → List PartUse → Option ℕ → Option ℕ → List ℕ
 sel4_between told p memory uses None to = []
 sel4_between told p memory uses (Some i) None = []
@@ -135,7 +135,7 @@ never_text p told setup made refused without messages memory uses v by from to a
     head_lines (codes "never 4") told.texts setup made refused without messages v
     ++ (flat_map (allowed_line told (endpoints p v)) by ++ lines_of_answer p told memory uses v by from to answer)
 
--- that text, with the chains behind it
+-- that text, with the chains after it
 pub record IsNeverText (p : ProfileName) (told : PartTexts) (setup : SetupView) (made refused : ℕ) (without messages : List ℕ) (memory : List PartMemory)
     (uses : List PartUse) (v : Shown) (by : List ℕ) (from to : ℕ) (answer : Never) (text : List ℕ) : Type 0 where
   pub chains : List ℕ

@@ -25,7 +25,7 @@ use setup_values::Name;
 use slot_core::{CapStore, DerivationStore, MakeStore};
 use std::alloc::{AllocError, Global};
 
-/// What is asked behind the first calls of a set-up: which threads are trusted; whether the part of the thread `from` is kept from
+/// What is asked after the first calls of a set-up: which threads are trusted; whether the part of the thread `from` is kept from
 /// that of the thread `to`, but by the endpoints `by`. Each thread and each endpoint is given by its address, by
 /// its name, or by a slot of the root CNode (`object_meant`).
 ///
@@ -38,7 +38,7 @@ pub struct Question<'a> {
     pub from: &'a str,
     pub to: &'a str,
     pub by: &'a [&'a str],
-    /// Whether objects that have a name are told by it, and parts by their threads.
+    /// Whether objects that have a name are written by it, and parts by their threads.
     pub names: bool,
 }
 
@@ -127,7 +127,7 @@ impl Question<'_> {
         answer_between::<P, S, W>(alloc, naming, &heading, from, to, by, is_for_flows, kernel)
     }
 
-    /// What is told if no thread is live at one of the two addresses.
+    /// What is said if no thread is live at one of the two addresses.
     fn no_thread<P: Profile, S: CapStore<P> + Drop, W: Waiters<P> + Drop>(
         &self,
         alloc: Global,

@@ -6,7 +6,7 @@ ghost use Rattle.kernel_abstract.specs.Plan.{Plan, tcb_place, endpoint_place};
 ghost use Rattle.kernel_abstract.specs.Boot.{whole_endpoint};
 ghost use Rattle.command_new.specs.Slots.{root_slots, tcb_slot, endpoint_slot, untyped_slot};
 
-/// The slots that have names hold at boot the capabilities of what the names tell: thread, endpoint and untyped region by
+/// The slots that have names hold at boot the capabilities of what the names say: thread, endpoint and untyped region by
 /// its number.
 pub fn named_slots_hold_what_their_names_tell()
     ensures tcbs { (p : ProfileName) (plan : Plan) (i : ℕ) → i < plan.threads → slice_get (root_slots p plan) (tcb_slot i) ≡ Some (Tcb (tcb_place p plan i)) }

@@ -1,4 +1,4 @@
--- What is told of the parts of a layout.
+-- What is written about the parts of a layout.
 use Rattle.std.specs.Prelude.{◌≡◌, ◌++◌, ℕ, List}
 use Rattle.cap_core.specs.declared.profile.ProfileName.{ProfileName}
 use Rattle.kernel_abstract.specs.Shown.{Shown}

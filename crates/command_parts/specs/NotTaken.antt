@@ -1,4 +1,4 @@
--- What it means that a part is not told to take slots from another.
+-- What it means that no line lets a part take slots from another.
 use Rattle.std.specs.Prelude.{◌≡◌, ℕ, false, List}
 use Rattle.kernel_forest.specs.Forest.{Forest}
 use Rattle.kernel_forest.specs.Entries.{Entry}

@@ -1,4 +1,4 @@
--- How the text of parts tells threads, endpoints and parts.
+-- How the text of parts writes threads, endpoints and parts.
 use Rattle.std.specs.Prelude.{codes, ℕ, ◌==◌, cond, List, [], ◌∷◌, ◌++◌, map, filter, Option, option_map, string_bytes}
 use Rattle.std.specs.List.{flat_map}
 use Rattle.std.specs.Fmt.{decimal}
@@ -28,7 +28,7 @@ abbrev pub threads_or_number : Texts → ℕ → List ℕ → List ℕ
 threads_or_number texts part [] = decimal part
 threads_or_number texts part (thread ∷ more) = texts.about thread ++ flat_map (thread_behind texts) more
 
--- a part is told by the threads in its memory, if names stand in place of addresses; these are the live threads
+-- a part is named by the threads in its memory, if names stand in place of addresses; these are the live threads
 abbrev pub part_texts : Texts → List PartMemory → List ℕ → PartTexts
 part_texts texts memory threads = record {
   texts = texts;

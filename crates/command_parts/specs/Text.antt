@@ -105,7 +105,7 @@ use_line told part u =
 abbrev pub use_lines : PartTexts → List PartSlot → List ℕ → List PartUse → ℕ → List ℕ
 use_lines told slots alone uses part = cond (is_in part alone) (held_lines told slots part) (flat_map (use_line told part) uses)
 
--- some parts pass messages alone
+-- some parts only pass messages
 abbrev pub part_lines : ProfileName → PartTexts → List PartMemory → List PartUse → Shown → List PartSlot → List ℕ → ℕ → List ℕ
 part_lines p told memory uses v slots alone part =
     terminated (codes "part " ++ told.part part)
@@ -132,7 +132,7 @@ sends_with_any part endpoint u = is_use write_bit part endpoint u && u.badge.0 =
 abbrev pub may_send_any : ProfileName → List PartMemory → List PartUse → ℕ → ℕ → Bool
 may_send_any p memory uses part endpoint = owns_endpoint p memory part endpoint || list_any (sends_with_any part endpoint) uses
 
--- the badges with which a part may send, 0 alone for any
+-- the badges with which a part may send; only 0, which is any
 abbrev pub badges : ProfileName → List PartMemory → List PartUse → ℕ → ℕ → List ℕ
 badges p memory uses part endpoint =
     cond (may_send_any p memory uses part endpoint) (0 ∷ [])
@@ -177,7 +177,7 @@ passes_by Answer part endpoint u = is_answered part endpoint u
 abbrev pub may_pass : Passing → ProfileName → List PartMemory → List PartUse → ℕ → ℕ → Bool
 may_pass passing p memory uses part endpoint = owns_endpoint p memory part endpoint || list_any (passes_by passing part endpoint) uses
 
--- the badges of ways; if it is not messages that pass, 0 alone
+-- the badges of ways; if it is not messages that pass, only 0
 abbrev pub badges_by : Passing → ProfileName → List PartMemory → List PartUse → ℕ → ℕ → List ℕ
 badges_by Message p memory uses part endpoint = badges p memory uses part endpoint
 badges_by Grant p memory uses part endpoint = cond (may_pass Grant p memory uses part endpoint) (0 ∷ []) []

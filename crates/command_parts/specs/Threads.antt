@@ -15,7 +15,7 @@ use Rattle.command_parts.specs.declared.threads.Trust.{Trust}
 abbrev pub objects_named : ObjectKind → ProfileName → Names → Plan → Shown → List (List ℕ) → List ℕ
 objects_named kind p names plan v texts = rising (objects_meant kind p names plan v texts)
 
--- the words for the threads that are trusted: to make no more calls, and to send and receive alone
+-- the words for the threads that are trusted: to make no more calls, and only to send and receive
 pub record Trusted : Type 0 where
   pub without : List (List ℕ)
   pub messages : List (List ℕ)

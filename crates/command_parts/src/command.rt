@@ -23,8 +23,8 @@ use setup_report::{Naming, ObjectKind};
 use slot_core::{DerivationStore, MakeStore};
 use std::alloc::{AllocError, Global};
 
-/// What the threads of a set-up can never get, whatever they call, behind its first calls: closed parts of the memory, the endpoints
-/// that each may use, and the ways between them. Some threads are trusted. If `names` is set, objects that have a name are told by it,
+/// What the threads of a set-up can never get, whatever they call, after its first calls: closed parts of the memory, the endpoints
+/// that each may use, and the ways between them. Some threads are trusted. If `names` is set, objects that have a name are written by it,
 /// and a part by its threads. The verdict is `AllMet`, or `Absent` with nothing written if a word stands for no thread.
 #[derive(Clone, Copy, Drop)]
 pub struct Ever<'a> {

@@ -1,4 +1,4 @@
-//! The first lines: of which state a text tells, and which threads are trusted.
+//! The first lines: of which state a text is, and which threads are trusted.
 ghost use Rattle.std.specs.Prelude.{◌≡◌, ◌++◌, OnOk, Some, string_bytes};
 ghost use Rattle.command_parts.specs.Telling.{part_naming_view};
 ghost use Rattle.command_parts.specs.Text as spec;
@@ -16,8 +16,8 @@ use std::alloc::AllocError;
 use std::fmt;
 use std::fmt::Write;
 
-/// Of which state a text tells: the set-up, how many of its calls are made, and how many of these were refused; and which threads are
-/// trusted to make no more calls, and which to go on to send and receive alone.
+/// Of which state a text is: the set-up, how many of its calls are made, and how many of these were refused; and which threads are
+/// trusted to make no more calls, and which to go on only to send and receive.
 #[derive(Clone, Copy)]
 pub struct Heading<'a> {
     pub setup: &'a Setup,
@@ -44,14 +44,14 @@ impl fmt::Display for RefusedText {
     }
 }
 
-/// What is told of an object that is not there.
+/// What is said about an object that is not there.
 pub fn none_text(live: bool) -> &'static str
     ensures { result.now ≡ spec.none_text live }
 {
     if live { "" } else { " none" }
 }
 
-/// A thread that is trusted, behind a word that says how.
+/// A thread that is trusted, after a word that says how.
 #[derive(Drop)]
 struct TrustedLine<'a, P: Profile, S: CapStore<P> + Drop, W: Waiters<P> + Drop> {
     word: &'static str,
@@ -71,7 +71,7 @@ impl<P: Profile, S: CapStore<P> + Drop, W: Waiters<P> + Drop> Line<u64>
     }
 }
 
-/// Adds the first lines of a text with this name and version: of which state it tells, and which threads are trusted.
+/// Adds the first lines of a text with this name and version: of which state it is, and which threads are trusted.
 pub fn add_heading<P: Profile, S: CapStore<P> + Drop, W: Waiters<P> + Drop>(
     out: &mut String,
     title: &str,

@@ -16,7 +16,7 @@ pub fn what_is_not_told_is_not_taken()
 {}
 
 /// What the line `only messages` promises of a part: whatever calls the threads of parts make, and whatever messages others send and
-/// receive, each slot of the part holds what it held, or nothing. And what its threads send on the way they send by a use that is told
+/// receive, each slot of the part holds what it held, or nothing. And what its threads send on the way they send by a use that is listed
 /// of the part, with its badge.
 pub fn parts_of_messages_keep_to_their_uses()
     ensures slots { (p : ProfileName) (memory : List PartMemory) (uses : List PartUse) (v : Shown) (i : ℕ) → KeepsWhatItHas p memory uses v i }

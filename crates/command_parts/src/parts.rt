@@ -83,7 +83,7 @@ pub fn is_of_part(memory: &[PartMemory], part: u64, address: u64) -> bool
     }
 }
 
-/// What is told of a part alone, of the memory and the uses of all parts.
+/// What is said about a part alone, of the memory and the uses of all parts.
 #[derive(Clone, Copy)]
 struct OfPart<'a> {
     told: &'a PartNaming<'a>,
@@ -136,7 +136,7 @@ impl Line<PartUse> for HeldLine<'_> {
     }
 }
 
-/// What the lines of parts tell: the parts and their numbers, the full slots of the kernel, the parts that only pass messages, and
+/// What the lines of parts say: the parts and their numbers, the full slots of the kernel, the parts that only pass messages, and
 /// where the live threads lie.
 #[derive(Drop)]
 pub struct PartLines<'a, P: Profile, S: CapStore<P> + Drop, W: Waiters<P> + Drop> {

@@ -163,7 +163,7 @@ pub fn takes(alloc: Global, part_slots: &[PartSlot], parts: &[u64]) -> Result<Ve
     Ok(takes)
 }
 
-/// How it is told that a part may take slots from another.
+/// How it is written that a part may take slots from another.
 #[derive(Clone, Copy)]
 pub struct TakeLine<'a> {
     pub told: &'a PartNaming<'a>,

@@ -1,4 +1,4 @@
-//! How a text of parts tells threads, endpoints and parts.
+//! How a text of parts names threads, endpoints and parts.
 ghost use Rattle.std.specs.Prelude.{◌≡◌, ℕ, [], IfOk, Some, cond, string_bytes};
 ghost use Rattle.std.specs.List.{filter_map};
 ghost use Rattle.setup_report.specs.Naming.{naming_view, told_as};
@@ -21,7 +21,7 @@ pub struct Home {
     pub part: u64,
 }
 
-/// How threads, endpoints and parts are told.
+/// How threads, endpoints and parts are named.
 #[derive(Drop)]
 pub struct PartNaming<'a> {
     alloc: Global,
@@ -30,7 +30,7 @@ pub struct PartNaming<'a> {
     homes: Vec<Home>,
 }
 
-/// A part, as it is told.
+/// A part, as it is written.
 #[derive(Drop)]
 pub enum PartTold {
     /// By its number.
@@ -109,7 +109,7 @@ impl Line<u64> for ThreadBehind<'_> {
 }
 
 impl<'a> PartNaming<'a> {
-    /// How a text tells the parts with this memory, and some threads that live in them.
+    /// How a text names the parts with this memory, and some threads that live in them.
     pub fn new(
         alloc: Global,
         naming: &'a Naming<'a>,

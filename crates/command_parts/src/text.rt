@@ -76,7 +76,7 @@ impl<P: Profile, S: CapStore<P> + Drop, W: Waiters<P> + Drop> Line<u64>
 }
 
 impl<P: Profile, S: DerivationStore<P> + Drop, W: Waiters<P> + Drop> PartLines<'_, P, S, W> {
-    /// Adds the lines of the ways by which something passes, and tells how many there are.
+    /// Adds the lines of the ways by which something passes, and returns how many there are.
     fn add_passing(&self, out: &mut String, passing: Passing) -> Result<usize, AllocError>
         ensures lines { OnOk result (string_bytes out.new ≡ string_bytes out.old
             ++ spec.way_lines (part_naming_view self.now.told.now) passing P.profile self.now.parts.now.memory.items self.now.parts.now.uses.items) }
@@ -90,7 +90,7 @@ impl<P: Profile, S: DerivationStore<P> + Drop, W: Waiters<P> + Drop> PartLines<'
         Ok(ways.len())
     }
 
-    /// Adds the lines of the ways by which messages pass, and tells how many there are.
+    /// Adds the lines of the ways by which messages pass, and returns how many there are.
     fn add_message_passing(&self, out: &mut String) -> Result<usize, AllocError>
         ensures lines { OnOk result (string_bytes out.new ≡ string_bytes out.old
             ++ flat_map (spec.message_line (part_naming_view self.now.told.now) self.now.alone.now)
@@ -105,7 +105,7 @@ impl<P: Profile, S: DerivationStore<P> + Drop, W: Waiters<P> + Drop> PartLines<'
         Ok(ways.len())
     }
 
-    /// Adds the lines of the parts from which others may take slots, and tells how many there are.
+    /// Adds the lines of the parts from which others may take slots, and returns how many there are.
     fn add_taken(&self, out: &mut String) -> Result<usize, AllocError>
         ensures lines { OnOk result (string_bytes out.new ≡ string_bytes out.old
             ++ flat_map (spec.take_line (part_naming_view self.now.told.now)) (spec_takes self.now.slots.now self.now.numbers.now)) }
@@ -227,7 +227,7 @@ pub fn parts_of_callers<P: Profile, S: DerivationStore<P> + Drop, W: Waiters<P> 
     parts_around::<P, S, W>(alloc, kernel, callers.as_slice())
 }
 
-/// All threads that are trusted: to make no more calls, and to send and receive alone.
+/// All threads that are trusted: to make no more calls, and only to send and receive.
 pub fn all_trusted(alloc: Global, heading: &Heading<'_>) -> Result<Vec<u64>, AllocError>
     ensures { IfOk result (λ v. v.items ≡ heading.now.without.now ++ heading.now.messages.now) }
 {

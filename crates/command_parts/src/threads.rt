@@ -47,7 +47,7 @@ impl<'a> ObjectWords<'a> {
     }
 }
 
-/// The answer if not all words stand for an object: nothing is written, and the first that stands for none is told.
+/// The answer if not all words stand for an object: nothing is written, and the first that stands for none is named.
 pub fn absent_answer<P: Profile, S: CapStore<P> + Drop, W: Waiters<P> + Drop>(
     alloc: Global,
     behind: &Behind<'_>,
@@ -72,7 +72,7 @@ pub fn absent_answer<P: Profile, S: CapStore<P> + Drop, W: Waiters<P> + Drop>(
     Ok(Answer::new(alloc, Vec::new(alloc), Verdict::Absent))
 }
 
-/// The words for the threads that are trusted: to make no more calls, and to go on to send and receive alone. Each is a thread's
+/// The words for the threads that are trusted: to make no more calls, and to go on only to send and receive. Each is a thread's
 /// address, its name, or a slot of the root CNode (`object_meant`).
 #[derive(Clone, Copy, Drop)]
 pub struct Trust<'a> {
@@ -95,7 +95,7 @@ impl Trust<'_> {
             && are_meant::<P, S, W>(names, setup, kernel, ObjectKind::Thread, self.messages)
     }
 
-    /// The answer if one of the words stands for no thread: nothing is written, and the first such word is told.
+    /// The answer if one of the words stands for no thread: nothing is written, and the first such word is named.
     pub fn absent<P: Profile, S: CapStore<P> + Drop, W: Waiters<P> + Drop>(
         &self,
         alloc: Global,

@@ -491,7 +491,7 @@ pub fn message_ways<P: Profile>(
     Ok(ways)
 }
 
-/// How a way of messages is told, if some parts only pass messages.
+/// How a way of messages is written, if some parts only pass messages.
 #[derive(Clone, Copy)]
 pub struct MessageLine<'a> {
     pub told: &'a PartNaming<'a>,
@@ -515,7 +515,7 @@ impl Line<Way> for MessageLine<'_> {
     }
 }
 
-/// How a way by which something passes is told.
+/// How a way by which something passes is written.
 #[derive(Clone, Copy)]
 pub struct PassingLine<'a> {
     pub told: &'a PartNaming<'a>,

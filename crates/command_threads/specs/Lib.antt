@@ -1,3 +1,3 @@
--- What is right to write for a set-up whose clients share a kernel; Private has what serves the proofs alone.
+-- What is right to write for a set-up whose clients share a kernel; Private has what only serves the proofs.
 pub mod SharedRuns
 pub mod Private

@@ -56,7 +56,7 @@ call_asked c = (c.client, c.call)
 -- on; each client's entries are numbered from 0 on, in order; there are no more entries than the set-up's limit; and each
 -- client's entries carry a beginning of its calls. That is all of them if the history has as many entries as the set-up has
 -- calls. If it has fewer than the limit, it is all of them, or the gate may end the client (`ends`) before the call that would
--- come next; the gate counts the calls that the client makes behind the first.
+-- come next; the gate counts the calls that the client makes after the first.
 pub record IsSharedRun (ends : ℕ → ℕ → Type 0) (first : ℕ) (p : ProfileName) (setup : SetupView) (history : List Entry) : Type 0 where
   pub before : List Entry
   pub behind : List Entry
@@ -120,11 +120,11 @@ IsEndOf by_name ends first (Ok read) text verdict unmet =
     IsToldIn by_name ends first read.setup.profile read.names read.setup text verdict unmet
 IsEndOf by_name ends first (Err fault) text verdict unmet = unmet ≡ []
 
--- what is right to tell beside the text that is written for the bytes of an input
+-- what is right to say besides the text that is written for the bytes of an input
 unfoldable pub IsToldProgram : Bool → (ℕ → ℕ → Type 0) → ℕ → List ℕ → List ℕ → Verdict → List ℕ → Type 0
 IsToldProgram by_name ends first input text verdict unmet = IsEndOf by_name ends first (read_of_bytes input) text verdict unmet
 
--- a run from a source to a sink tells of just those calls whose expectation is not met in the history of its report
+-- a run from a source to a sink names just those calls whose expectation is not met in the history of its report
 abbrev pub TellsUnmet : {S K : Type 0} → Bool → (ℕ → ℕ → Type 0) → ℕ → SourceGhosts S → SinkGhosts K → S → S → K → K → Found → Type 0
 TellsUnmet by_name ends first from to source_old source_new sink_old sink_new found = (input text : List ℕ)
     × Gave from.left from.given source_old source_new input × Took to.taken to.written sink_old sink_new text

@@ -13,7 +13,7 @@ use setup_format::Setup;
 use slot_core::MakeStore;
 use std::alloc::{AllocError, Global};
 
-/// A kernel behind the first calls of a set-up, and the replies to these.
+/// A kernel after the first calls of a set-up, and the replies to these.
 #[derive(Drop)]
 pub struct Begun<P: Profile, S: MakeStore<P>, W: MakeWaiters<P>> {
     pub kernel: Kernel<P, S, W>,

@@ -1,4 +1,4 @@
-//! The calls of each client of a set-up, behind the first of all.
+//! The calls of each client of a set-up, after the first of all.
 ghost use Rattle.std.specs.Prelude.{ℕ, ◌≡◌, ◌==◌, Some, drop, IfOk, slice_get, vec_len};
 ghost use Rattle.command_threads.specs.SharedRuns.{client_calls};
 
@@ -6,7 +6,7 @@ use kernel_core::Call;
 use setup_format::Setup;
 use std::alloc::{AllocError, Global};
 
-/// The calls of one client behind the first `made` calls of the set-up, in order.
+/// The calls of one client after the first `made` calls of the set-up, in order.
 fn calls_of_client(
     alloc: Global,
     setup: &Setup,
@@ -25,7 +25,7 @@ fn calls_of_client(
     Ok(own)
 }
 
-/// A list for each client of the set-up, of its calls in order, behind the first `made` calls of the set-up.
+/// A list for each client of the set-up, of its calls in order, after the first `made` calls of the set-up.
 pub fn calls_of_clients(
     alloc: Global,
     setup: &Setup,

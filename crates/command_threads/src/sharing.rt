@@ -99,7 +99,7 @@ fn settle_after<N: Naming, P: Profile, S: MakeStore<P>, W: MakeWaiters<P>, R: Wa
     }
 }
 
-/// Shares a kernel among the set-up's clients, and lets each make its calls behind the first `made` of the set-up, in order, in a
+/// Shares a kernel among the set-up's clients, and lets each make its calls after the first `made` of the set-up, in order, in a
 /// thread of its own.
 ///
 /// # Errors

@@ -45,7 +45,7 @@ fn verdict_on(entries: usize, calls: usize) -> Verdict
     }
 }
 
-/// Lets the clients of a set-up share a kernel behind its first calls, and reports on the history of all calls.
+/// Lets the clients of a set-up share a kernel after its first calls, and reports on the history of all calls.
 fn report_on<
     N: Naming + Send + Sync,
     P: Profile + Send + Sync,
@@ -246,7 +246,7 @@ pub fn threads_found<R: Threads + Wait + Sync, S: Source, K: Sink, G: Gate + Syn
 }
 
 /// The same with a gate that is always open, an `OpenGate`, as the program's subcommand `threads` has it: a history lacks
-/// calls only if it is full. If `by_name` is set, objects and slots that have a name in the state after the calls are told by it.
+/// calls only if it is full. If `by_name` is set, objects and slots that have a name in the state after the calls are written by it.
 ///
 /// # Errors
 /// As `threads_found`.

@@ -9,7 +9,7 @@ use kernel_shared::Entry;
 use setup_format::Setup;
 use std::alloc::{AllocError, Global};
 
-/// What is told of the calls of a history whose expectation is not met, in the order of the history. Each is told by its number
+/// What is said about the calls of a history whose expectation is not met, in the order of the history. Each is told by its number
 /// in the set-up.
 pub fn unmet_calls(
     alloc: Global,

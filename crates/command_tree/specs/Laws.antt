@@ -17,7 +17,7 @@ held_capability e = (e.slot, e.cap)
 abbrev pub held_in : Forest Entry → Forest (ℕ × Cap)
 held_in f = renamed held_capability f
 
--- the forest behind the calls of a set-up that are asked for, if it has as many
+-- the forest after the calls of a set-up that are asked for, if it has as many
 abbrev pub held_behind : Option ℕ → SetupView → Option (Forest (ℕ × Cap))
 held_behind after setup = option_map (λ made. held_in (state_behind setup.profile setup made).derivations) (calls_made setup after)
 

@@ -1,4 +1,4 @@
--- The derivation forest of a set-up as text, behind so many of its calls: a line for each full slot, below the slot that it
+-- The derivation forest of a set-up as text, after so many of its calls: a line for each full slot, below the slot that it
 -- is derived from; or a graph.
 use Rattle.std.specs.Prelude.{codes, ℕ, List, [], ◌∷◌, ◌++◌, length, Option, Some, None}
 use Rattle.std.specs.List.{flat_map}
@@ -27,7 +27,7 @@ placed above (tree e under others) = (e, above) ∷ (placed (above ++ e.slot ∷
 abbrev pub indent : List ℕ → List ℕ
 indent above = flat_map (λ (slot : ℕ). codes "  ") above
 
--- a capability; a thread is told as the one that a line is about
+-- a capability; a thread is written as the one that a line is about
 abbrev pub tree_cap_text : Texts → Cap → List ℕ
 tree_cap_text texts (Tcb base) = codes "tcb " ++ texts.about base
 tree_cap_text texts Null = cap_text texts Null

@@ -10,7 +10,7 @@ use setup_report::Naming;
 use slot_core::{DerivationStore, MakeStore};
 use std::alloc::{AllocError, Global};
 
-/// The derivation forest behind the first calls of a set-up, as text. As lines: after a first line, which says
+/// The derivation forest after the first calls of a set-up, as text. As lines: after a first line, which says
 /// how many calls are made, a line for each full slot, with its address, what the slot holds, and the thread's name behind a thread,
 /// if exactly one name of the set-up has its address. A slot stands below the one that it is derived from, two spaces further in, and
 /// the slots that stand right below one slot, or below none, in the kernel's order. As a graph: a node with the same text for each

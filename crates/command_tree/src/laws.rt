@@ -16,7 +16,7 @@ ghost use Rattle.command_tree.specs.Laws.{AreSetUpNames, held_in, held_when_read
 
 /// The lines of a forest tell the whole of it, each full slot in its place with its capability: of two states that runs
 /// reach, of whatever set-ups, the forests are the same, if the texts are. And two inputs of which the same text is written
-/// have the same forest behind the calls that are asked for. What the text does not tell is which capabilities are original.
+/// have the same forest after the calls that are asked for. What the text does not tell is which capabilities are original.
 pub fn lines_tell_the_forest()
     ensures states { (p q : ProfileName) (A B : State) (names others : Names) (setup other : SetupView) (made after : ℕ)
         → IsReached p A → IsReached q B → AreSetUpNames names → AreSetUpNames others

@@ -1,4 +1,4 @@
-//! A full slot as it is told.
+//! A full slot as it is written.
 ghost use Rattle.std.specs.Prelude.{◌≡◌, Some};
 ghost use Rattle.slot_core.specs.Calls.{derivation_view};
 ghost use Rattle.setup_report.specs.Naming.{naming_view};

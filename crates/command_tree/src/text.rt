@@ -16,7 +16,7 @@ use slot_core::{DerivationStore, MakeStore};
 use std::alloc::{AllocError, Global};
 use std::fmt::Write;
 
-/// The forest of a kernel behind so many calls of a set-up, as lines.
+/// The forest of a kernel after so many calls of a set-up, as lines.
 fn lines_text<P: Profile, S: MakeStore<P> + DerivationStore<P>, W: MakeWaiters<P>>(
     alloc: Global,
     naming: &Naming<'_>,

@@ -21,7 +21,7 @@ pub record AskedView : Type 0 where
 abbrev pub asked_view : Asked → AskedView
 asked_view a = record { call = a.call.now; table = option_map (λ t. table_view t.now) a.table }
 
--- how objects and slots are told where it is asked about
+-- how the lines about the call write objects and slots
 abbrev pub asked_texts : Asked → Texts
 asked_texts a = naming_view a.naming.now
 

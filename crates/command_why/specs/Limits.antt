@@ -1,4 +1,4 @@
--- How much a reason tells: this project's profile.
+-- How much a reason lists; the project's own choice.
 use Rattle.std.specs.Prelude.{ℕ}
 
 -- the live threads that are written

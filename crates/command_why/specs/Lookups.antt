@@ -61,7 +61,7 @@ way_to texts between (Some last) = reason_line (lookup_text texts between last)
 abbrev pub way_on : Texts → List Held → List ℕ
 way_on texts slots = way_to texts (take (length slots - 1) slots) (slice_get slots (length slots - 1))
 
--- the slots behind the first
+-- the slots after the first
 abbrev pub lookup_line : Texts → List Held → List ℕ
 lookup_line texts [] = codes ""
 lookup_line texts (first ∷ rest) = way_on texts rest

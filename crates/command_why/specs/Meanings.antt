@@ -1,4 +1,4 @@
--- What a name means that stands beside a value.
+-- What a name means that stands next to a value.
 use Rattle.std.specs.Prelude.{◌≡◌, codes, ℕ, List, ◌∷◌, All, Option, Some}
 use Rattle.toml.specs.Data.{Members}
 use Rattle.kernel_abstract.specs.declared.call.Call.{Call}
@@ -14,6 +14,6 @@ MeansWord names table k = (name : List ℕ) → name_at table k.0 ≡ Some name 
 abbrev pub said_words : Call → KeyWords
 said_words call = (codes "thread", call.thread) ∷ key_words call.op
 
--- each name beside a word of a call has the value of that word
+-- each name next to a word of a call has the value of that word
 abbrev pub MeanTheirWords : Names → Option Members → Call → Type 0
 MeanTheirWords names table call = All (MeansWord names table) (said_words call)

@@ -2,7 +2,7 @@
 use Rattle.std.specs.Prelude.{ℕ, List, [], ◌∷◌, ◌==◌, if◌then◌else◌, Option, Some, None, option_and_then}
 use Rattle.toml.specs.Data.{Data, Members, get_member, as_str}
 
--- the name behind `@`, which is 64
+-- the name after `@`, which is 64
 abbrev pub name_in : List ℕ → Option (List ℕ)
 name_in [] = None
 name_in (c ∷ name) = if c == 64 then Some name else None

@@ -21,7 +21,7 @@ use Rattle.command_why.specs.Retypes.{retype_lines}
 
 -- ---- the calling thread
 
--- the thread that makes the call; if objects are told by their addresses, with the name that spells it behind
+-- the thread that makes the call; if objects stand by their addresses, with the name that spells it after it
 unfoldable pub asked_thread_text : Texts → AskedView → List ℕ
 asked_thread_text texts a =
     texts.object (Object.Thread a.call.thread) ++ (if texts.by_name then codes "" else name_text (asked_thread_name a))

@@ -1,4 +1,4 @@
--- The parts of a line: objects and slots as `texts` tells them. Numbers are decimal.
+-- The parts of a line: objects and slots as `texts` writes them. Numbers are decimal.
 use Rattle.std.specs.Prelude.{codes, ℕ, ◌-◌, ◌^◌, List, ◌++◌, if◌then◌else◌, nat_lt, Option, None, Some}
 use Rattle.std.specs.Fmt.{decimal}
 use Rattle.cap_core.specs.declared.capability.Cap.{Cap}

@@ -1,4 +1,4 @@
--- What is said of the calls of a set-up: of each refused one, or of one that is chosen; objects and slots as `texts` tells them.
+-- What is said of the calls of a set-up: of each refused one, or of one that is chosen; objects and slots as `texts` writes them.
 use Rattle.std.specs.Prelude.{codes, ℕ, ◌+◌, ◌==◌, List, [], ◌∷◌, ◌++◌, length, Bool, true, false, if◌then◌else◌, Option, None, Some, is_some, option_map}
 use Rattle.std.specs.List.{filter}
 use Rattle.std.specs.Fmt.{decimal}
@@ -24,7 +24,7 @@ use Rattle.command_why.specs.Tables.{call_table}
 abbrev pub reason_lines_of : Texts → ProfileName → Shown → AskedView → Option (List ℕ)
 reason_lines_of texts p v a = option_map (reason_lines texts p v a) (reason_of p v a.call)
 
--- the call that is chosen is told, by its number from 1 on; if none is chosen, each that is refused
+-- the call that is chosen is explained, by its number from 1 on; if none is chosen, each that is refused
 abbrev pub is_told : Option ℕ → ℕ → Option (List ℕ) → Bool
 is_told None number why = is_some why
 is_told (Some chosen) number why = chosen == number
@@ -33,7 +33,7 @@ abbrev pub why_lines : Option (List ℕ) → List ℕ
 why_lines None = reason_line (codes "not refused")
 why_lines (Some lines) = lines
 
--- the text of a call, and why it is refused, if it is told
+-- the text of a call, and why it is refused, if it is explained
 abbrev pub explained_lines : Option ℕ → ℕ → List ℕ → Option (List ℕ) → List ℕ
 explained_lines chosen number text why = if is_told chosen number why then terminated text ++ why_lines why else codes ""
 

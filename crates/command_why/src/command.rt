@@ -42,7 +42,7 @@ fn is_absent(call: Option<u64>, calls: usize) -> bool
 
 /// Why the calls of a set-up are refused: of each that is, or of the one with a number, counted from 1. The verdict is that of
 /// the expectations, or `Absent` with nothing written if the set-up has no call of that number. If `names` is set, objects and
-/// slots that have a name in the state after all calls are told by it.
+/// slots that have a name in the state after all calls are written by it.
 #[derive(Clone, Copy, Drop)]
 pub struct Why {
     pub call: Option<u64>,

@@ -76,7 +76,7 @@ pub fn naming_after<'a, P: Profile, S: MakeStore<P> + DerivationStore<P>, W: Mak
 /// four lines below it of the check that failed and of what was found there; then how many calls are refused, and how many of
 /// the expectations are met. If a call is chosen by its number from 1 on, its lines alone, also if it is not refused.
 /// All calls are made. `table` is the table that the set-up was read from: a value that it spells by a name has that name
-/// beside it. Objects and slots stand as a naming tells them.
+/// beside it. Objects and slots stand as a naming writes them.
 ///
 /// The lines are this project's profile.
 #[tactic(auto, unfolding(crate::specs::Why::why_of))]

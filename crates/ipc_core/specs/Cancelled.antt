@@ -1,4 +1,4 @@
--- Who waits after a cancellation, told by waiting lists, and told by the histories of an endpoint.
+-- Who waits after a cancellation, by waiting lists, and by the histories of an endpoint.
 use Rattle.std.specs.Prelude.{ℕ, Bool, false, cond, not, ◌==◌, List, [], ◌++◌, length, take, drop, filter, None}
 use Rattle.std.specs.List.{list_any}
 use Rattle.cap_core.specs.declared.capability.Badge.{Badge}

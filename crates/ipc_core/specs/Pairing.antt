@@ -1,4 +1,4 @@
--- What a send and a receive do, told by the histories of an endpoint: pairs by place, and acceptance.
+-- What a send and a receive do, by the histories of an endpoint: pairs by place, and acceptance.
 use Rattle.std.specs.Prelude.{◌≡◌, Bool, cond, ◌||◌, nat_lt, List, [], ◌∷◌, ◌++◌, length, slice_get, Option, Some, None}
 use Rattle.ipc_core.specs.declared.waiter.Waiter.{Waiter}
 use Rattle.ipc_core.specs.declared.waiter.Sent.{Sent}

@@ -13,16 +13,16 @@ use Rattle.kernel_abstract.specs.Step.{step, state_after}
 abbrev pub is_live : State → Instance → Bool
 is_live A e = is_endpoint_live A A.derivations e
 
--- a reply that tells of a delivery by the endpoint at an address
+-- a reply that shows a delivery by the endpoint at an address
 abbrev pub is_delivery : ℕ → Reply → Bool
 is_delivery base (Delivered endpoint from to badge message) = endpoint == base
 is_delivery base reply = false
 
--- the reply that tells of the delivery of a pair, with the badge that the send kept
+-- the reply that shows the delivery of a pair, with the badge that the send kept
 abbrev pub delivery : SendRecord × ReceiveRecord → Reply
 delivery p = Delivered p.0.endpoint.base p.0.thread.base p.1.thread.base p.0.badge p.0.message
 
--- of the replies to calls, those that tell of a delivery by an endpoint while it is live
+-- of the replies to calls, those that show a delivery by an endpoint while it is live
 abbrev pub delivered : ProfileName → State → Instance → List Call → List Reply → List Reply
 delivered p A e [] replies = []
 delivered p A e (call ∷ calls) [] = []

@@ -99,7 +99,7 @@ abbrev pub ensure_full : Forest Entry → Result ℕ Reason → Result ℕ Reaso
 ensure_full f (Ok slot) = cond (is_null (cap_at f slot)) (Err (IsEmpty slot)) (Ok slot)
 ensure_full f (Err reason) = Err reason
 
--- the slot that a word names from a root capability, by the resolution of its bits alone
+-- the slot that a word names from a root capability, by the resolution of only its bits
 abbrev pub slot_found : Result Found LookupFault → Result ℕ LookupFault
 slot_found (Ok found) = Ok found.slot
 slot_found (Err fault) = Err fault

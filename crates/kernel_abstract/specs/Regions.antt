@@ -1,4 +1,4 @@
--- What the derivation forest of a kernel keeps beside disjoint objects: what stands below a capability lies in its region.
+-- What the derivation forest of a kernel keeps besides disjoint objects: what stands below a capability lies in its region.
 use Rattle.std.specs.Prelude.{◌≡◌, ℕ, ◌+◌, ◌≤◌, ◌==◌, true}
 use Rattle.std.specs.List.{Contains, IsDistinct}
 use Rattle.cap_core.specs.declared.profile.ProfileName.{ProfileName}

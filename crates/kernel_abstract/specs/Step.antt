@@ -143,7 +143,7 @@ outcome p A thread (Ok invocation) = performed p A thread invocation
 unfoldable pub step : ProfileName → State → Call → Outcome
 step p A call = outcome p A call.thread (decoded_call p (shown A) call)
 
--- the refusal that a reply is; None if it is none
+-- the refusal that a reply is, or None
 abbrev pub refusal_in : Reply → Option Refusal
 refusal_in (Refused refusal) = Some refusal
 refusal_in reply = None

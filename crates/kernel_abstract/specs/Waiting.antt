@@ -40,7 +40,7 @@ offer_at v t = offer_where (state_at v t) t v
 abbrev pub thread_waiting : Shown → ℕ → ℕ → Option ℕ
 thread_waiting v e place = option_map thread_of (slice_get (waiting_at v e) place)
 
--- if a thread waits, this is the one that waits next after it, if any does; if it waits nowhere, it is none
+-- if a thread waits, this is the one that waits next after it, if any does; if it waits nowhere, there is none
 pub record IsNextWaiting (v : Shown) (thread : ℕ) (next : Option ℕ) : Type 0 where
   pub behind : (e place : ℕ) → thread_waiting v e place ≡ Some thread → next ≡ thread_waiting v e (place + 1)
   pub nowhere : ((e place : ℕ) → thread_waiting v e place ≢ Some thread) → next ≡ None

@@ -1,4 +1,4 @@
--- What a reason says of the state: each slot that it names holds the capability that it tells.
+-- What a reason says of the state: each slot that it names holds the capability that the reason says.
 use Rattle.std.specs.Prelude.{◌≡◌, ⊤, List, [], ◌∷◌, Result, Ok, Err}
 use Rattle.cap_core.specs.declared.capability.Cap.TheVariants.{Null}
 use Rattle.kernel_forest.specs.Forest.{Forest}

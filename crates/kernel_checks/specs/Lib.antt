@@ -1,4 +1,4 @@
--- What the checks of a call show beside the abstract kernel's definitions of them: what a reason tells is so, the way of a
+-- What the checks of a call show besides the abstract kernel's definitions of them: what a reason says is so, the way of a
 -- lookup, and hints.
 pub mod Seen
 pub mod Facts

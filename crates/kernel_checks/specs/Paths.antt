@@ -8,7 +8,7 @@ use Rattle.kernel_abstract.specs.declared.reason.Miss.{Miss}
 use Rattle.kernel_abstract.specs.Reasons.{held_at}
 use Rattle.kernel_abstract.specs.Lookups.{chosen}
 
--- behind a CNode comes what it chooses, and the way goes on from there if that is a CNode and bits are left
+-- after a CNode comes what it chooses, and the way goes on from there if that is a CNode and bits are left
 abbrev pub path_on : (ℕ → Cap) → (ℕ → List ℕ → List Held) → Result Choice Miss → List Held
 path_on cap_in there (Err miss) = []
 path_on cap_in there (Ok c) =

@@ -1,4 +1,4 @@
--- What a fault tells of the client.
+-- What a fault says about the client.
 use Rattle.std.specs.Prelude.{◌≡◌, ℕ, ◌<◌, length, Some, None}
 use Rattle.kernel_abstract.specs.declared.call.Call.{Call}
 use Rattle.kernel_shared.specs.Laws.{count_of}

@@ -54,7 +54,7 @@ by_of options = words_in (option_map (λ s. s.now) options.by)
 abbrev pub threads_of : Options → List ℕ
 threads_of options = unwrap_or (option_map (λ s. s.now) options.from_to) []
 
--- what `never` asks of the threads before and behind the comma (44)
+-- what `never` asks of the threads before and after the comma (44)
 abbrev pub question_of : Options → Asked
 question_of options = record {
   trust = trust_of options;
@@ -77,7 +77,7 @@ IsAudit options input text verdict = IsAuditAt options (option_map (λ s. s.now)
 abbrev pub happening_in : Options → Happening
 happening_in options = cond options.hold Hold (cond options.loss Loss Message)
 
--- what `how` asks of the threads before and behind the comma (44)
+-- what `how` asks of the threads before and after the comma (44)
 abbrev pub how_of : Options → Words
 how_of options = record {
   what = happening_in options;
@@ -89,7 +89,7 @@ how_of options = record {
   states = options.states;
 }
 
--- what is told of the layout by a policy, or, with `--listing`, what was read of the policy
+-- what is written about the layout by a policy, or, with `--listing`, what was read of the policy
 abbrev pub IsHeldOrListed : Options → List ℕ → List ℕ → List ℕ → Verdict → Type 0
 IsHeldOrListed options policy input text verdict =
     MatchBool options.listing

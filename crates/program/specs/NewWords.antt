@@ -20,7 +20,7 @@ IsProfileNamed None profile = profile ≡ Wide
 IsProfileNamed (Some name) Wide = bytes_eq name (codes "wide") ≡ true
 IsProfileNamed (Some name) Narrow = bytes_eq name (codes "narrow") ≡ true
 
--- a word says the base of a region and, behind a colon (58), its bits
+-- a word says the base of a region and, after a colon (58), its bits
 abbrev pub IsRegionWord : List ℕ → ℕ × ℕ → Type 0
 IsRegionWord word region = Says (Some (before_mark 58 word)) (Some region.0) × Says (Some (behind_mark 58 word)) (Some region.1)
 

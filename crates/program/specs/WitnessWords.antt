@@ -9,7 +9,7 @@ use Rattle.command_explore.specs.declared.report.witness.Witness.{Witness}
 use Rattle.command_explore.specs.declared.report.witness.Witness.TheVariants.{Answer, Stuck}
 use Rattle.program.specs.Texts.{before_mark, behind_mark}
 
--- the texts before and behind the first dot (46)
+-- the texts before and after the first dot (46)
 abbrev pub before_dot : List ℕ → List ℕ
 before_dot text = before_mark 46 text
 
@@ -20,7 +20,7 @@ behind_dot text = behind_mark 46 text
 abbrev pub Numbers : List ℕ → ℕ → Type 0
 Numbers text n = (said : Option ℕ) × Says (Some text) said × (n ≡ unwrap_or said 0)
 
--- `I.J` names the answer J of call I, and `stuck.J` the J-th way to end stuck; any other text names what the report does not tell, since
+-- `I.J` names the answer J of call I, and `stuck.J` the J-th way to end stuck; any other text names what the report does not list, since
 -- it counts calls, answers and ways from 1 on
 abbrev pub NamesWitness : List ℕ → Witness → Type 0
 NamesWitness which (Answer call place) =

@@ -13,7 +13,7 @@ pub(crate) fn number_said(text: &str) -> Option<u64>
     u64::from_str_radix(text, DECIMAL).ok()
 }
 
-/// What stands before the first mark, and what stands behind it; without a mark, the text and nothing.
+/// What stands before the first mark, and what stands after it; without a mark, the text and nothing.
 pub(crate) fn around(text: &str, mark: char) -> (&str, &str)
     requires { mark < 128 }
     ensures before { result.0.now ≡ before_mark mark text.now }

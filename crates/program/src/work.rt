@@ -135,7 +135,7 @@ fn make_audit(alloc: Global, options: Options<'_>, input: &[u8]) -> Result<Answe
     on_state(alloc, StateAudit { without, names }, after, input)
 }
 
-/// The threads that are asked about, before and behind the comma; without the word for them, two empty ones.
+/// The threads that are asked about, before and after the comma; without the word for them, two empty ones.
 fn two_threads<'a>(options: &Options<'a>) -> (&'a str, &'a str)
     ensures from { result.0.now ≡ before_mark 44 (threads_of options.now) }
     ensures to { result.1.now ≡ behind_mark 44 (threads_of options.now) }

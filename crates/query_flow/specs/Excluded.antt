@@ -28,7 +28,7 @@ abbrev pub IsSoEver : ProfileName → List ℕ → Shown → (State → List Cal
 IsSoEver p trusted v Holds =
     (A : State) → IsReached p A → v ≡ shown A → (calls : List Call) → Each (IsOfOthers trusted) calls → Holds A calls
 
--- a reply tells of no delivery from the one thread to the other, but by an endpoint that is named
+-- a reply shows no delivery from the one thread to the other, but by an endpoint that is named
 abbrev pub TellsNone : List ℕ → ℕ → ℕ → Reply → Type 0
 TellsNone by from to (Delivered endpoint sender receiver badge message) = sender ≡ from → receiver ≡ to → is_number_listed by endpoint ≡ true
 TellsNone by from to reply = ⊤

@@ -55,7 +55,7 @@ WordsGoOn p flow c =
     (set : ℕ) (cap : Cap) (slot : ℕ) → flow.names c set ≡ true → flow.may set cap ≡ true → IsSlotOf p cap slot →
     LiesAmong flow (flow.names c) slot × LiesAmong flow (flow.nodes c) slot
 
--- what threads do whose root slots lie in set c: nothing that is not told
+-- what threads do whose root slots lie in set c: nothing that is not listed
 pub record IsSettledFor (p : ProfileName) (flow : Flow) (c : ℕ) : Type 0 where
   -- their words end in the slots of their roots, or go on
   pub begins : (root : Cap) (slot : ℕ) → flow.may c root ≡ true → IsSlotOf p root slot → LiesAmong flow (flow.names c) slot
@@ -77,7 +77,7 @@ pub record IsSettledFor (p : ProfileName) (flow : Flow) (c : ℕ) : Type 0 where
       flow.may of (Tcb thread) ≡ true → flow.may from (CNode base radix guard) ≡ true → StandsAt flow thread (CNode base radix other)
 
 -- a flow that holds for all calls: any slot may be empty, how much is used of a region does not matter, and each thread that is not
--- trusted, wherever its capability may stand, does what is told
+-- trusted, wherever its capability may stand, does what is listed
 pub record IsSettled (p : ProfileName) (flow : Flow) : Type 0 where
   pub empties : (set : ℕ) → flow.may set Null ≡ true
   pub used : (set base bits free other : ℕ) → flow.may set (Untyped base bits free) ≡ true → flow.may set (Untyped base bits other) ≡ true

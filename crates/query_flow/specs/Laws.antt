@@ -46,7 +46,7 @@ WaitsOrHears flow v endpoint thread =
     Contains (waiting_at v endpoint) (Receiver thread)
     ⊎ (flow.trusted thread ≡ false → (badge : Badge) × MayUseByFlow flow read_bit (flow.set_of thread) endpoint badge)
 
--- a reply tells of a delivery from such a thread to such a thread, or of none
+-- a reply shows a delivery from such a thread to such a thread, or of none
 abbrev pub TellsOfFlow : Flow → Shown → Reply → Type 0
 TellsOfFlow flow v (Delivered endpoint from to badge message) = WaitsOrSends flow v endpoint from badge message × WaitsOrHears flow v endpoint to
 TellsOfFlow flow v reply = ⊤
@@ -62,7 +62,7 @@ pub record HoldsEver (p : ProfileName) (flow : Flow) (v : Shown) (A : State) (ca
   pub held : HoldsWhatMayStand flow (state_after p A calls).derivations
   pub deliveries : Each (TellsOfFlow flow v) (replies_of p A calls)
 
--- whatever calls these threads make from a state that is shown, each slot holds what may stand there, and replies tell of no other deliveries
+-- whatever calls these threads make from a state that is shown, each slot holds what may stand there, and replies show no other deliveries
 abbrev pub IsFlowEver : ProfileName → Flow → Shown → Type 0
 IsFlowEver p flow v =
     (A : State) → IsReached p A → v ≡ shown A → (calls : List Call) → Each (IsExpected flow) calls → HoldsEver p flow v A calls

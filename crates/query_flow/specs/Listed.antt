@@ -1,4 +1,4 @@
--- Flows as lists, and the tests that one is settled, and that it tells what the slots of a kernel hold.
+-- Flows as lists, and the tests that one is settled, and that it says what the slots of a kernel hold.
 use Rattle.std.specs.Prelude.{◌≡◌, ℕ, ◌+◌, Bool, true, false, not, ◌==◌, ◌&&◌, ◌||◌, nat_le, nat_lt, List, find, Option, Some, None, unwrap_or, bit_and}
 use Rattle.std.specs.List.{list_any, list_all}
 use Rattle.cap_core.specs.declared.profile.ProfileName.{ProfileName}
@@ -32,7 +32,7 @@ set_at memory address = unwrap_or (part_at memory address) 0
 abbrev pub fits_badge : Badge → Badge → Bool
 fits_badge most badge = most.0 == badge.0 || most.0 == 0
 
--- the bits that a CNode takes, or any if none are told
+-- the bits that a CNode takes, or any if none are listed
 abbrev pub fits_bits : ℕ → ℕ → Bool
 fits_bits most takes = most == takes || most == 0
 
@@ -222,7 +222,7 @@ are_threads_settled p memory all callers trusted what = true
 abbrev pub is_settled : ProfileName → List PartMemory → List MayStand → List Caller → List ℕ → Bool
 is_settled p memory all callers trusted = list_all (λ (s : MayStand). are_threads_settled p memory all callers trusted s.what) all
 
--- ---- the test that it tells what the slots hold
+-- ---- the test that it says what the slots hold
 
 abbrev pub is_entry_told : ProfileName → List PartMemory → List MayStand → Entry → Bool
 is_entry_told p memory all e = may_stand p all (set_at memory e.slot) e.cap
@@ -230,7 +230,7 @@ is_entry_told p memory all e = may_stand p all (set_at memory e.slot) e.cap
 abbrev pub are_told : ProfileName → List PartMemory → List MayStand → Forest Entry → Bool
 are_told p memory all f = list_all (is_entry_told p memory all) (preorder f)
 
--- flows that are settled, and tell what the slots hold
+-- flows that are settled, and say what the slots hold
 pub record IsFlow (p : ProfileName) (flows : Flows) (v : Shown) : Type 0 where
   pub settled : is_settled p flows.memory.items flows.standing.items flows.callers.items flows.trusted.items ≡ true
   pub told : are_told p flows.memory.items flows.standing.items v.derivations ≡ true

@@ -12,14 +12,14 @@ use Rattle.query_flow.specs.declared.listed.Caller.{Caller}
 use Rattle.query_flow.specs.declared.listed.Verdict.{Verdict}
 use Rattle.query_flow.specs.Listed.{is_among, set_at, lie_where, lead_to, are_put, are_made, roots_set, caller_goes_on}
 
--- a caller fills no sets but those that it is said to, and what it puts anywhere is told
+-- a caller fills no sets but those that it is said to, and what it puts anywhere is listed
 abbrev pub puts_told : ProfileName → List PartMemory → List MayStand → Caller → Bool
 puts_told p memory all k =
     lead_to p memory all k.nodes.items k.fills.items
     && (lead_to p memory all k.fills.items k.fills.items
     && (are_put all k && (are_made all k && roots_set memory all k)))
 
--- what the tests say of a caller by what it names and fills alone
+-- what the tests say of a caller by only what it names and fills
 abbrev pub verdict_on : ProfileName → List PartMemory → List MayStand → Caller → Verdict
 verdict_on p memory all k = record { goes_on = caller_goes_on p memory all k; puts_told = puts_told p memory all k }
 

@@ -465,7 +465,7 @@ fn roots_set(memory: &[PartMemory], all: &[MayStand], caller: &Caller) -> bool
     true
 }
 
-/// Whether a caller fills no sets but those that it is said to, and what it puts anywhere is told.
+/// Whether a caller fills no sets but those that it is said to, and what it puts anywhere is listed.
 fn puts_told<P: Profile>(memory: &[PartMemory], all: &[MayStand], caller: &Caller) -> bool
     ensures { result ≡ private.puts_told P.profile memory.now all.now caller.now }
 {
@@ -486,7 +486,7 @@ fn verdict_on<P: Profile>(memory: &[PartMemory], all: &[MayStand], caller: &Call
     }
 }
 
-/// Whether the threads of a caller's set do nothing that is not told.
+/// Whether the threads of a caller's set do nothing that is not listed.
 fn is_caller_settled<P: Profile>(
     memory: &[PartMemory],
     all: &[MayStand],
@@ -625,7 +625,7 @@ impl Asks<u64> for KnownSettled<'_> {
     }
 }
 
-/// Whether the threads that something stands for are trusted, or do nothing that is not told.
+/// Whether the threads that something stands for are trusted, or do nothing that is not listed.
 fn are_threads_settled(
     memory: &[PartMemory],
     known: &KnownSettled,
@@ -659,7 +659,7 @@ fn stand_settled(
     true
 }
 
-/// Whether the threads that may stand anywhere are trusted, or do nothing that is not told. Each caller is tested once.
+/// Whether the threads that may stand anywhere are trusted, or do nothing that is not listed. Each caller is tested once.
 fn is_settled<P: Profile>(alloc: Global, flows: &Flows) -> Result<bool, AllocError>
     ensures { IfOk result (λ is. is ≡ spec.is_settled P.profile flows.now.memory.items flows.now.standing.items flows.now.callers.items flows.now.trusted.items) }
 {

@@ -430,7 +430,7 @@ fn flows_in<P: Profile>(
     })
 }
 
-/// The flows of a kernel whose threads make any calls, but for those that are trusted to send and receive alone: from what its slots
+/// The flows of a kernel whose threads make any calls, but for those that are trusted only to send and receive: from what its slots
 /// hold on, what the threads can put anywhere is added till there is no more. Each region that a thread can retype is one set, with
 /// all that lies in it.
 pub fn flow_of<P: Profile, S: DerivationStore<P> + Drop, W: Waiters<P> + Drop>(

@@ -1,4 +1,4 @@
--- What the replies to the calls of closed parts' threads tell of deliveries.
+-- Which deliveries the replies to the calls of closed parts' threads show.
 use Rattle.std.specs.Prelude.{◌≡◌, ℕ, ◌⊎◌, ⊤, Some, List}
 use Rattle.std.specs.List.{AllByRecursion as Each, Contains}
 use Rattle.cap_core.specs.declared.profile.ProfileName.{ProfileName}
@@ -26,7 +26,7 @@ WaitsOrIsSentWithin p parts A s = Contains (waiting_sends A s.endpoint) s ⊎ Is
 abbrev pub WaitsOrIsReceivedWithin : ProfileName → Parts → State → ReceiveRecord → Type 0
 WaitsOrIsReceivedWithin p parts A a = Contains (waiting_receives A a.endpoint) a ⊎ IsReceivedWithin p parts a
 
--- a reply tells of the delivery of such a send to such a receive, on the same endpoint
+-- a reply shows the delivery of such a send to such a receive, on the same endpoint
 pub record IsDeliveredWithin (p : ProfileName) (parts : Parts) (A : State) (reply : Reply) : Type 0 where
   pub send : SendRecord
   pub receive : ReceiveRecord
@@ -35,7 +35,7 @@ pub record IsDeliveredWithin (p : ProfileName) (parts : Parts) (A : State) (repl
   pub sent : WaitsOrIsSentWithin p parts A send
   pub received : WaitsOrIsReceivedWithin p parts A receive
 
--- a reply tells of such a delivery, or of none
+-- a reply shows such a delivery, or of none
 abbrev pub TellsOnlyWithin : ProfileName → Parts → State → Reply → Type 0
 TellsOnlyWithin p parts A (Delivered endpoint from to badge message) = IsDeliveredWithin p parts A (Delivered endpoint from to badge message)
 TellsOnlyWithin p parts A reply = ⊤
@@ -58,13 +58,13 @@ WaitsOrMayReceive p parts v endpoint thread =
     Contains (waiting_at v endpoint) (Receiver thread)
     ⊎ ((i : ℕ) → parts.part_of thread ≡ Some i → (badge : Badge) × MayUse p parts read_bit i endpoint badge)
 
--- a reply tells of a delivery from such a thread to such a thread, or of none
+-- a reply shows a delivery from such a thread to such a thread, or of none
 abbrev pub TellsOnlyOfThose : ProfileName → Parts → Shown → Reply → Type 0
 TellsOnlyOfThose p parts v (Delivered endpoint from to badge message) =
     WaitsOrMaySend p parts v endpoint from badge message × WaitsOrMayReceive p parts v endpoint to
 TellsOnlyOfThose p parts v reply = ⊤
 
--- the same by the replies alone, and by what is shown before these calls
+-- the same by only the replies, and by what is shown before these calls
 abbrev pub TellWithin : ProfileName → Parts → State → List Call → Type 0
 TellWithin p parts A calls =
     IsReached p A → AreClosed p parts A → Each (IsAllowed parts) calls →

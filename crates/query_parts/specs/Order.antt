@@ -1,4 +1,4 @@
--- Parts in the order in which they are told, with nothing in them that goes without saying.
+-- Parts in the order in which they are listed, without what follows from the rest.
 use Rattle.std.specs.Prelude.{◌≡◌, ℕ, ◌+◌, Bool, true, false, not, ◌==◌, ◌&&◌, ◌||◌, nat_le, nat_lt, List, length, Option, Some, None, is_some}
 use Rattle.std.specs.List.{list_any, list_all, AllAdjacentBelow}
 use Rattle.cap_core.specs.declared.profile.ProfileName.{ProfileName}

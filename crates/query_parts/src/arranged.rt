@@ -1,4 +1,4 @@
-//! Parts put in the order in which they are told.
+//! Parts put in the order in which they are listed.
 ghost use Rattle.std.specs.Prelude.{◌≡◌, ◌==◌, [], map, position, IfOk};
 ghost use Rattle.std.specs.List.{filter};
 ghost use Rattle.std.specs.List.Sorted.{IsPermutation, IsNonDecreasingBy};
@@ -178,7 +178,7 @@ fn needed<P: Profile>(
     Ok(kept)
 }
 
-/// The parts in the order in which they are told, with nothing in them that goes without saying.
+/// The parts in the order in which they are listed, with nothing in them that goes without saying.
 pub fn arranged<P: Profile>(alloc: Global, parts: Parts) -> Result<Parts, AllocError>
     ensures { IfOk result (λ told. AreArranged P.profile parts.memory.items parts.uses.items told.memory.items told.uses.items) }
 {

@@ -35,7 +35,7 @@ pub fn closed_parts_stay_closed()
     ensures receives_by_parts { (p : ProfileName) (parts : Parts) (A : State) (calls : List Call) → ReceiveByParts p parts A calls }
 {}
 
-/// Whatever calls the threads of closed parts make, each delivery that a reply tells of is of a send that the part of its
+/// Whatever calls the threads of closed parts make, each delivery that a reply shows is of a send that the part of its
 /// thread may make, by that endpoint and with that badge, or that waited before these calls; and it is to a thread whose
 /// part may receive on that endpoint, or that waited to receive there before these calls.
 pub fn deliveries_stay_within_uses()
@@ -49,7 +49,7 @@ pub fn threads_name_slots_of_their_part()
     ensures { (p : ProfileName) (parts : Parts) (i : ℕ) (f : Forest Entry) (thread : ℕ) → NamesItsOwn p parts i f thread }
 {}
 
-/// The least parts around some threads are the only ones, but for how they are told: two such families lie in each other.
+/// The least parts around some threads are the only ones, but for how they are listed: two such families lie in each other.
 pub fn least_parts_are_the_same()
     ensures { (p : ProfileName) (threads : List ℕ) (v : Shown) (memory : List PartMemory) (uses : List PartUse) (memory' : List PartMemory) (uses' : List PartUse) →
         LieInEachOther p threads v memory uses memory' uses' }

@@ -1,4 +1,4 @@
-//! Which of the uses of parts are needed: what goes without saying is not told.
+//! Which of the uses of parts are needed: what goes without saying is left out.
 ghost use Rattle.std.specs.Prelude.{◌≡◌};
 ghost use Rattle.std.specs.List.{list_any};
 ghost use Rattle.query_parts.specs.declared.keyed.UseKey.TheVariants.{EndpointAndBadge};

@@ -66,7 +66,7 @@ pub fn are_parts_closed<P: Profile, S: DerivationStore<P> + Drop, W: Waiters<P> 
     Ok(all_stand::<P>(memory, uses, derivations.as_slice()))
 }
 
-/// Why no parts are told.
+/// Why no parts are given.
 #[derive(Clone, Copy, Debug, PartialEq, Eq)]
 pub enum PartsFault {
     /// Memory was refused.
@@ -107,7 +107,7 @@ fn are_addressed<P: Profile>(threads: &[u64]) -> bool
     true
 }
 
-/// The parts that are found around threads: the least ones, told in order.
+/// The parts that are found around threads: the least ones, listed in order.
 fn found_around<P: Profile, S: DerivationStore<P> + Drop, W: Waiters<P> + Drop>(
     alloc: Global,
     kernel: &Kernel<P, S, W>,
@@ -123,7 +123,7 @@ fn found_around<P: Profile, S: DerivationStore<P> + Drop, W: Waiters<P> + Drop>(
 }
 
 /// Closed parts around threads that may still make calls: from their own control blocks on, what the slots of a part name
-/// is taken in. They are told in order: the stretches of memory rise, those of one part that touch are joined, the parts
+/// is taken in. They are listed in order: the stretches of memory rise, those of one part that touch are joined, the parts
 /// have the numbers from 1 on by their first addresses, and no use is of an endpoint that its part owns, or says what
 /// another use says.
 ///

@@ -1,4 +1,4 @@
--- Chains of full slots: from a slot to a capability that is sought. Each slot behind the first one is a slot that the capability
+-- Chains of full slots: from a slot to a capability that is sought. Each slot after the first one is a slot that the capability
 -- before it gives hold of.
 use Rattle.std.specs.Prelude.{◌≡◌, ◌≤◌, ℕ, ◌+◌, ◌&&◌, ◌||◌, nat_le, nat_lt, Bool, true, false, not, List, [], ◌∷◌, length}
 use Rattle.cap_core.specs.declared.profile.ProfileName.{ProfileName}
@@ -42,7 +42,7 @@ pub record IsFullSlot (f : Forest Entry) (s : FullSlot) : Type 0 where
   pub full : is_full s.address f ≡ true
   pub holds : s.cap ≡ cap_at f s.address
 
--- a full slot and those behind it: each gives hold of the next one, and the last one is sought
+-- a full slot and those after it: each gives hold of the next one, and the last one is sought
 abbrev pub LeadsOn : ProfileName → Forest Entry → Target → FullSlot → List FullSlot → Type 0
 LeadsOn p f target s [] = IsFullSlot f s × (is_sought p target s.cap ≡ true)
 LeadsOn p f target s (t ∷ more) = IsFullSlot f s × ((gives p s.cap t.address ≡ true) × LeadsOn p f target t more)

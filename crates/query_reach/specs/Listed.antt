@@ -1,4 +1,4 @@
--- What a list of reached slots tells of the capabilities that a thread does not reach.
+-- What a list of reached slots says about the capabilities that a thread does not reach.
 use Rattle.std.specs.Prelude.{◌≡◌, ℕ, Bool, false, List}
 use Rattle.std.specs.List.{Contains}
 use Rattle.cap_core.specs.declared.profile.ProfileName.{ProfileName}

@@ -1,5 +1,5 @@
 -- What stands below a slot, and what a revoke of the slot takes along if no object with slots ends with it: Below has what
--- is told, Keyed and Objects how it is looked up, Runs where what stands below is found.
+-- is listed, Keyed and Objects say how it is looked up, Runs where what stands below is found.
 pub mod Below
 pub mod Index
 pub mod Keyed

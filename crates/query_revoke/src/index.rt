@@ -54,7 +54,7 @@ impl NamedObjects {
     }
 }
 
-/// The derivations of all full slots, as a store or a kernel tells them, with their places by their slots and by what their
+/// The derivations of all full slots, as a store or a kernel gives them, with their places by their slots and by what their
 /// capabilities name. It is made once for all slots that are asked for.
 #[derive(Drop)]
 pub struct DerivationIndex<P: Profile> {

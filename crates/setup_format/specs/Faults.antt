@@ -1,4 +1,4 @@
--- The first fault of a set-up, and what a function returned beside what a set-up is read as.
+-- The first fault of a set-up, and what a function returned next to what a set-up is read as.
 use Rattle.std.specs.Prelude.{◌≡◌, ℕ, List, Result, Ok, Err, string_bytes}
 use Rattle.kernel_abstract.specs.declared.plan.PlanDefect.{PlanDefect}
 use Rattle.setup_values.specs.declared.values.Wrong.{Wrong}

@@ -1,4 +1,4 @@
--- What a set-up is read as, by its grammar; Private has what serves the proofs alone.
+-- What a set-up is read as, by its grammar; Private has what only serves the proofs.
 pub use Rattle.setup_values.specs.Names
 pub use Rattle.setup_values.specs.Keys
 pub use Rattle.setup_values.specs.Kinds

@@ -87,7 +87,7 @@ laid_out p plan = laid_out_unless (first_defect p plan) plan
 abbrev pub limit_of : ℕ → ℕ → ℕ
 limit_of given calls = if given == 0 then max 1 calls else given
 
--- the set-up of these sizes and names, with these tables of untyped regions and of calls; a limit of 0 is none that a table can give
+-- the set-up of these sizes and names, with these tables of untyped regions and of calls; no table can give a limit of 0
 unfoldable pub setup_with : ProfileName → Names → Sizes → ℕ → ℕ → List Members → List Members → Result SetupView Fault
 setup_with p names sizes clients limit untyped call = do
   untypeds ← each (untyped_at p) 1 untyped
@@ -140,7 +140,7 @@ abbrev pub document_in : Option Members → Result Members Fault
 document_in None = Err text
 document_in (Some table) = Ok table
 
--- the table of a TOML document, or that the text is none
+-- the table of a TOML document, or that the text is no such document
 unfoldable pub document_of : List ℕ → Result Members Fault
 document_of bytes = document_in (if is_utf8 bytes then parse_document bytes else None)
 

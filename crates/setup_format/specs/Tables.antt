@@ -44,6 +44,6 @@ abbrev pub no_unknown : Place → Option (List ℕ) → Result ℕ Fault
 no_unknown place None = Ok 0
 no_unknown place (Some key) = Err (at Unknown place key)
 
--- a table has no key but those that are known; otherwise the least unknown one is told
+-- a table has no key but those that are known; otherwise the least unknown one is reported
 abbrev pub known_only : Place → Members → List (List ℕ) → Result ℕ Fault
 known_only place table known = no_unknown place (least_unknown known table)

@@ -64,7 +64,7 @@ impl<'t, 'n, 'k, P: Profile> Keys<'t, 'n, 'k, P> {
         }
     }
 
-    /// What a kind reads at a key that has to be there.
+    /// What a kind reads at a key that must be there.
     pub fn required<K: Kind + Copy>(&self, key: &'static str, kind: K) -> Result<K::Out, SetupFault>
         ensures read { Gives (λ x. x) result (spec.required self.now.place (table_view self.now.table.now) key.now (K.means kind P.profile (names_view self.now.names.now))) }
         ensures holds { IfOk result (K.holds kind) }

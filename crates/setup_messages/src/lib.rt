@@ -1,4 +1,4 @@
-//! What is said in words of a set-up, beside the report and the line of a refusal: why it is refused, and which
+//! What is said in words of a set-up, besides the report and the line of a refusal: why it is refused, and which
 //! expectations no reply can meet. The texts are tested, and no clause says what they are.
 #![tactic(auto)]
 

@@ -17,7 +17,7 @@ use setup_values::kinds::{Number, OpKind};
 use std::alloc::{AllocError, Global};
 use toml::Table;
 
-/// The most faults of a set-up that are told.
+/// The most faults of a set-up that are listed.
 const MAX_FAULTS: usize = 20;
 
 /// What is said if more are not.

@@ -25,7 +25,7 @@ const IS_LEFT_OUT: &str = "this one of seL4's is left out";
 /// No number of bits is so large.
 const NO_BITS: u64 = 64;
 
-/// The most names that are told if none looks like the one that is not there.
+/// The most names that are listed if none looks like the one that is not there.
 const FEW_NAMES: usize = 8;
 
 /// Why a value is not taken, or that there is none: what was found, what is accepted, and a hint.

@@ -1,4 +1,4 @@
--- The text of the report of a kernel that clients shared. Objects and slots stand as `texts` tells them.
+-- The text of the report of a kernel that clients shared. Objects and slots stand as `texts` writes them.
 use Rattle.std.specs.Prelude.{codes, ℕ, ◌+◌, List, [], ◌∷◌, ◌++◌, length}
 use Rattle.std.specs.Fmt.{decimal}
 use Rattle.cap_core.specs.declared.profile.ProfileName.{ProfileName}

@@ -59,7 +59,7 @@ fn add_entries(
 
 /// The report of a history and of a kernel behind it, as text: a line for each entry of the history, in its order, with the
 /// client that made the call, the client's number for it and the reply; then what the kernel shows of the memory, as
-/// `setup_report::report` tells it, but for objects and slots, which stand as a naming tells them; and how many entries there are, of how many calls of the set-up. Expectations are not looked
+/// `setup_report::report` tells it, but for objects and slots, which stand as a naming writes them; and how many entries there are, of how many calls of the set-up. Expectations are not looked
 /// at.
 #[tactic(auto, unfolding(crate::specs::SharedReport::shared_report_told))]
 pub fn history_report<P: Profile, S: DerivationStore<P> + Drop, W: Waiters<P> + Drop>(

@@ -1,4 +1,4 @@
--- A set-up behind its first calls.
+-- A set-up after its first calls.
 use Rattle.std.specs.Prelude.{ℕ, nat_le, cond, Bool, true, false, List, map, take, length, count_by, Option, Some, None}
 use Rattle.cap_core.specs.declared.profile.ProfileName.{ProfileName}
 use Rattle.kernel_abstract.specs.declared.call.Call.{Call}

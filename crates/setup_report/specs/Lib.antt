@@ -1,5 +1,5 @@
--- The text of a report, and how it tells objects, slots and threads (Naming); State has what is told of a state, Behind the state
--- behind some of the calls, and Private what serves the proofs alone.
+-- The text of a report, and how it names objects, slots and threads (Naming); State has what is written about a state, Behind the state
+-- behind some of the calls, and Private what only serves the proofs.
 pub mod Naming
 pub mod Text
 pub mod State

@@ -1,4 +1,4 @@
--- How texts tell objects, slots and threads: by addresses, or by names.
+-- How texts name objects, slots and threads: by addresses, or by names.
 use Rattle.std.specs.Prelude.{codes, ℕ, ◌-◌, ◌/◌, ◌^◌, ◌==◌, ◌&&◌, nat_le, nat_lt, Bool, true, false, cond, List, [], ◌++◌, map, find, Option, Some, None, option_and_then, option_copied}
 use Rattle.std.specs.Option.{option_or}
 use Rattle.std.specs.List.{filter_map}
@@ -83,7 +83,7 @@ address_name names count base = cond (nat_lt base count) None (name_of names bas
 abbrev pub object_name : Names → ℕ → List (ℕ × Cap) → Object → Option (List ℕ)
 object_name names count slots object = option_or (address_name names count (object_base object)) (boot_name names slots object)
 
--- ---- names: what has one is told by it in place of its address
+-- ---- names: what has one is written by it in place of its address
 
 abbrev pub name_or_number : ℕ → Option (List ℕ) → List ℕ
 name_or_number number None = decimal number
@@ -148,7 +148,7 @@ name_by known object =
     option_or (address_name (names_view known.names.now) known.slots (object_base object))
     (row_name (names_view known.names.now) known.boot.items object)
 
--- the texts by which the code writes: addresses with the names of threads beside them, or names in place of addresses
+-- the texts by which the code writes: addresses with the names of threads next to them, or names in place of addresses
 abbrev pub naming_view : Naming → Texts
 naming_view (Addresses names) = by_addresses (names_view names.now)
 naming_view (Named known) = by_object_names (name_by known) known.slot_bits known.nodes.items

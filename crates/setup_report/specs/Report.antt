@@ -1,5 +1,5 @@
 -- The report of a run: a line for each call, then what the kernel shows of its memory, then how many expectations are met.
--- Objects, slots and threads stand as `texts` tells them.
+-- Objects, slots and threads stand as `texts` writes them.
 use Rattle.std.specs.Prelude.{codes, ℕ, ◌+◌, List, [], ◌∷◌, ◌++◌, map, Bool, false, if◌then◌else◌, Option, Some, None, is_some}
 use Rattle.std.specs.List.{flat_map}
 use Rattle.std.specs.Fmt.{decimal}

@@ -1,4 +1,4 @@
--- What is told of a state: its live threads and endpoints, its full slots, and the CNodes that hold themselves, each kind
+-- What is written about a state: its live threads and endpoints, its full slots, and the CNodes that hold themselves, each kind
 -- by rising address.
 use Rattle.std.specs.Prelude.{ℕ, ◌-◌, ◌/◌, ◌^◌, nat_le, nat_lt, List, [], ◌∷◌, map, Bool, not, ◌==◌, ◌&&◌, cond, Option, Some, None}
 use Rattle.std.specs.List.{filter, filter_map, find, list_any}

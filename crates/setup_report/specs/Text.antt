@@ -1,4 +1,4 @@
--- The text of each part of a report: objects, slots and threads as `texts` tells them. Numbers are decimal.
+-- The text of each part of a report: objects, slots and threads as `texts` writes them. Numbers are decimal.
 use Rattle.std.specs.Prelude.{codes, ℕ, List, [], ◌++◌, take, Bool, ◌==◌, ◌||◌, if◌then◌else◌, bit_and, nat_eq, Option, Some, None}
 use Rattle.std.specs.List.{flat_map, starts_with}
 use Rattle.std.specs.Fmt.{decimal}

@@ -1,4 +1,4 @@
-//! The kernel of a set-up behind its first calls.
+//! The kernel of a set-up after its first calls.
 ghost use Rattle.std.specs.Prelude.{◌≡◌, ◌≤◌, IfOk, ℕ, count_by, length, map, take};
 ghost use Rattle.kernel_abstract.specs.Memory.{IsInMemory};
 ghost use Rattle.kernel_abstract.specs.Plan.{IsPlan};
@@ -21,7 +21,7 @@ fn first_calls(setup: &Setup, count: usize) -> &[Call]
     &setup.calls()[..count]
 }
 
-/// The kernel of a set-up behind its first calls, and what these were answered.
+/// The kernel of a set-up after its first calls, and what these were answered.
 pub fn run_first<P: Profile, S: MakeStore<P>, W: MakeWaiters<P>>(
     alloc: Global,
     setup: &Setup,
@@ -39,7 +39,7 @@ pub fn run_first<P: Profile, S: MakeStore<P>, W: MakeWaiters<P>>(
     Ok((kernel, replies))
 }
 
-/// The kernel of a set-up behind its first calls.
+/// The kernel of a set-up after its first calls.
 pub fn kernel_after<P: Profile, S: MakeStore<P>, W: MakeWaiters<P>>(
     alloc: Global,
     setup: &Setup,

@@ -76,7 +76,7 @@ fn count(expectation: ExpectationText<'_>) -> ExpectationCount
     }
 }
 
-/// Adds the line of a call, with its number from 1 on and its reply, as a naming tells them, and counts its expectation, which
+/// Adds the line of a call, with its number from 1 on and its reply, as a naming writes them, and counts its expectation, which
 /// is compared with the reply by addresses.
 pub fn add_call(
     alloc: Global,

@@ -5,7 +5,7 @@ use crate::objects::Node;
 use setup_values::Name;
 use slot_core::Derivation;
 
-/// What tells the names of objects and slots.
+/// What has the names of objects and slots.
 #[derive(Drop)]
 pub struct ObjectNames<'a> {
     /// The names of the set-up.

@@ -1,5 +1,5 @@
 //! The report of a run: each call with its reply, what the kernel shows at the end, and how many expectations are met; and how
-//! texts tell objects, slots and threads, by addresses or by the names that a set-up gives. And what a word of a command line or of
+//! texts name objects, slots and threads, by addresses or by the names that a set-up gives. And what a word of a command line or of
 //! a policy stands for (`meanings`).
 #![tactic(auto)]
 
@@ -58,7 +58,7 @@ pub fn report<P: Profile, S: DerivationStore<P> + Drop, W: Waiters<P> + Drop>(
     Ok(text)
 }
 
-/// The report of a run as `report` gives it, but for objects and slots, which stand as a naming tells them; and the count of
+/// The report of a run as `report` gives it, but for objects and slots, which stand as a naming writes them; and the count of
 /// its expectations, as `expectations` gives it.
 #[tactic(auto, unfolding(crate::specs::Report::report_told))]
 pub fn counted_report<P: Profile, S: DerivationStore<P> + Drop, W: Waiters<P> + Drop>(

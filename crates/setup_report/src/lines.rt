@@ -1,4 +1,4 @@
-//! The lines of a report. Objects and slots stand as a naming tells them.
+//! The lines of a report. Objects and slots stand as a naming writes them.
 ghost use Rattle.std.specs.Prelude.{Some};
 ghost use Rattle.setup_report.specs.Naming.{naming_view};
 ghost use Rattle.setup_report.specs.Report as spec;

@@ -1,4 +1,4 @@
-//! What a kernel shows of its memory, a line for each thing that is there, as a naming tells it.
+//! What a kernel shows of its memory, a line for each thing that is there, as a naming writes it.
 ghost use Rattle.std.specs.Prelude.{◌≡◌, ◌++◌, OnOk, IfOk, flat_map, string_bytes};
 ghost use Rattle.slot_core.specs.Calls.{derivation_view};
 ghost use Rattle.kernel_abstract.specs.Shown.{waiting_at};

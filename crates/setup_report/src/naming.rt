@@ -1,4 +1,4 @@
-//! How texts tell objects, slots and threads: by addresses, or by names.
+//! How texts name objects, slots and threads: by addresses, or by names.
 ghost use Rattle.std.specs.Prelude.{◌≡◌, IfOk, Some};
 ghost use Rattle.kernel_abstract.specs.Plan.{IsPlan};
 ghost use Rattle.setup_values.specs.Names.{names_view};
@@ -14,7 +14,7 @@ use slot_core::{DerivationStore, MakeStore};
 use std::alloc::{AllocError, Global};
 use std::fmt;
 
-/// How addresses are told.
+/// How addresses are written.
 #[derive(Drop)]
 pub enum Naming<'a> {
     /// As numbers, a thread that a line is about also by its name.
@@ -23,12 +23,12 @@ pub enum Naming<'a> {
     Named(ObjectNames<'a>),
 }
 
-/// An address, as it is told.
+/// An address, as it is written.
 #[derive(Clone, Copy)]
 pub enum Told<'a> {
     /// As a number.
     Number(u64),
-    /// As a number with a name behind it, if there is one.
+    /// As a number with a name after it, if there is one.
     Thread(ThreadName<'a>),
     /// By the name of the object.
     Name(&'a str),
@@ -93,7 +93,7 @@ impl<'a> Naming<'a> {
         Naming::Addresses(&[])
     }
 
-    /// How a kernel's state is told: by the names of its objects, or by addresses.
+    /// How a kernel's state is written: by the names of its objects, or by addresses.
     pub fn of<P: Profile, S: MakeStore<P> + DerivationStore<P>, W: MakeWaiters<P>>(
         alloc: Global,
         by_name: bool,
@@ -114,7 +114,7 @@ impl<'a> Naming<'a> {
         Ok(Naming::Named(known))
     }
 
-    /// How a report tells a kernel's state: by addresses alone, or by the names of its objects.
+    /// How a report names a kernel's state: by addresses alone, or by the names of its objects.
     pub fn in_report<P: Profile, S: MakeStore<P> + DerivationStore<P>, W: MakeWaiters<P>>(
         alloc: Global,
         by_name: bool,

@@ -1,4 +1,4 @@
-//! What is told of a state, read once from the kernel.
+//! What is said about a state, read once from the kernel.
 ghost use Rattle.std.specs.Prelude.{◌≡◌, ◌==◌, ℕ, IfOk, map};
 ghost use Rattle.std.specs.List.{IsDistinct};
 ghost use Rattle.slot_core.specs.Calls.{derivation_view};
@@ -13,7 +13,7 @@ use slot_core::{Derivation, DerivationStore};
 use std::alloc::{AllocError, Global};
 use std::collections::BTreeSet;
 
-/// What a state's capabilities tell, each kind by rising address. What a thread does, what was delivered to it, and who
+/// What a state's capabilities say, each kind by rising address. What a thread does, what was delivered to it, and who
 /// waits on an endpoint is asked of the kernel.
 #[derive(Drop)]
 pub struct StateRows {

@@ -1,4 +1,4 @@
-//! The text of capabilities, messages, calls, replies and threads. Objects and slots stand as a naming tells them.
+//! The text of capabilities, messages, calls, replies and threads. Objects and slots stand as a naming writes them.
 ghost use Rattle.std.specs.Prelude.{◌≡◌, Some, take};
 ghost use Rattle.setup_report.specs.Naming.{naming_view};
 ghost use Rattle.setup_report.specs.Text as text;

@@ -1,4 +1,4 @@
--- Where the text of a capability ends, what it has no byte of, and what it tells.
+-- Where the text of a capability ends, what it has no byte of, and what it says.
 use Rattle.std.specs.Prelude.{◌≡◌, ℕ, ◌<◌, ◌≤◌, ◌^◌, ◌==◌, ◌&&◌, Bool, true, false, not, nat_le, List, [], ◌∷◌, ◌++◌, ⊤}
 use Rattle.std.specs.List.{list_all}
 use Rattle.cap_core.specs.declared.capability.Cap.{Cap}

@@ -156,7 +156,7 @@ entry p e = if is_name e.0 then (word p [] e.1 >>= λ n. Ok (e.0, n)) else Err O
 abbrev pub entry_at_fault : ProfileName → List (List ℕ × Data) → Option (List ℕ × Data)
 entry_at_fault p entries = least (λ e. e.0) (filter (λ e. is_err (entry p e)) entries)
 
--- if an entry is at fault, that one is told; otherwise all are read
+-- if an entry is at fault, that one is reported; otherwise all are read
 abbrev pub told : {A : Type 0} → Option A → List A → List A
 told None entries = entries
 told (Some e) entries = e ∷ []

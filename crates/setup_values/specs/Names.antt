@@ -17,6 +17,6 @@ names_view = map (λ n. (string_bytes n.text, n.word))
 abbrev pub word_named : Names → List ℕ → Option ℕ
 word_named names text = option_map (λ n. n.1) (find (λ n. bytes_eq n.0 text) names)
 
--- a table tells of each text the word of the first name with that text
+-- a table has for each text the word of the first name with that text
 abbrev pub AreWordsOf : {S : Type 0} → List Name → HashMap (Bor (List ℕ)) ℕ S → Type 0
 AreWordsOf names words = (text : List ℕ) → get_by (λ k. bytes_eq text k.now) words ≡ word_named (names_view names) text

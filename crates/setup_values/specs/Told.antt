@@ -1,4 +1,4 @@
--- How texts tell a profile, and a thread by its address and its name. Numbers are decimal.
+-- How texts write a profile, and a thread by its address and its name. Numbers are decimal.
 use Rattle.std.specs.Prelude.{codes, ℕ, ◌==◌, Bool, cond, List, ◌++◌, Option, None, Some, option_map, find, count_by}
 use Rattle.std.specs.Fmt.{decimal}
 use Rattle.cap_core.specs.declared.profile.ProfileName.{ProfileName}

@@ -1,4 +1,4 @@
-//! How texts tell a profile, and a thread by its address and its name.
+//! How texts write a profile, and a thread by its address and its name.
 ghost use Rattle.std.specs.Prelude.{◌≡◌, ◌==◌, Some, count_by, find, option_copied};
 ghost use Rattle.setup_values.specs.Names.{names_view};
 ghost use Rattle.setup_values.specs.Told as spec;

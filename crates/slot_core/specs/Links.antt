@@ -26,11 +26,11 @@ next_of links i = place_in (link_at links i).next
 abbrev pub previous_of : List Link → ℕ → Option ℕ
 previous_of links i = place_in (link_at links i).previous
 
--- what the list has of a slot, beside its neighbours
+-- what the list has of a slot, besides its neighbours
 abbrev pub row_of : List Link → ℕ → Marked
 row_of links i = marked i (link_at links i).cap (link_at links i).revocable (link_at links i).first_badged
 
--- what a row has beside its neighbours, at no place of its own
+-- what a row has besides its neighbours, at no place of its own
 abbrev pub unplaced : Link → Marked
 unplaced link = marked 0 link.cap link.revocable link.first_badged
 
@@ -72,7 +72,7 @@ order_of links first = walk (next_of links) (length links) first
 abbrev pub rows_of : List Link → Option ℕ → List Marked
 rows_of links first = map (row_of links) (order_of links first)
 
--- the number up to `most` to which 2 has to be raised to give n, and 0 if there is none
+-- the number up to `most` to which 2 must be raised to give n, and 0 if there is none
 abbrev pub exponent : ℕ → ℕ → ℕ
 exponent zero n = 0
 exponent (suc most) n = cond (2 ^ suc most == n) (suc most) (exponent most n)

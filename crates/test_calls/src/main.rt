@@ -8,7 +8,7 @@
 //!
 //! - `LinkedStore RowWaiters`, or the names of another pair of a capability store and a store of waiting threads, checks the
 //!   set-up on standard input over this pair, as `sel4sim check` does over the linked ones;
-//! - `order 0 1 0` lets the clients of the set-up on standard input make their calls in this order, and ends them behind it, as
+//! - `order 0 1 0` lets the clients of the set-up on standard input make their calls in this order, and ends them after it, as
 //!   `sel4sim threads` does in any order.
 //!
 //! The exit status is then that of the set-up's run, and 4 for other words.

@@ -1,4 +1,4 @@
-//! The exploration of orders, if a limit on states ends it, and behind first calls.
+//! The exploration of orders, if a limit on states ends it, and after first calls.
 use cap_core::{Message, Wide};
 use ipc_core::RowWaiters;
 use kernel_core::{BootPlan, Call, Kernel, Op};

@@ -14,7 +14,7 @@ abbrev pub HoldsBelow : {A : Type 0} → (A → A → Type 0) → Forest A → T
 HoldsBelow R none = ⊤
 HoldsBelow R (tree a under others) = Each (R a) (preorder under) × (HoldsBelow R under × HoldsBelow R others)
 
--- below an untyped region stands what it contains, and untyped regions stand below untyped ones alone
+-- below an untyped region stands what it contains, and untyped regions stand only below untyped ones
 pub record IsNest (p : ProfileName) (a b : Entry) : Type 0 where
   pub inside : is_untyped a.cap ≡ true → contains p a.cap b.cap ≡ true
   pub untyped : is_untyped b.cap ≡ true → is_untyped a.cap ≡ true

@@ -171,7 +171,7 @@ fn chain_between_parts<P: Profile>(
     chain_to_open::<P>(alloc, told, filled, layout.memory, between.to, from, first)
 }
 
-/// The chains that are told for threads of two parts, which may be one. `filled` has all full slots.
+/// The chains that are listed for threads of two parts, which may be one. `filled` has all full slots.
 fn chains_of_parts<P: Profile>(
     alloc: Global,
     told: &PartNaming<'_>,
@@ -190,7 +190,7 @@ fn chains_of_parts<P: Profile>(
     chain_between_parts::<P>(alloc, told, filled, layout, between, from)
 }
 
-/// The chains that are told for two threads, each with its part. `filled` has all full slots.
+/// The chains that are listed for two threads, each with its part. `filled` has all full slots.
 pub fn chains_between<P: Profile>(
     alloc: Global,
     told: &PartNaming<'_>,

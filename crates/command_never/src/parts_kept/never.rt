@@ -24,7 +24,7 @@ pub enum Never {
     ExcludedByFlow,
     /// That is not excluded.
     Possible,
-    /// It can happen: both parts are still, and sends of the one thread and receives of the other alone show such a message.
+    /// It can happen: both parts are still, and sends of the one thread and receives of the other are enough to show such a message.
     Decided,
 }
 

@@ -225,7 +225,7 @@ fn slots_of<P: Profile, S: DerivationStore<P> + Drop, W: Waiters<P> + Drop>(
     Ok(filled)
 }
 
-/// What is told of two threads: by the parts of a kernel's layout, and but by some endpoints.
+/// What is said about two threads: by the parts of a kernel's layout, and but by some endpoints.
 #[derive(Drop)]
 struct Telling<'a, P: Profile, S: DerivationStore<P> + Drop, W: Waiters<P> + Drop> {
     alloc: Global,
@@ -342,7 +342,7 @@ impl<P: Profile, S: DerivationStore<P> + Drop, W: Waiters<P> + Drop> Telling<'_,
         self.add_all_open(out, &between, open.as_slice())
     }
 
-    /// Adds what passes between the parts of the threads in seL4, beside messages, if these are two.
+    /// Adds what passes between the parts of the threads in seL4 besides messages, if these are two.
     fn add_sel4_between(
         &self,
         out: &mut String,
@@ -422,7 +422,7 @@ impl<P: Profile, S: DerivationStore<P> + Drop, W: Waiters<P> + Drop> Telling<'_,
         Ok(out)
     }
 
-    /// The text of an answer, with the chains behind it. `live` has the live endpoints.
+    /// The text of an answer, with the chains after it. `live` has the live endpoints.
     fn text_with_chains(
         &self,
         heading: &Heading<'_>,
@@ -447,7 +447,7 @@ impl<P: Profile, S: DerivationStore<P> + Drop, W: Waiters<P> + Drop> Telling<'_,
 
 /// Whether a thread's part is kept from another's, but for the endpoints that `by` names, whatever calls the threads make that are
 /// not trusted; and the text that says so, with the endpoints that are open if it is not, what passes between the parts in seL4
-/// beside messages, which of them may take slots from the other, and the slots through which the one thread comes to what is open.
+/// besides messages, which of them may take slots from the other, and the slots through which the one thread comes to what is open.
 /// If the parts exclude nothing, flows are asked if `asks_flows` is set.
 ///
 /// # Errors

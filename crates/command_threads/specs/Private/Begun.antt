@@ -1,4 +1,4 @@
--- What is known of a kernel behind the first calls of a set-up, of the calls that clients make of it from there on, and of the
+-- What is known of a kernel after the first calls of a set-up, of the calls that clients make of it from there on, and of the
 -- history of all of them.
 use Rattle.std.specs.Prelude.{◌≡◌, ℕ, ◌<◌, ◌≤◌, ◌⊎◌, true, List, [], ◌++◌, map, length}
 use Rattle.cap_core.specs.declared.profile.ProfileName.{ProfileName}
@@ -45,7 +45,7 @@ pub record AreEntriesOf (calls : List CallView) (replies : List Reply) (entries 
   pub calls_are : map call_made entries ≡ map call_asked calls
   pub replies_are : replies_in entries ≡ replies
 
--- the same calls as those of others, behind these entries
+-- the same calls as those of others, after these entries
 pub record AreBehind (old others new : List Entry) : Type 0 where
   pub behind : List Entry
   pub is : new ≡ old ++ behind

@@ -14,7 +14,7 @@ abbrev pub kept : Option ℕ → List ℕ → List ℕ
 kept None path = []
 kept (Some slot) path = path_up_to (position (λ s. s == slot) path) path
 
--- the path to what stands right below a full slot, where `path` is that to what was told before it
+-- the path to what stands right below a full slot, where `path` is that to what was written before it
 abbrev pub path_below : Derived → List ℕ → List ℕ
 path_below d path = kept d.1 path ++ d.0.slot ∷ []
 

@@ -18,7 +18,7 @@ pub struct KeyWord {
 /// How many words an operation has at most.
 const MAX_WORDS: usize = 8;
 
-/// The words of a call, each with its key, in the order in which a trace tells them.
+/// The words of a call, each with its key, in the order in which a trace lists them.
 #[derive(Drop)]
 pub struct KeyWords {
     words: [KeyWord; MAX_WORDS],

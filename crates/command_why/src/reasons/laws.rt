@@ -11,7 +11,7 @@ ghost use Rattle.command_why.specs.Reasons.{reason_lines};
 ghost use Rattle.command_why.specs.Laws.{AreNamesOfOneLine, AreOneLineTexts, HasLines};
 
 /// The text of each reason has one to four lines, each after two spaces. No line feed stands in one of them, if none
-/// stands in a name by which the call's table spells a value, nor in what is told of an object or of a slot. And there none
+/// stands in a name by which the call's table spells a value, nor in what is said about an object or a slot. And there none
 /// stands by addresses, and by names if no name of the set-up has one.
 pub fn reasons_have_one_to_four_lines()
     ensures lines { (texts : Texts) (p : ProfileName) (v : Shown) (a : AskedView) (reason : Reason)

@@ -1,4 +1,4 @@
-//! The parts of a line. Objects and slots stand as a naming tells them.
+//! The parts of a line. Objects and slots stand as a naming writes them.
 ghost use Rattle.std.specs.Prelude.{◌≡◌, Some, None, option_copied};
 ghost use Rattle.setup_report.specs.Naming.{naming_view};
 ghost use Rattle.command_why.specs.Text as text;

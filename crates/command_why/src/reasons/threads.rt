@@ -11,7 +11,7 @@ use setup_report::{Naming, Object, ThreadsText};
 use std::alloc::AllocError;
 use std::fmt::{self, Write};
 
-/// How many live threads are told.
+/// How many live threads are listed.
 pub const THREADS_TOLD: usize = 8;
 
 /// How many live threads there are besides.
@@ -31,7 +31,7 @@ impl fmt::Display for MoreText {
     }
 }
 
-/// The first threads of some, as many as are told.
+/// The first threads of some, as many as are listed.
 fn first_threads(threads: &[u64]) -> &[u64]
     ensures { result.now ≡ take THREADS_TOLD threads.now }
 {
@@ -57,7 +57,7 @@ pub fn add_live(out: &mut String, naming: &Naming<'_>, threads: &[u64]) -> Resul
     writeln!(out, "  live threads:{first}{more}")
 }
 
-/// The calling thread: as it is told and, if objects are told by their addresses, by the name that spells it.
+/// The calling thread: as it is written and, if objects are written by their addresses, by the name that spells it.
 #[derive(Clone, Copy)]
 struct ThreadText<'a, 'n>(Asked<'a, 'n>);
 

@@ -121,7 +121,7 @@ abbrev pub decoded_effect : ProfileName → Shown → ℕ → Result Invocation 
 decoded_effect p v t (Err refusal) = unchanged v (Refused refusal)
 decoded_effect p v t (Ok invocation) = performed_effect p v t invocation
 
--- the step, told by what is shown alone
+-- the step, only by what is shown
 abbrev pub effect_of : ProfileName → Shown → Call → Effect
 effect_of p v call = decoded_effect p v call.thread (decoded_call p v call)
 

@@ -1,4 +1,4 @@
--- A forest as a list of words, each thing and the end of what is below it, and that the list tells the forest.
+-- A forest as a list of words, each thing and the end of what is below it, and that the list determines the forest.
 use Rattle.std.specs.Prelude.{◌≡◌, List, [], ◌∷◌, ◌++◌, Option, Some, None, refl}
 use Rattle.std.proofs.Common.{sym, ◌∙◌, ap, append_assoc, append-nil}
 use Rattle.std.specs.Coded.{Coded, code_by, coded_list, coded_option}

@@ -1,4 +1,4 @@
--- How parts are put in the order in which they are told.
+-- How parts are put in the order in which they are listed.
 use Rattle.std.specs.Prelude.{◌≡◌, ℕ, ◌+◌, ◌≤◌, ◌⊎◌, Bool, true, cond, ◌==◌, ◌&&◌, nat_le, nat_lt, List, [], ◌∷◌, ◌++◌, map, length, Option, Some, None, position}
 use Rattle.std.specs.List.{list_any, list_all, AllAdjacentBelow}
 use Rattle.cap_core.specs.declared.profile.ProfileName.{ProfileName}
@@ -47,7 +47,7 @@ pub record AreNeeded (p : ProfileName) (memory : List PartMemory) (uses : List P
   pub rising : AllAdjacentBelow (λ u w. comes_before u w ≡ true) told (length told)
   pub needed : list_all (is_needed p memory told) told ≡ true
 
--- memory of parts that is told is memory that is there, and all of it, by the number of each label and the label of each number
+-- memory of parts that is listed is memory that is there, and all of it, by the number of each label and the label of each number
 pub record IsMemoryTold (memory memory' : List PartMemory) (number label : ℕ → ℕ) : Type 0 where
   pub memory_from : (m : PartMemory) → In m memory' → (address : ℕ) → m.first ≤ address → address ≤ m.last →
       (n : PartMemory) × (In n memory × ((n.part ≡ label m.part) × ((m.part ≡ number n.part) × (lies_in n address ≡ true))))
@@ -57,7 +57,7 @@ pub record IsMemoryTold (memory memory' : List PartMemory) (number label : ℕ �
   pub rising : AllAdjacentBelow (λ m n. lies_behind m n ≡ true) memory' (length memory')
   pub numbered : list_all (is_numbered memory') memory' ≡ true
 
--- sound parts are told: their memory, and of their uses those that are needed
+-- sound parts are listed: their memory, and of their uses those that are needed
 pub record AreTold (p : ProfileName) (memory : List PartMemory) (uses : List PartUse) (memory' : List PartMemory) (uses' : List PartUse) : Type 0 where
   pub number : ℕ → ℕ
   pub label : ℕ → ℕ

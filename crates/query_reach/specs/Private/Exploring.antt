@@ -104,6 +104,6 @@ pub record IsSpaceExplored (p : ProfileName) (f : Forest Entry) (filled : List F
       depth ≤ word_bits p → target_from p f depth from.address index ≡ Some slot → is_full slot f ≡ true →
       StandsForIndex p f filled rows done start.word depth index slot
 
--- paths that read nothing, in the first row alone
+-- paths that read nothing, only in the first row
 abbrev pub AreStarts : List (List (Option Path)) → Type 0
 AreStarts rows = (read place : ℕ) (path : Path) → path_at rows read place ≡ Some path → (read ≡ 0) × (path.index ≡ 0)

@@ -1,4 +1,4 @@
--- The full slots that derivations tell, and what a row of a table says of them.
+-- The full slots that derivations have, and what a row of a table says of them.
 use Rattle.std.specs.Prelude.{◌≡◌, ℕ, List, Option, Some, slice_get}
 use Rattle.cap_core.specs.declared.profile.ProfileName.{ProfileName}
 use Rattle.slot_core.specs.declared.derivations.Derivation.{Derivation}

@@ -41,7 +41,7 @@ pub record RowSpreads (p : ProfileName) (row : List (Option ℕ)) (left : ℕ) (
   pub only : (t k w : ℕ) → word_at new t k ≡ Some w → (word_at old t k ≡ Some w) ⊎ ((holder : ℕ) × RowLeads p row left filled holder t k w)
   pub noted : (holder t k w : ℕ) → holder < count → RowLeads p row left filled holder t k w → IsAtMost new t k w
 
--- the bits that are left behind a word are within a word of the machine
+-- the bits that are left after a word are within a word of the machine
 abbrev pub IsBounded : ProfileName → List (List (Option ℕ)) → Type 0
 IsBounded p rows = (t k w : ℕ) → word_at rows t k ≡ Some w → w + 2 ^ t ≤ 2 ^ word_bits p
 

@@ -8,7 +8,7 @@ text_of_expectation V.None = []
 text_of_expectation V.Met = codes " [met]"
 text_of_expectation (V.NotMet expected) = codes " [not met: " ++ (expected.now ++ codes "]")
 
--- how many expectations it is told of that they are met, and how many there are
+-- how many expectations are said to be met, and how many there are
 abbrev pub met_of_expectation : ExpectationText → ℕ
 met_of_expectation V.None = 0
 met_of_expectation V.Met = 1

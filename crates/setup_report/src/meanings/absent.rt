@@ -1,4 +1,4 @@
-//! What standard error tells of a word that stands for nothing. The texts are tested, and no clause says what they are.
+//! What standard error says about a word that stands for nothing. The texts are tested, and no clause says what they are.
 ghost use Rattle.kernel_abstract.specs.Plan.{IsWithinLimits};
 
 use crate::meanings::meant::{ObjectKind, object_meant};
@@ -48,7 +48,7 @@ fn nearest<'a>(
     Ok(nearest)
 }
 
-/// What is told of a word that is no number and no name.
+/// What is said about a word that is no number and no name.
 fn no_name(alloc: Global, names: &[Name], option: &str, word: &str) -> Result<String, AllocError> {
     if word.is_empty() {
         return format!(in alloc; "{option}: a word between its commas is empty");
@@ -62,7 +62,7 @@ fn no_name(alloc: Global, names: &[Name], option: &str, word: &str) -> Result<St
     }
 }
 
-/// What is told of a word of an option that stands for no slot, since it is no number and no name.
+/// What is said about a word of an option that stands for no slot, since it is no number and no name.
 pub fn absent_slot(
     alloc: Global,
     names: &[Name],
@@ -75,7 +75,7 @@ pub fn absent_slot(
     no_name(alloc, names, option, word)
 }
 
-/// Of some words, as an option gives them, what is told of the first that stands for no object of the kind.
+/// Of some words, as an option gives them, what is said about the first that stands for no object of the kind.
 pub fn absent_object<P: Profile, S: CapStore<P> + Drop, W: Waiters<P> + Drop>(
     alloc: Global,
     names: &[Name],

@@ -44,7 +44,7 @@ fn slot_named<P: Profile>(plan: &BootPlan, number: u64) -> u64
     }
 }
 
-/// The address of the slot that a word stands for: the number, of decimal digits; of a name of the set-up, also behind a `@`, the
+/// The address of the slot that a word stands for: the number, of decimal digits; of a name of the set-up, also after a `@`, the
 /// slot of the root CNode that it names, or the address. `None` if the word is neither a number nor a name.
 pub fn slot_meant<P: Profile>(names: &[Name], setup: &Setup, word: &[u8]) -> Option<u64>
     requires { IsWithinLimits P.profile setup.now.plan }

@@ -65,7 +65,7 @@ fn number_or_name(names: &[Name], text: &[u8]) -> Option<u64>
     }
 }
 
-/// The number that a word gives: decimal digits, or a name of the set-up, also behind a `@`.
+/// The number that a word gives: decimal digits, or a name of the set-up, also after a `@`.
 pub fn number_meant(names: &[Name], text: &[u8]) -> Option<u64>
     ensures { result ≡ spec.number_meant (names_view names.now) text.now }
 {
