@@ -11,10 +11,6 @@ use std::alloc::{AllocError, Global};
 
 /// A store with the capabilities of a plan's objects: all of them in the root CNode, and the root CNode's derived into
 /// the root slot of each thread.
-///
-/// # Errors
-///
-/// `AllocError` where memory was wanted and not there.
 pub fn booted_store<P: Profile, S: MakeStore<P>>(
     alloc: Global,
     plan: &BootPlan,

@@ -23,10 +23,6 @@ impl<P: Profile, S: MakeStore<P>, W: MakeWaiters<P>> Kernel<P, S, W> {
     /// A kernel with the objects of a plan, each thread ready with the root CNode as its capability space. The layout is
     /// this project's profile. What it shows is the abstract boot of the plan, and lies in the plan's memory, its full slots
     /// in live objects. All memory of the kernel is taken here.
-    ///
-    /// # Errors
-    ///
-    /// `AllocError` where memory was wanted and not there.
     pub fn boot(alloc: Global, plan: &BootPlan) -> Result<Kernel<P, S, W>, AllocError>
         requires { IsPlan P.profile plan.now }
         ensures shows { IfOk result (λ kernel. kernel ≡ shown (booted P.profile plan.now)) }
@@ -51,10 +47,6 @@ impl<P: Profile, S: MakeStore<P>, W: MakeWaiters<P>> Kernel<P, S, W> {
 
     /// A kernel of its own that shows the same, with all the room that a boot takes. No call of either changes the
     /// other.
-    ///
-    /// # Errors
-    ///
-    /// `AllocError` where memory was wanted and not there.
     pub fn copy(&self, alloc: Global) -> Result<Kernel<P, S, W>, AllocError>
         ensures { IfOk result (λ kernel. kernel ≡ self.now) }
     {

@@ -177,10 +177,6 @@ impl ThreadRows {
     }
 
     /// Takes all rows away. There are so many places then.
-    ///
-    /// # Errors
-    ///
-    /// `AllocError` where memory was wanted and not there.
     pub fn clear(&mut self, count: usize) -> Result<(), AllocError>
         ensures { IfOk result (λ _. self.new ≡ replicate count None) }
     {

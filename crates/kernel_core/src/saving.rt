@@ -44,10 +44,6 @@ impl<P: Profile, S: SaveStore<P>, W: SaveWaiters<P>> Model for SavedKernel<P, S,
 impl<P: Profile, S: SaveStore<P>, W: SaveWaiters<P>> Kernel<P, S, W> {
     /// A kernel of its own that shows the same, in the room of a kernel that is given up. It takes memory only where that has
     /// too little room; the chain for slots that are cleared is taken as it is, since no slot is in it between calls.
-    ///
-    /// # Errors
-    ///
-    /// `AllocError` where memory was wanted and not there.
     pub fn copy_into(
         &self,
         alloc: Global,
@@ -81,10 +77,6 @@ impl<P: Profile, S: SaveStore<P>, W: SaveWaiters<P>> Kernel<P, S, W> {
     }
 
     /// What the kernel holds, to be made a kernel again later.
-    ///
-    /// # Errors
-    ///
-    /// `AllocError` where memory was wanted and not there.
     pub fn save(&self, alloc: Global) -> Result<SavedKernel<P, S, W>, AllocError>
         ensures { IfOk result (λ saved. saved ≡ self.now) }
     {
@@ -101,10 +93,6 @@ impl<P: Profile, S: SaveStore<P>, W: SaveWaiters<P>> Kernel<P, S, W> {
 impl<P: Profile, S: SaveStore<P>, W: SaveWaiters<P>> SavedKernel<P, S, W> {
     /// A kernel that shows what was saved, in the room of a kernel that is given up. It takes memory only where that has too
     /// little room.
-    ///
-    /// # Errors
-    ///
-    /// `AllocError` where memory was wanted and not there.
     pub fn restore(
         &self,
         alloc: Global,

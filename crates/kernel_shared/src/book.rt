@@ -49,10 +49,6 @@ pub struct Book<N: Naming, P: Profile, S: CapStore<P> + Drop, W: Waiters<P> + Dr
 
 impl<N: Naming, P: Profile, S: CapStore<P> + Drop, W: Waiters<P> + Drop> Book<N, P, S, W> {
     /// A kernel at its opening, with no history yet and room for `limit` entries.
-    ///
-    /// # Errors
-    ///
-    /// `AllocError` where memory was wanted and not there.
     pub fn open(
         alloc: Global,
         kernel: Kernel<P, S, W>,

@@ -29,10 +29,6 @@ pub fn any<T, Q: Asks<T>>(items: &[T], question: &Q) -> bool
 }
 
 /// The items of which it holds.
-///
-/// # Errors
-///
-/// Memory was refused.
 pub fn those<T: Copy, Q: Asks<T>>(
     alloc: Global,
     items: &[T],
@@ -84,10 +80,6 @@ pub trait Makes<T, R> {
 }
 
 /// What is made of each item, in their order.
-///
-/// # Errors
-///
-/// Memory was refused.
 pub fn each<T, R: Copy, M: Makes<T, R>>(
     alloc: Global,
     items: &[T],
@@ -112,10 +104,6 @@ pub trait Finds<T, R> {
 }
 
 /// What is found of the items, in their order.
-///
-/// # Errors
-///
-/// Memory was refused.
 pub fn all_found<T, R: Copy, F: Finds<T, R>>(
     alloc: Global,
     items: &[T],
@@ -137,19 +125,11 @@ pub trait Adds<T, R> {
     ghost added: { Self → T → List R };
 
     /// Adds it.
-    ///
-    /// # Errors
-    ///
-    /// Memory was refused.
     fn add(&self, alloc: Global, out: &mut Vec<R>, item: &T) -> Result<(), AllocError>
         ensures { OnOk result (out.new.items ≡ out.old.items ++ added self.now item.now) };
 }
 
 /// Adds what each item adds, in their order.
-///
-/// # Errors
-///
-/// Memory was refused.
 pub fn add_all<T, R, A: Adds<T, R>>(
     alloc: Global,
     out: &mut Vec<R>,
@@ -169,19 +149,11 @@ pub trait Line<T> {
     ghost line: { Self → T → List ℕ };
 
     /// Writes it.
-    ///
-    /// # Errors
-    ///
-    /// Memory was refused.
     fn add(&self, out: &mut String, item: &T) -> Result<(), AllocError>
         ensures { OnOk result (string_bytes out.new ≡ string_bytes out.old ++ line self.now item.now) };
 }
 
 /// Writes what is written of each item, in their order.
-///
-/// # Errors
-///
-/// Memory was refused.
 pub fn add_each<T, L: Line<T>>(out: &mut String, items: &[T], line: &L) -> Result<(), AllocError>
     ensures { OnOk result (string_bytes out.new ≡ string_bytes out.old ++ flat_map (L.line line.now) items.now) }
 {

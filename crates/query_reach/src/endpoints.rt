@@ -53,10 +53,6 @@ fn endpoint_word(
 
 /// The words of the thread at an address that lead to endpoints' capabilities, of those in its list of reached slots, in the
 /// same order. `shared` says whether another thread has the same words. `filled` has all full slots, as `full_slots` gives them.
-///
-/// # Errors
-///
-/// `AllocError` if memory was wanted and not there.
 pub fn endpoint_words(
     alloc: Global,
     filled: &[FullSlot],

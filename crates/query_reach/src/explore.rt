@@ -94,10 +94,6 @@ fn extend_row<P: Profile>(
 }
 
 /// Follows the paths of a table, row by row: a CNode takes at least one bit, so a row is whole when its turn comes.
-///
-/// # Errors
-///
-/// `AllocError` if memory was wanted and not there.
 pub fn explore<P: Profile>(
     alloc: Global,
     filled: &[FullSlot],

@@ -52,10 +52,6 @@ fn put_in_order(filled: &mut Vec<FullSlot>) -> Result<(), AllocError>
 
 /// All full slots, each with what it holds, in the order of their addresses, by the derivations that a store or a kernel
 /// tells. What threads reach is looked up in this list, which is made once for all of them.
-///
-/// # Errors
-///
-/// `AllocError` if memory was wanted and not there.
 pub fn full_slots<P: Profile>(
     alloc: Global,
     derivations: &[Derivation],

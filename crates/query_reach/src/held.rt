@@ -150,10 +150,6 @@ fn found<P: Profile>(
 ///
 /// Time: one search from all capabilities in `reached` at once. Each full slot is followed at most once for each number of
 /// bits read, to the full slots of its CNode; never each path.
-///
-/// # Errors
-///
-/// `AllocError` if memory was wanted and not there.
 pub fn held_slots<P: Profile>(
     alloc: Global,
     filled: &[FullSlot],

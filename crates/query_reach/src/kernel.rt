@@ -12,10 +12,6 @@ use std::alloc::{AllocError, Global};
 
 /// All full slots of a kernel, each with what it holds, in the order of their addresses: what `reached_slots` and
 /// `held_slots` of `query_reach` are given, once for all threads.
-///
-/// # Errors
-///
-/// `AllocError` if memory was wanted and not there.
 pub fn kernel_slots<P: Profile, S: DerivationStore<P> + Drop, W: Waiters<P> + Drop>(
     alloc: Global,
     kernel: &Kernel<P, S, W>,

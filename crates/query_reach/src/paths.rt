@@ -69,10 +69,6 @@ fn open_row(
 }
 
 /// Puts a path at a place of the row of a number of bits read. Each row is to have `width` places.
-///
-/// # Errors
-///
-/// `AllocError` if memory was wanted and not there.
 pub fn put_path(
     alloc: Global,
     rows: &mut Vec<Vec<Option<Path>>>,

@@ -60,10 +60,6 @@ pub fn put_in_order<T: Ord + Drop>(list: &mut Vec<T>) -> Result<(), AllocError>
 ///
 /// Time: the table has a place for each full slot and each number of bits that are ever left, besides none. Each place of a
 /// CNode that is entered is followed once, by its least word, to the full slots of the CNode; never each path.
-///
-/// # Errors
-///
-/// `AllocError` if memory was wanted and not there.
 pub fn reached_slots<P: Profile>(
     alloc: Global,
     filled: &[FullSlot],

@@ -137,10 +137,6 @@ fn expand_row<P: Profile>(
 
 /// Empties the rows of a table from the last one on, until the first one alone is left: whatever was entered with bits left
 /// has then been followed to the slots that are found.
-///
-/// # Errors
-///
-/// `AllocError` if memory was wanted and not there.
 pub fn search<P: Profile>(
     alloc: Global,
     filled: &[FullSlot],

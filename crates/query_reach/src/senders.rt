@@ -55,10 +55,6 @@ fn add_channels(
 /// The channels between threads: of each word by which a thread may send, to each other thread that may receive from its
 /// endpoint, and if there is none, to nobody. `words` has the words of all threads, as `endpoint_words` gives them, each
 /// thread's together; the channels stand in the order of the senders, and of one sender in that of the receivers.
-///
-/// # Errors
-///
-/// `AllocError` if memory was wanted and not there.
 pub fn channels(alloc: Global, words: &[EndpointWord]) -> Result<Vec<Channel>, AllocError>
     ensures { IfOk result (λ list. list.items ≡ all_channels words.now) }
 {
@@ -90,10 +86,6 @@ fn has_sender(words: &[EndpointWord], receiver: &EndpointWord) -> bool
 
 /// The words by which threads may receive from an endpoint, each thread's first, to which no other thread may send.
 /// `words` has the words of all threads, each thread's together.
-///
-/// # Errors
-///
-/// `AllocError` if memory was wanted and not there.
 pub fn receivers_without_sender(
     alloc: Global,
     words: &[EndpointWord],

@@ -52,10 +52,6 @@ fn open_row(
 }
 
 /// Notes a word at a place of the row of a number of bits left. Each row is to have `width` places.
-///
-/// # Errors
-///
-/// `AllocError` if memory was wanted and not there.
 pub fn note(
     alloc: Global,
     rows: &mut Vec<Vec<Option<u64>>>,

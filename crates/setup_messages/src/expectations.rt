@@ -203,9 +203,6 @@ fn unmeetable_words(
 
 /// Of each of some calls of the set-up that the bytes are, by their numbers: that no reply to its operation begins with its
 /// expectation, and what may have been meant; nothing if a reply can.
-///
-/// # Errors
-/// If memory was refused.
 pub fn unmeetable_expectations(
     alloc: Global,
     bytes: &[u8],

@@ -61,9 +61,6 @@ fn table_at(table: &mut Table, place: Place) -> Option<&mut Table> {
 
 /// Takes a fault out of a document. It can't be done for a key of the top table that has no size: what stands behind it is not
 /// read without it. The names of a set-up stay, too: without them each use of one would be a fault.
-///
-/// # Errors
-/// If memory was refused.
 pub fn mend(alloc: Global, table: &mut Table, fault: &SetupFault) -> Result<Mended, AllocError> {
     let (wrong, place, key) = match fault {
         SetupFault::At { wrong, place, key } => (*wrong, *place, text_of(key)),

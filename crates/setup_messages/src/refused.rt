@@ -146,9 +146,6 @@ fn document_words(
 /// The first fault is the one for which the set-up is refused. The others are those that are found once it is mended:
 /// of a call each unknown key and one other, and `MAX_FAULTS` in all. Behind a fault of a region, or of the layout, the regions
 /// are not looked at any more, and behind one of another key of the top table than a size nothing is.
-///
-/// # Errors
-/// If memory was refused.
 pub fn refusal_words(
     alloc: Global,
     bytes: &[u8],

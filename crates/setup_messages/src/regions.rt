@@ -119,9 +119,6 @@ fn overlapped<P: Profile>(
 }
 
 /// Why the sizes and the regions of a document cannot be laid out.
-///
-/// # Errors
-/// If memory was refused.
 pub fn layout_words(document: Document<'_>, defect: PlanDefect) -> Result<String, AllocError> {
     let (alloc, (place, _)) = (document.alloc, key_of(defect));
     let region = region_at(document, place).unwrap_or(Extent::new(0, 0));

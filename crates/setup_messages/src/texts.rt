@@ -90,9 +90,6 @@ fn line_of(above: &str, key: &str) -> Option<usize> {
 }
 
 /// The words on bytes that are no TOML document, which were read from a file of that name. The text up to the fault is UTF-8.
-///
-/// # Errors
-/// If memory was refused.
 pub fn text_words(alloc: Global, bytes: &[u8], name: &str) -> Result<String, AllocError> {
     let Err(error) = toml::table_from_slice(alloc, bytes) else {
         return Ok(String::new(alloc));

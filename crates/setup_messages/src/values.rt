@@ -180,9 +180,6 @@ fn no_names(spot: Spot<'_>, names: &Table) -> Result<String, AllocError> {
 }
 
 /// Why the value at a key is not taken, or that there is none.
-///
-/// # Errors
-/// If memory was refused.
 pub fn value_words(spot: Spot<'_>) -> Result<String, AllocError> {
     match (spot.key, spot.value) {
         ("memory_bits" | "root_radix" | "bits", Some(Value::Integer(n))) => no_bits(spot, *n),

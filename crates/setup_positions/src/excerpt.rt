@@ -27,9 +27,6 @@ impl<'a> NamedText<'a> {
 
     /// The bytes of the text that are a key of a table, or a part of its value, or, if the key is missing, those with which
     /// the table begins. None if the text is no TOML document.
-    ///
-    /// # Errors
-    /// If memory was refused.
     pub fn excerpt_at(
         self,
         alloc: Global,

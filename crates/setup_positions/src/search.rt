@@ -184,9 +184,6 @@ fn part_at(alloc: Global, text: &str, part: Part) -> Result<(&str, usize), Alloc
 
 /// Which bytes of a set-up's text are a key of a table, as it is written, or the part of its value that is looked for; if the
 /// key is missing, those with which the table begins. None if the text is no TOML document.
-///
-/// # Errors
-/// If memory was refused.
 pub fn span_at(
     alloc: Global,
     text: &str,
@@ -197,9 +194,6 @@ pub fn span_at(
 
 /// The same of a key of a table of an array of whatever name, which may be that of another document than a set-up. The tables of an array
 /// count from 1.
-///
-/// # Errors
-/// If memory was refused.
 pub fn span_in(
     alloc: Global,
     text: &str,

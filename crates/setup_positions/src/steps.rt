@@ -28,9 +28,6 @@ impl From<ParseError> for Unfound {
 }
 
 /// What was found, or `None` if it is not there.
-///
-/// # Errors
-/// If memory was refused.
 pub fn found<T>(searched: Result<T, Unfound>) -> Result<Option<T>, AllocError> {
     match searched {
         Ok(part) => Ok(Some(part)),

@@ -41,9 +41,6 @@ const MINTED_SLOT: u64 = 256;
 
 /// The kernel after boot and a list of calls, and the replies: those of the abstract kernel from its boot on, whichever
 /// stores the kernel is made over.
-///
-/// # Errors
-/// `AllocError` if memory was wanted and not there.
 fn run_from_boot<P: Profile, S: MakeStore<P>, W: MakeWaiters<P>>(
     alloc: Global,
     plan: &BootPlan,
@@ -96,9 +93,6 @@ fn go_on(rt: &impl Print, kernel: &mut LinkedKernel, replies: &[Reply]) -> io::R
 }
 
 /// Whether a kernel over this program's own store makes these replies.
-///
-/// # Errors
-/// `AllocError` if memory was wanted and not there.
 fn replies_alike(
     alloc: Global,
     plan: &BootPlan,
