@@ -69,19 +69,14 @@ rows-python:
 	python3 tools/test_build.py
 	python3 tools/pages_test.py
 	python3 tools/pages.py --check $(program)
-	python3 tests/exercises.py $(setups)
-	python3 tests/goals.py $(program) $(answers)/goals
-	python3 tests/answers.py $(program) $(setups) $(answers)
+	python3 tests/exercises.py $(program) $(setups) $(answers)/goals
+	python3 tests/answers.py --pairs $(calls) $(program) $(setups) $(answers)
+	python3 tests/cases.py $(program) $(calls) tests/cases/*.toml
 	python3 tests/set_ups.py $(program) tests/set_ups
-	python3 tests/pairs.py $(program) $(calls) $(setups) $(answers)
 	python3 tests/kernel_cases.py $(program) $(calls) tests/kernel_cases
-	python3 tests/told.py $(program) tests/told.toml
-	python3 tests/client_threads.py $(program) $(calls) tests/client_threads.toml
 	python3 tests/command_lines.py $(program)
-	python3 tests/asked.py $(program)
 	python3 tests/several_files.py $(program) $(setups)
 	python3 tests/marks.py $(program) $(setups)
-	python3 tests/record.py $(program) $(setups)
 	python3 tests/beside_check.py $(program) $(setups)
 	python3 tests/names.py audits $(program) $(answers)/audits $(answers)/parts $(answers)/trees
 	python3 tests/names.py reports $(program) $(setups)/examples $(setups)/capabilities $(setups)/why_lookups $(answers)/explorations $(answers)/trees

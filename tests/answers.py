@@ -1,21 +1,25 @@
 #!/usr/bin/env python3
-"""answers.py PROGRAM SETUPS ANSWERS [WORD..]: each text that is wanted in the folders of SETUPS and ANSWERS, by the program, byte for
-byte; with words, those alone whose paths have one.
+"""answers.py [--pairs CALLS] PROGRAM SETUPS ANSWERS [WORD..]: each text that is wanted in the folders of SETUPS and ANSWERS, by the
+program, byte for byte; with words, only those whose paths have one.
 
 NAME.toml is a set-up. What a command writes of it stands beside it, in a file whose suffix FORMS has with the command. Options stand in
 the file NAME.args, one word a line, or else in the name: NAME.after-14.slot-320.audit is what `audit --after 14 --slot 320` writes, and
 NAME.first_2.explore what `explore --first 2` does. FORMS says which status is wanted: that in NAME.status, and 0 where there is no such
-file, or the one that the text stands for. Where NAME.err is there, it is what standard error says.
+file, or the one that the text stands for. If NAME.err is there, it is what standard error says.
+
+With --pairs CALLS, the program of crates/test_calls, each report is also wanted over three pairs of stores, for the set-up as it is and,
+if PROGRAM migrates it, for what that gives.
 
 In the end, of each folder, what the first command wrote is compared with another text, and has to differ. So has what was written
-of the set-ups of PLANTED from a file of SETUPS that has one wrong line, and from another status."""
+for the set-ups of PLANTED from a file of SETUPS that has one wrong line, and from another status; over each pair, too."""
+import argparse
 import os
 import pathlib
 import re
 import subprocess
 import sys
 
-from program import side_by_side
+from program import PAIRS, run, side_by_side
 
 
 def noted(file, _):
@@ -81,6 +85,16 @@ def faults(answer, wanted):
             yield f"{what} wanted\n{shown(want)}\ngot\n{shown(got)}"
 
 
+def over_pairs(program, calls, file):
+    """The name of each pair of stores, and its answer to the set-up of a report, or to what that is migrated to."""
+    text = file.with_suffix(".toml").read_bytes()
+    status, migrated = run(program, "migrate", text=text)
+    for how, given in (("", text), *[("migrated, ", migrated)] * (status == 0)):
+        for pair in PAIRS:
+            ended, written = run(calls, *pair, text=given)
+            yield f"{how}over {' and '.join(pair)}", (ended, written.encode(), None)
+
+
 def shown(it):
     return it.decode("utf-8", "replace") if isinstance(it, bytes) else it
 
@@ -97,27 +111,38 @@ def planted(answers):
 
 
 def planted_lines(answers, setups):
-    """The texts of PLANTED of which no fault is told."""
+    """The texts of PLANTED for which no fault is found; the answers to a file are a list."""
     for name, right in PLANTED.items():
-        answer, text = answers.get(setups / right), (setups / name).read_bytes()
-        if answer and not any(faults(answer, (answer[0], text, None))):
-            yield f"{right}: no fault where {name} is wanted"
-        if answer and not any(faults(answer, (answer[0] + 1, answer[1], None))):
-            yield f"{right}: no fault where another status is wanted"
+        text, (status, wanted, _) = (setups / name).read_bytes(), wanted_by(setups / right)
+        for answer in answers.get(setups / right, []):
+            if not any(faults(answer, (status, text, None))):
+                yield f"{right}: no fault if {name} is wanted"
+            if not any(faults(answer, (status + 1, wanted, None))):
+                yield f"{right}: no fault if another status is wanted"
 
 
 def main():
-    program, folders, words = os.path.abspath(sys.argv[1]), [*map(pathlib.Path, sys.argv[2:4])], sys.argv[4:]
+    parser = argparse.ArgumentParser(description="Compares each text that is wanted.")
+    parser.add_argument("--pairs", type=os.path.abspath, metavar="CALLS")
+    parser.add_argument("program", type=os.path.abspath)
+    parser.add_argument("folders", type=pathlib.Path, nargs=2)
+    parser.add_argument("words", nargs="*")
+    told = parser.parse_args()
+    program, calls, folders, words = told.program, told.pairs, told.folders, told.words
     there = sorted(it for folder in folders for it in folder.glob("*/*.*"))
     files = [it for it in there if it.suffix in FORMS and (not words or any(word in str(it) for word in words))]
     answers = dict(zip(files, side_by_side(lambda file: answer_to(program, file), files)))
     wrong = [f"{file}: {fault}" for file in files for fault in faults(answers[file], wanted_by(file))]
-    wrong += [*planted(answers), *planted_lines(answers, folders[0])]
+    reports = [it for it in files if calls and it.suffix == ".report"]
+    by_pairs = dict(zip(reports, side_by_side(lambda file: list(over_pairs(program, calls, file)), reports)))
+    wrong += [f"{file}: {pair}: {it}" for file, them in by_pairs.items() for pair, answer in them for it in faults(answer, wanted_by(file)[:2])]
+    wrong += [*planted(answers), *planted_lines({file: [answers[file], *(it for _, it in by_pairs.get(file, []))] for file in files}, folders[0])]
     wrong += [f"{it}: FORMS has no command for it" for it in there if it.suffix not in (*FORMS, *BESIDE)]
     counts = {suffix: sum(it.suffix == suffix for it in files) for suffix in FORMS}
     wrong += [f"there is no {suffix}" for suffix, count in counts.items() if not count and not words]
     told_counts = ", ".join(f"{count} {suffix}" for suffix, count in counts.items())
-    print("\n".join([*wrong, f"{told_counts}: {len(files)} texts, {len(wrong)} faults"]))
+    pairs = f", {len(reports)} reports over {len(PAIRS)} pairs of stores" if calls else ""
+    print("\n".join([*wrong, f"{told_counts}: {len(files)} texts{pairs}, {len(wrong)} faults"]))
     return 1 if wrong or not files else 0
 
 

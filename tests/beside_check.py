@@ -1,6 +1,6 @@
 #!/usr/bin/env python3
-"""beside_check.py PROGRAM FOLDER: what `trace`, `why` and `migrate` say of each set-up in the folders of FOLDER, beside what `check`
-writes. A refused set-up gets the line of its refusal; of any other these are compared.
+"""beside_check.py PROGRAM FOLDER: what `trace`, `why`, `migrate` and `record` write for each set-up in the folders of FOLDER, compared with
+what `check` writes. A refused set-up gets the line of its refusal; for any other these are compared.
 
 The trace has the report's lines of the calls, its last line and its exit status; a call that is refused, dropped or finds nothing has no
 changes; a line that goes was there, and one that comes was not; and the state behind the last call gives the report's lines of the state.
@@ -12,10 +12,15 @@ its exit status. Where there is a NAME.why, each call is also chosen by its numb
 number that no call has there is nothing, and the status is 4.
 
 `migrate` makes of a set-up of format 1 one of format 2 with the same report and the same exit status, and `check` says the same of it from
-standard input. By `migrate` that one is refused, since it has another format."""
+standard input. By `migrate` that one is refused, since it has another format.
+
+`record` writes the set-up in all but what its calls expect: each expects the reply that the report shows, and of a reply that is too long
+for an expectation all but the words of the message. By `check` each expectation of it is met. What is recorded of an exercise, marked by
+itself, is all right."""
 import pathlib
 import re
 import sys
+import tomllib
 
 from program import run, tried
 
@@ -23,6 +28,8 @@ KINDS = ["thread", "inbox", "endpoint", "slot", "selfheld", "sibling"]
 CALL = re.compile(r"[1-9][0-9]* [0-9]+ [a-z_]+: ")
 REFUSED = re.compile(r"[1-9][0-9]* [0-9]+ [a-z_]+: refused ")
 WITHOUT_CHANGES = re.compile(r"[0-9]+ [0-9]+ [a-z_]+: (refused|dropped|empty)\b")
+REPLY = re.compile(r"\d+ \d+ [a-z_]+: ([a-z0-9 /]+?)(?: \[(?:met|not met: .*)\])?")
+LONGEST_EXPECTATION = 120
 FIRST_FORMAT = re.compile(rb"^format *= *1 *(#.*)?$", re.MULTILINE)
 MOST_FORESTS = 12
 ABSENT = 4
@@ -183,14 +190,38 @@ def faults_of_migrated(program, migrated, wanted):
         yield "what comes out is migrated again"
 
 
+def expectation(reply):
+    """What is to be expected of a reply."""
+    return reply if len(reply) <= LONGEST_EXPECTATION else reply.partition(" words ")[0] + " words"
+
+
+def faults_of_recorded(program, setup, report, recorded):
+    """What is wrong with what a set-up is recorded as."""
+    status, text = recorded
+    wanted = tomllib.loads(setup.read_text())
+    replies = [found[1] for line in report.splitlines() if (found := REPLY.fullmatch(line))]
+    if len(replies) != len(wanted.get("call", [])):
+        yield f"{len(replies)} replies"
+    for call, reply in zip(wanted.get("call", []), replies):
+        call["expect"] = expectation(reply)
+    if status or tomllib.loads(text) != wanted:
+        yield f"recorded with status {status}, and another set-up: {text[:300]!r}"
+    status, checked = run(program, "check", "-", text=text)
+    if status or not checked.endswith(f"expected {len(replies)} of {len(replies)}\n"):
+        yield f"what is recorded is not met: {checked[-200:]!r}"
+    status, marks = run(program, "marks", "-", text=text)
+    if status or not marks.endswith(f"marks {len(replies)} of {len(replies)} open 0\n"):
+        yield f"what is recorded is not right: {marks[-200:]!r}"
+
+
 def faults(program, setup):
     """What is wrong with what is said of a set-up."""
-    (status, report), *told = (run(program, command, setup) for command in ("check", "trace", "why"))
+    (status, report), recorded, *told = (run(program, command, setup) for command in ("check", "record", "trace", "why"))
     given, *migrated = (run(program, it, text=setup.read_bytes()) for it in ("check", "migrate")) if is_first(setup) else [(status, report)]
     if given != (status, report):
         yield "another report or another status from standard input"
     if status == 2:
-        yield from (f"wanted the refusal {report}got {it}" for it in (*told, *migrated) if it != (status, report))
+        yield from (f"wanted the refusal {report}got {it}" for it in (recorded, *told, *migrated) if it != (status, report))
         return
     yield from (f"status {it[0]}, and that of check is {status}" for it in told if it[0] != status)
     trace, why = (text for _, text in told)
@@ -200,6 +231,7 @@ def faults(program, setup):
     yield from faults_of_all(calls, lines, why)
     if setup.with_suffix(".why").exists():
         yield from faults_of_chosen(program, setup, calls, why, status)
+    yield from faults_of_recorded(program, setup, report, recorded)
     if migrated:
         yield from faults_of_migrated(program, *migrated, (status, report))
 
@@ -213,7 +245,7 @@ def main():
     setups = sorted(folder.glob("*/*.toml"))
     chosen, migrated = sum(it.with_suffix(".why").exists() for it in setups), sum(map(is_first, setups))
     passed, failed = tried(setups, lambda setup: faults(program, setup))
-    print(f"{passed} set-ups with traces and reasons as their reports are, {chosen} of them call by call, {migrated} migrated; {failed} not")
+    print(f"{passed} set-ups with traces, reasons and records as their reports are, {chosen} of them call by call, {migrated} migrated; {failed} not")
     return 1 if failed or not chosen or not migrated else 0
 
 

@@ -9,8 +9,7 @@ import re
 import sys
 import tomllib
 
-from pairs import PAIRS
-from program import document, run, tried
+from program import PAIRS, document, run, tried
 
 BOOT = {"format": 1, "memory_bits": 16, "root_radix": 4, "endpoints": 1, "untyped": [{"base": 16384, "bits": 12}]}
 

@@ -4,6 +4,9 @@ import json
 import os
 import subprocess
 
+# The pairs of a capability store and a store of waiting threads that the program does not run; that of crates/test_calls does.
+PAIRS = (("RowStore", "RowWaiters"), ("LinkedStore", "RowWaiters"), ("RowStore", "LinkedWaiters"))
+
 
 def answer(program, *words, text=b"", **how):
     """The status of the program with these words and this text on standard input, what it writes, and what it says on standard error."""

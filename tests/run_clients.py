@@ -10,7 +10,7 @@ are fewer than N, and with as many as `limit` says where that is less. Without i
 
 It tells in how many orders the clients' calls came, and in how many runs each client was alone, which is where it made all
 of its calls with no other client's call between them. Both hang on what else the machine does, so neither is wanted to be a
-certain number: `client_threads.py` has orders that a gate makes.
+certain number: `cases/threads.toml` has orders that a gate makes.
 """
 import argparse
 import itertools

@@ -12,53 +12,7 @@ import tomllib
 
 from program import run, tried
 
-SIZES = "format = 1\nmemory_bits = 16\nroot_radix = 4\nthreads = 2\nendpoints = 1\n"
 FIRST_FORMAT = re.compile(r"^format = 1$", re.M)
-# Two clients, of which the first sends to the second.
-CLIENTS = SIZES + """clients = 2
-[[untyped]]
-base = 16384
-bits = 12
-[[call]]
-thread = "0x800"
-op = "send"
-cap = 4
-label = 7
-words = [1, "0xFfffFFFFffffFFFF"]
-[[call]]
-thread = 4096
-op = "recv"
-cap = 4
-client = 1
-expect = "delivered 6144 from 2048"
-"""
-DELIVERED = "delivered 6144 from 2048 to 4096 badge 0 label 7 words 1 18446744073709551615"
-# The words, the set-up, the status, and lines of what is written.
-LINES = [
-    (["check"], SIZES, 0, ["thread 2048 ready", "thread 4096 ready", "expected 0 of 0"]),
-    (["check"], SIZES + "untyped = [{ base = 16384, bits = 12 }]\n"
-     'call = [{ op = "send", thread = 2048, cap = 4, expect = "waiting" }]\n', 0, ["1 2048 send: waiting [met]", "expected 1 of 1"]),
-    (["check"], CLIENTS, 0,
-     ["1 2048 send: waiting", f"2 4096 recv: {DELIVERED} [met]", "slot 160 untyped 16384 bits 12 free 0", "expected 1 of 1"]),
-    (["threads", "--first", "2"], CLIENTS, 0,
-     ["1 client 0 number 0: 2048 send: waiting", f"2 client 1 number 0: 4096 recv: {DELIVERED}", "entries 2 of 2"]),
-    (["check"], b"\xff", 2, ["set-up refused 200 at text"]),
-    (["migrate"], "format = 1\nthreads", 2, ["set-up refused 200 at text"]),
-    (["migrate"], "format\n", 2, ["set-up refused 200 at text"]),
-    (["migrate"], "format = 2\n", 2, ["set-up refused 204 at top key format"]),
-    (["migrate"], "format = 2\nnames = {}\n", 2, ["set-up refused 204 at top key format"]),
-    (["migrate"], "format = 1\nnames = {}\n", 2, ["set-up refused 201 at top key names"]),
-    (["migrate"], "format = 1\nmemory_bits = 12\nroot_radix = 12\nthreads = 1\nendpoints = 0\n", 2, ["set-up refused 205 at layout outside"]),
-]
-
-
-def faults_of_lines(program, case):
-    """What is wrong with what is written, of which each of the lines is one."""
-    words, text, status, wanted = case
-    ended, written = run(program, *words, text=text)
-    lines = written.splitlines()
-    if ended != status or any(line not in lines for line in wanted) or status == 2 and lines != wanted:
-        yield f"status {ended}, wanted {status}; wanted {wanted}, and {written!r} was written"
 
 
 def faults_of_text(program, text, wanted):
@@ -110,7 +64,6 @@ def main(program, folder):
     texts = list(tables(folder, "refusals", "names", "profiles"))
     migrations = tomllib.loads(pathlib.Path(folder, "migrations.toml").read_text())["set-up"]
     results = {
-        "lines": tried(LINES, lambda case: faults_of_lines(program, case)),
         "texts": tried(texts, lambda case: faults_of_text(program, *case[1:])),
         "operations": tried(list(tables(folder, "operations")), lambda case: faults_of_operation(program, *case[1:])),
         "migrations": tried(migrations, lambda setup: faults_of_migration(program, setup)),

@@ -6,8 +6,7 @@ once more, and nobody waits on it. So it is over the other pairs of stores, whic
 """
 import sys
 
-from pairs import PAIRS
-from program import run
+from program import PAIRS, run
 
 SIZES = """format = 1
 memory_bits = 16
