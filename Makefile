@@ -1,7 +1,7 @@
 # The targets of this repository; make help lists them. Each says first what it needs and does not find.
 .DEFAULT_GOAL := run
 
-.PHONY: help run test prove gate dist dist-test install uninstall rows rows-needs rows-python browser browser-test browser-short page page-test needs bench named-bodies wrong-bodies
+.PHONY: help run test prove gate release dist dist-test install uninstall rows rows-needs rows-python browser browser-test browser-short page page-test needs bench named-bodies wrong-bodies
 
 program = crates/sel4sim/out/sel4sim
 calls = crates/test_calls/out/test_calls
@@ -36,6 +36,10 @@ prove:
 gate:
 	@python3 tools/gate.py
 
+# tags this commit as the version of CHANGELOG.md's top section, if the program, the man page and the page are of that version
+release:
+	@python3 tools/release.py
+
 # packs the proved program into dist/: an archive with examples, pages, man page and completions, a Debian package, and the module for WebAssembly
 dist:
 	@python3 tools/archive.py dist
@@ -68,6 +72,7 @@ rows-python:
 	@python3 tests/needs.py $(program)
 	python3 tools/test_build.py
 	python3 tools/pages_test.py
+	python3 tools/release_test.py
 	python3 tools/pages.py --check $(program)
 	python3 tests/exercises.py $(program) $(setups) $(answers)/goals
 	python3 tests/answers.py --pairs $(calls) $(program) $(setups) $(answers)
