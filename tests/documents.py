@@ -16,6 +16,7 @@ A page's blocks are taken in order, in a folder of the page's own that has `crat
 A line of three dots stands for any lines. A block of another kind is a fault, so that none is forgotten. Each link to a file
 of the repository has to lead to one, and to a heading where it names one. No line of prose, and none of README, is longer than 120 columns,
 and no cell of a table has more than 60 words, but for what a tool makes. The newest version of a change log is the one that the program prints.
+In the end it says how many words are written by hand.
 """
 import os
 import pathlib
@@ -153,6 +154,12 @@ def too_long(page):
         yield from (f"{page}: a cell of more than {MOST_WORDS} words: {' '.join(cell[:8])} .." for cell in cells if len(cell) > MOST_WORDS)
 
 
+def words_by_hand(page):
+    """How many words a page has, but for what a tool makes."""
+    text = page.read_text()
+    return 0 if "<!-- Made by " in text else len(MADE.sub("", text).split())
+
+
 def other_version(page, program):
     """That the newest version of a change log is not the one that the program prints."""
     newest = VERSION.search(page.read_text()) if page.name == "CHANGELOG.md" else None
@@ -183,7 +190,7 @@ def main():
     wrong = [fault for page in pages for fault in faults(page, program)]
     for fault in wrong:
         print(fault)
-    print(f"{len(pages)} pages, {len(wrong)} faults")
+    print(f"{len(pages)} pages with {sum(map(words_by_hand, pages))} words by hand, {len(wrong)} faults")
     return 1 if wrong or not pages else 0
 
 
