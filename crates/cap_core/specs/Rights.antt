@@ -2,11 +2,11 @@
 use Rattle.std.specs.Prelude.{ℕ, ◌+◌}
 use Rattle.cap_core.specs.declared.rights.Rights.{Rights}
 
--- to send
+-- the right Write, to send
 abbrev pub write_bit : ℕ
 write_bit = 1
 
--- to receive
+-- the right Read, to receive
 abbrev pub read_bit : ℕ
 read_bit = 2
 

@@ -22,7 +22,7 @@ abbrev pub IsSetUpAnswer : (ProfileName → ReadView → List ℕ → Verdict �
 IsSetUpAnswer answers (Ok read) text verdict = answers read.setup.profile read text verdict
 IsSetUpAnswer answers (Err fault) text verdict = (text ≡ refusal_line fault) × (verdict ≡ Refused)
 
--- of the set-up that the bytes are, in the profile that it names
+-- the answer about the set-up that the bytes are, in the profile that it names, or the line of its refusal
 abbrev pub IsAnswerTo : (ProfileName → ReadView → List ℕ → Verdict → Type 0) → List ℕ → List ℕ → Verdict → Type 0
 IsAnswerTo answers bytes text verdict = IsSetUpAnswer answers (read_of_bytes bytes) text verdict
 

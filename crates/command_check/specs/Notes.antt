@@ -14,14 +14,14 @@ abbrev pub unexpected_at : ℕ → Option (List ℕ) → Reply → List ℕ
 unexpected_at number None (Refused refusal) = number ∷ []
 unexpected_at number expected reply = []
 
--- the numbers of those calls, if the first call has this number
+-- the numbers of the calls that are refused and expect nothing, if the first call has this number
 abbrev pub unexpected_from : ℕ → List CallView → List Reply → List ℕ
 unexpected_from number [] replies = []
 unexpected_from number (call ∷ calls) [] = []
 unexpected_from number (call ∷ calls) (reply ∷ replies) =
     unexpected_at number call.expect reply ++ unexpected_from (number + 1) calls replies
 
--- those of the run of a set-up in the profile that it names
+-- the numbers of such calls in the run of a set-up, in the profile that it names
 abbrev pub unexpected_in : Result SetupView Fault → List ℕ
 unexpected_in (Ok setup) = unexpected_from 1 setup.calls (replies_to setup.profile setup)
 unexpected_in (Err fault) = []

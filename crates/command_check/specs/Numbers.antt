@@ -10,7 +10,7 @@ client_numbers client number [] = []
 client_numbers client number (call ∷ calls) =
     cond (call.client == client) (number ∷ client_numbers client (number + 1) calls) (client_numbers client (number + 1) calls)
 
--- those of each client
+-- the numbers of each client's calls
 abbrev pub client_numbers_of : SetupView → List (List ℕ)
 client_numbers_of setup = map (λ client. client_numbers client 1 setup.calls) (range_with_len 0 setup.clients)
 

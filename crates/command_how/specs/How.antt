@@ -69,7 +69,7 @@ asking p names plan v w from to memory = record {
   without = objects_named Thread p names plan v w.without;
 }
 
--- nothing is written
+-- nothing is written, and what is asked for is not there
 abbrev pub IsNothing : List ℕ → Verdict → Type 0
 IsNothing text verdict = (text ≡ []) × (verdict ≡ Absent)
 
@@ -157,6 +157,6 @@ IsHowBy w p names setup made v text verdict =
     (IsToldOfMeant p w names setup made v (object_meant Thread p names setup.plan v w.from) (object_meant Thread p names setup.plan v w.to) text verdict)
     (IsNothing text verdict))
 
--- the same of the state after the first calls
+-- the text and the verdict of `how`, of the state after the first calls
 abbrev pub IsHow : Words → ProfileName → Names → SetupView → ℕ → State → List ℕ → Verdict → Type 0
 IsHow w p names setup made A text verdict = IsHowBy w p names setup made (shown A) text verdict

@@ -104,7 +104,7 @@ IsInside p q v Message = IsNeverSaid p q v Possible
 IsInside p q v Hold = SharesPart q.memory q.from q.to
 IsInside p q v Loss = TakesFrom q.memory v q.from q.to
 
--- never both: what is excluded of a state no calls from it show
+-- what is excluded of a state is shown by no calls from it
 abbrev pub HasNoWitness : ProfileName → Asking → List PartUse → State → List Call → Type 0
 HasNoWitness p q uses A calls = IsReached p A → IsExcluded p q uses (shown A) → IsShown p q A calls → ⊥
 
@@ -115,10 +115,10 @@ IsOutsideFlow p q v Message = PassesNoneEver p q.without v q.by q.from q.to
 IsOutsideFlow p q v Hold = NamesNoneEver p q.without v q.from q.to
 IsOutsideFlow p q v Loss = ChangesNoneEver p q.without v q.from × (is_number_listed q.without q.to ≡ false)
 
--- what a flow excludes of a state no calls from it show
+-- what a flow excludes of a state is shown by no calls from it
 abbrev pub HasNoWitnessByFlow : ProfileName → Asking → State → List Call → Type 0
 HasNoWitnessByFlow p q A calls = IsReached p A → IsOutsideFlow p q (shown A) q.what → IsShown p q A calls → ⊥
 
--- nor is it both ruled out and not: parts that may be written give one answer, however they are written
+-- nothing is both ruled out and not: all parts that may be written give one answer
 abbrev pub IsOnlyOne : ProfileName → Asking → List PartUse → State → Type 0
 IsOnlyOne p q uses A = IsReached p A → IsRuledOut p q uses (shown A) q.what → IsInside p q (shown A) q.what → ⊥

@@ -36,8 +36,8 @@ IsDecidedWithBadge p q uses A =
     IsReached p A → AreRightParts p (shown A) q.without q.memory uses → LieInTwoStill p q.without q.memory uses (shown A) q.from q.to →
     q.what ≡ Message → ((calls : List Call) → IsShown p q A calls → ⊥) ⊎ IsShownAlone p q A
 
--- what `never` answers with `possible decided`: the parts leave it open, and sends of the one thread and receives of the other alone
--- show such a message
+-- what `never` answers with `possible decided`: the parts leave it open, and sends of the one thread and receives of the other
+-- are enough to show such a message
 abbrev pub IsToldDecided : ProfileName → Asking → List PartUse → State → Type 0
 IsToldDecided p q uses A =
     IsReached p A → AreRightParts p (shown A) q.without q.memory uses → IsFounded p q.without q.memory (shown A) q.by q.from q.to Decided →

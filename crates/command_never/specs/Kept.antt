@@ -54,7 +54,7 @@ pub record AreKept (p : ProfileName) (parts : Parts) (by : List ℕ) (i j : ℕ)
       IsKeptFrom p parts by j (cap_at (state_after p A calls).derivations slot)
   pub deliveries : Each (TellsKept parts by i j) (replies_of p A calls)
 
--- so it is from each state that is shown, for whatever calls of threads that lie in the parts, and messages of others
+-- part i is kept from part j, by whatever calls of threads that lie in the parts, and messages of others, from each state that is shown
 abbrev pub AreKeptEver : ProfileName → List PartMemory → List PartUse → Shown → List ℕ → ℕ → ℕ → Type 0
 AreKeptEver p memory uses v by i j =
     (A : State) → IsReached p A → v ≡ shown A → (calls : List Call) → Each (IsAllowed (parts_listed memory uses)) calls →

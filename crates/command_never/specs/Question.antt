@@ -82,7 +82,7 @@ IsNeverBy asked texts p names setup made refused v text verdict =
     (IsNeverAnswered texts p names setup made refused v asked (object_meant Thread p names setup.plan v asked.from) (object_meant Thread p names setup.plan v asked.to) text verdict)
     (IsAbsent text verdict)
 
--- the same of the state after the first calls
+-- the text and the verdict of `never`, of the state after the first calls
 abbrev pub IsNever : Asked → ProfileName → Names → SetupView → ℕ → State → List ℕ → Verdict → Type 0
 IsNever asked p names setup made A text verdict =
     IsNeverBy asked (texts_of asked.by_name p names setup.plan (shown A)) p names setup made (refused_behind p setup made) (shown A) text verdict

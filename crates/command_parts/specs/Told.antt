@@ -22,7 +22,7 @@ IsEverOf trust texts p names setup made refused v text verdict =
     × (verdict ≡ AllMet))
     ((text ≡ []) × (verdict ≡ Absent))
 
--- the same of the state after the first calls, by addresses or by names
+-- the text and the verdict of `ever`, of the state after the first calls, by addresses or by names
 abbrev pub IsEver : Trusted → Bool → ProfileName → Names → SetupView → ℕ → State → List ℕ → Verdict → Type 0
 IsEver trust by_name p names setup made A text verdict =
     IsEverOf trust (texts_of by_name p names setup.plan (shown A)) p names setup made (refused_behind p setup made) (shown A) text verdict

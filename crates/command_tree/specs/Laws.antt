@@ -21,7 +21,7 @@ held_in f = renamed held_capability f
 abbrev pub held_behind : Option ℕ → SetupView → Option (Forest (ℕ × Cap))
 held_behind after setup = option_map (λ made. held_in (state_behind setup.profile setup made).derivations) (calls_made setup after)
 
--- the same of what is read of an input; none if that is refused
+-- the forest after the calls that are asked for, of what is read of an input; none if that is refused
 abbrev pub held_when_read : Option ℕ → Result ReadView Fault → Option (Forest (ℕ × Cap))
 held_when_read after (Ok read) = held_behind after read.setup
 held_when_read after (Err fault) = None

@@ -23,7 +23,7 @@ those names list = filter names list
 abbrev pub others : (Waiter → Bool) → List Waiter → List Waiter
 others names list = filter (λ waiter. not (names waiter)) list
 
--- a thread waits no more
+-- who waits after a thread waits no more
 abbrev pub after_cancel_thread : ℕ → Waits → Waits
 after_cancel_thread thread w =
     record { queue = λ e. others (is_thread thread) (w.queue e); role = changed w.role thread None }
@@ -36,7 +36,7 @@ after_cancel e names w =
       role = λ t. cond (list_any (is_thread t) (those names (w.queue e))) None (w.role t);
     }
 
--- the senders with a badge, or all that wait
+-- who waits after the sends with a badge on an endpoint are cancelled
 abbrev pub after_cancel_badge : ℕ → Badge → Waits → Waits
 after_cancel_badge e badge w = after_cancel e (is_sender_with badge) w
 

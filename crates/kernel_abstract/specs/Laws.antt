@@ -31,7 +31,7 @@ WaitsWhereOpen p A e =
     (waiting_sends A e ≡ filter (is_open_send A) (sends_to A e)) ×
     (waiting_receives A e ≡ filter (is_open_receive A) (receives_of A e))
 
--- the thread of a send that waits is one that sends there, and so with receives
+-- the thread of each send that waits at an endpoint is shown to send there
 abbrev pub TellsItsSenders : ProfileName → State → Instance → Type 0
 TellsItsSenders p A e =
     IsReached p A → All (λ (s : SendRecord). state_of A s.thread ≡ Sending e.base) (waiting_sends A e)
@@ -41,7 +41,7 @@ abbrev pub TellsItsReceivers : ProfileName → State → Instance → Type 0
 TellsItsReceivers p A e =
     IsReached p A → All (λ (a : ReceiveRecord). state_of A a.thread ≡ Receiving e.base) (waiting_receives A e)
 
--- the thread of a send that waits is live, and so with receives
+-- the thread of each send that waits is live
 abbrev pub HasLiveSenders : ProfileName → State → Instance → Type 0
 HasLiveSenders p A e =
     IsReached p A → All (λ (s : SendRecord). is_thread_live A A.derivations s.thread ≡ true) (waiting_sends A e)

@@ -42,7 +42,7 @@ where_same word number (Err reason) = None
 abbrev pub number_hint : ProfileName → ℕ → Result ℕ Reason → Option Hint
 number_hint p word found = cond (word % slot_size p == 0) (where_same word (word / slot_size p) found) None
 
--- for a word of a thread
+-- the number of a slot that leads to it, for a word of a thread that is its address
 abbrev pub word_hint : ProfileName → Forest Entry → ℕ → ℕ → Option Hint
 word_hint p f thread word = number_hint p word (slot_by_word p f Invoked thread (word / slot_size p))
 

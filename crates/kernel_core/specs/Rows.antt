@@ -79,7 +79,7 @@ pub record IsKernel (p : ProfileName) (memory store_memory waiters_memory : ℕ)
   pub dead_queue : (e : ℕ) → list_any (λ k. e == k) (endpoints_of f) ≡ false → w.queue e ≡ []
   pub rowless_role : (t : ℕ) → get (rows_map (tcb_size p) rows) t ≡ None → w.role t ≡ None
 
--- so it is between calls: and no slot is in the chain, which has a link for each slot of the memory
+-- what holds of a kernel's parts between its calls: also that no slot is in the chain, which has a link for each slot of the memory
 pub record IsBetweenCalls (p : ProfileName) (memory store_memory waiters_memory : ℕ) (f : Forest Entry)
     (rows : List (Option ThreadRow)) (w : Waits) (chain : List ℕ × ℕ) : Type 0 where
   pub kernel : IsKernel p memory store_memory waiters_memory f rows w

@@ -10,7 +10,7 @@ use Rattle.kernel_forest.specs.Forest.{Forest, preorder}
 use Rattle.kernel_forest.specs.Entries.{Entry, cap_at, is_full}
 use Rattle.kernel_delete.specs.Work.{ends, list_after}
 
--- it passes one of two tests
+-- a capability passes one of two tests
 abbrev pub either : (Cap → Bool) → (Cap → Bool) → Cap → Bool
 either p q c = p c || q c
 

@@ -8,7 +8,7 @@ use Rattle.kernel_forest.specs.Derivation.{emptied, is_named}
 use Rattle.kernel_delete.specs.Least.{cleared}
 use Rattle.kernel_forest.specs.Without.{without}
 
--- all of the set have left, and with them whether they were original
+-- a forest after a slot is cleared: the least set that leaves with it is taken out
 abbrev pub clear : ProfileName → ℕ → Forest Entry → Forest Entry
 clear p s f = without (λ (e : Entry). cleared p (preorder f) s e.slot) f
 

@@ -10,6 +10,6 @@ use Rattle.kernel_forest.specs.Slots.{slots_of}
 abbrev pub is_housed : ProfileName → Forest Entry → ℕ → Bool
 is_housed p f n = list_any (λ (a : Entry). list_any (λ m. m == n) (slots_of p a.cap)) (preorder f)
 
--- each full slot is
+-- each full slot stands in a live CNode or thread
 abbrev pub IsHoused : ProfileName → Forest Entry → Type 0
 IsHoused p f = Each (λ (e : Entry). is_housed p f e.slot ≡ true) (preorder f)

@@ -27,6 +27,6 @@ abbrev pub StaysInItself : ProfileName → ℕ → List Entry → ℕ → Entry 
 StaysInItself p size l s b =
     IsClearable p size l → In b l → In b.slot (slots_of p b.cap) → (b.slot ≡ s → ⊥) → cleared p l s b.slot ≡ false
 
--- a slot with a first child is revoked as after that was cleared
+-- a revoke of a slot clears its first child, and goes on with what that leaves
 abbrev pub GoesOnFrom : ProfileName → ℕ → ℕ → Forest Entry → Type 0
 GoesOnFrom p s c f = first_child s f ≡ Some c → revoke p s f ≡ revoke p s (clear p c f)

@@ -36,6 +36,6 @@ abbrev pub rounds : ProfileName → ℕ → List Entry → (ℕ → Bool) → (�
 rounds p zero l X = X
 rounds p (suc k) l X = grown p l (rounds p k l X)
 
--- from only s, as many rounds as there are full slots
+-- whether a slot leaves when s is cleared: s leaves first, and then as many rounds are made as there are full slots
 abbrev pub cleared : ProfileName → List Entry → ℕ → (ℕ → Bool)
 cleared p l s = rounds p (length l) l (λ n. n == s && full l n)

@@ -10,6 +10,7 @@ abbrev pub revoked : ProfileName → ℕ → ℕ → Forest Entry → Forest Ent
 revoked p zero s f = f
 revoked p (suc k) s f = elim (first_child s f) [ None ↦ f | Some c ↦ revoked p k s (clear p c f) ]
 
--- each time at least the child leaves, so as many times as there are full slots are enough
+-- a forest after a revoke of a slot: its first child is cleared as long as there is one. Each time at least that child leaves, so as many times as
+-- there are full slots are enough
 unfoldable pub revoke : ProfileName → ℕ → Forest Entry → Forest Entry
 revoke p s f = revoked p (length (preorder f)) s f

@@ -7,7 +7,7 @@ pub data Forest (A : Type 0) : Type 0 where
   none : Forest A
   tree : A → Forest A → Forest A → Forest A
 
--- all its elements, each before those below it, from the first tree on
+-- all elements of a forest, each before those below it, from the first tree on
 abbrev pub preorder : {A : Type 0} → Forest A → List A
 preorder none = []
 preorder (tree a under others) = a ∷ (preorder under ++ preorder others)
@@ -17,7 +17,7 @@ abbrev pub join : {A : Type 0} → Forest A → Forest A → Forest A
 join none more = more
 join (tree a under others) more = tree a under (join others more)
 
--- the roots
+-- the roots of the trees
 abbrev pub tops : {A : Type 0} → Forest A → List A
 tops none = []
 tops (tree a under others) = a ∷ tops others

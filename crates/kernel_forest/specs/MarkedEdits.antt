@@ -4,7 +4,7 @@ use Rattle.cap_core.specs.declared.capability.Cap.{Cap}
 use Rattle.kernel_forest.specs.Derivation.{is_new_original, with_free}
 use Rattle.kernel_forest.specs.Marked.{Marked, marked, with_cap, at_place, with_mark, row_in}
 
--- after all others, with both marks
+-- a capability after all others, with both marks
 abbrev pub appended : ℕ → Cap → List Marked → List Marked
 appended place cap l = l ++ marked place cap true true ∷ []
 

@@ -28,7 +28,7 @@ pub record IsKindTest {X : Type 0} (same : X → X → Bool) : Type 0 where
   pub itself : (x : X) → same x x ≡ true
   pub along : (x y z : X) → same x y ≡ true → same y z ≡ true → same x z ≡ true
 
--- what follows from elements of one kind is of the same kinds
+-- elements of one kind are followed by elements of the same kinds
 pub record KeepsKinds {X Y : Type 0} (same : X → X → Bool) (alike : Y → Y → Bool) (Fine : X → Type 0) (next : X → List Y) : Type 0 where
   pub each : (x y : X) → Fine x → Fine y → same x y ≡ true → HasKinds alike (next x) (next y)
 

@@ -38,7 +38,7 @@ pub record Lawful (p : ProfileName) (opening : Shown) (h : List Entry) : Type 0 
 pub record StandsAfter (p : ProfileName) (opening : Shown) (h : List Entry) (k : Shown) : Type 0 where
   pub stands : (A : State) → IsReached p A → opening ≡ shown A → k ≡ shown (state_after p A (entry_calls h))
 
--- the state that the opening stands for
+-- a reached state that shows what the opening of a history shows
 pub record Begins (p : ProfileName) (start : State) (opening : Shown) : Type 0 where
   pub reached : IsReached p start
   pub shows : opening ≡ shown start

@@ -5,7 +5,7 @@ use Rattle.left_right.specs.Sides.{view}
 use Rattle.kernel_shared.specs.declared.entry.Entry.{Entry}
 
 module _ {T P A : Type 0} where
-  -- nothing, without a reader
+  -- what a reader has seen of the history: nothing, without a reader
   abbrev pub seen_of : Option (Reader T (List Entry) P A) → List Entry
   seen_of (Some reader) = view reader.place
   seen_of None = []

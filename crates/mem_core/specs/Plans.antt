@@ -14,7 +14,7 @@ pub record IsRegion (base bits free : ℕ) : Type 0 where
   pub used : free ≤ 2 ^ bits
   pub end : base + 2 ^ bits < 2 ^ 63
 
--- a capability of such a region
+-- the capability of an untyped region from which objects can be made
 abbrev pub IsRetypable : Cap → Type 0
 IsRetypable (Untyped base bits free) = IsRegion base bits free
 IsRetypable _ = ⊥

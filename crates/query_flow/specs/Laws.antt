@@ -51,7 +51,7 @@ abbrev pub TellsOfFlow : Flow → Shown → Reply → Type 0
 TellsOfFlow flow v (Delivered endpoint from to badge message) = WaitsOrSends flow v endpoint from badge message × WaitsOrHears flow v endpoint to
 TellsOfFlow flow v reply = ⊤
 
--- so it is of each reply to these calls
+-- each reply to these calls shows a delivery that the flow lets be, or none
 abbrev pub TellFlow : ProfileName → Flow → State → List Call → Type 0
 TellFlow p flow A calls =
     IsReached p A → IsSettled p flow → HoldsWhatMayStand flow A.derivations → Each (IsExpected flow) calls →

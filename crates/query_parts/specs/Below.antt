@@ -28,7 +28,7 @@ TakesNothing p parts i j A call =
     (i ≡ j → ⊥) → StandsNoneBelow parts i j A.derivations →
     (slot : ℕ) → parts.part_of slot ≡ Some j → cap_at (step p A call).state.derivations slot ≡ cap_at A.derivations slot
 
--- and each slot outside the part, if none outside it stands below a slot of it
+-- a call of a thread of a closed part leaves each slot outside the part as it is, if none outside it stands below a slot of it
 abbrev pub TakesNothingOutside : ProfileName → Parts → ℕ → State → Call → Type 0
 TakesNothingOutside p parts i A call =
     IsReached p A → IsClosed p parts i A.derivations → parts.part_of call.thread ≡ Some i →

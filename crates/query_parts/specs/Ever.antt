@@ -18,7 +18,7 @@ pub record IsConfined (p : ProfileName) (memory : List PartMemory) (uses : List 
   pub sends : SendsOnly p (parts_listed memory uses) A (state_after p A calls)
   pub receives : ReceivesOnly p (parts_listed memory uses) A (state_after p A calls)
 
--- so it is from each state that is shown, for whatever calls of threads that lie in the parts, and messages of others
+-- parts are confined, by whatever calls of threads that lie in the parts, and messages of others, from each state that is shown
 abbrev pub AreConfinedEver : ProfileName → List PartMemory → List PartUse → Shown → Type 0
 AreConfinedEver p memory uses v =
     (A : State) → IsReached p A → v ≡ shown A → (calls : List Call) → Each (IsAllowed (parts_listed memory uses)) calls →

@@ -29,13 +29,14 @@ StaysClosed p parts i A call =
     IsReached p A → IsClosed p parts i A.derivations → parts.part_of call.thread ≡ Some i →
     IsClosed p parts i (step p A call).state.derivations
 
--- and puts nothing new into a slot outside it
+-- a call of a thread of a closed part puts nothing new into a slot outside the part
 abbrev pub LeavesOthers : ProfileName → Parts → ℕ → State → Call → Type 0
 LeavesOthers p parts i A call =
     IsReached p A → IsClosed p parts i A.derivations → parts.part_of call.thread ≡ Some i →
     IsUntouched parts i A.derivations (step p A call).state.derivations
 
--- nor does it empty one, but of an object of the part, or of an endpoint that the part may use
+-- a call of a thread of a closed part empties a slot outside the part only of a capability to an object of the part, or to an endpoint that the part may
+-- use
 abbrev pub TakesOnlyNear : ProfileName → Parts → ℕ → State → Call → Type 0
 TakesOnlyNear p parts i A call =
     IsReached p A → IsClosed p parts i A.derivations → parts.part_of call.thread ≡ Some i →
@@ -113,7 +114,7 @@ abbrev pub SendWithin : ProfileName → Parts → State → List Call → Type 0
 SendWithin p parts A calls =
     IsReached p A → AreClosed p parts A → Each (IsAllowed parts) calls → SendsOnly p parts A (state_after p A calls)
 
--- and what they receive they may receive
+-- whatever calls the threads of closed parts make, what they receive they may receive
 abbrev pub ReceiveWithin : ProfileName → Parts → State → List Call → Type 0
 ReceiveWithin p parts A calls =
     IsReached p A → AreClosed p parts A → Each (IsAllowed parts) calls → ReceivesOnly p parts A (state_after p A calls)
@@ -124,7 +125,7 @@ SendByParts p parts A calls =
     IsReached p A → AreClosed p parts A → Each (IsOfSomePart parts) calls →
     (more : List SendRecord) × (((state_after p A calls).sends ≡ A.sends ++ more) × Each (IsSentByPart p parts) more)
 
--- and each new receive is of a thread of some part, which may receive so
+-- if the threads of closed parts make all calls, each new receive is of a thread of some part, which may receive so
 abbrev pub ReceiveByParts : ProfileName → Parts → State → List Call → Type 0
 ReceiveByParts p parts A calls =
     IsReached p A → AreClosed p parts A → Each (IsOfSomePart parts) calls →

@@ -47,7 +47,7 @@ IsSentByHeld parts i A s =
     parts.part_of s.thread.base ≡ Some i →
     (slot : ℕ) × ((rights : Rights) × ((parts.part_of slot ≡ Some i) × ((cap_at A.derivations slot ≡ Endpoint s.endpoint.base s.badge rights) × (has_right write_bit rights ≡ true))))
 
--- and what its threads send they send by what its slots held in the beginning
+-- the threads of such a part send only by what its slots held in the beginning
 abbrev pub SendsByHeld : ProfileName → Parts → ℕ → State → List Call → Type 0
 SendsByHeld p parts i A calls =
     IsReached p A → AreClosed p parts A → PassesAlone p parts i A.derivations → Each (IsAllowed parts) calls →

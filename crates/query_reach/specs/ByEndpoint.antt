@@ -5,7 +5,7 @@ use Rattle.cap_core.specs.Rights.{read_bit}
 use Rattle.kernel_abstract.specs.Decode.{has_right}
 use Rattle.query_reach.specs.declared.endpoints.EndpointWord.{EndpointWord}
 
--- a word that leads to a capability of an endpoint; one by which its thread may receive
+-- whether a word leads to a capability of an endpoint, and whether its thread may receive by it
 abbrev pub leads_to : ℕ → EndpointWord → Bool
 leads_to e v = v.endpoint == e
 
@@ -16,6 +16,6 @@ may_receive v = has_right read_bit v.rights
 abbrev pub same_receiver : EndpointWord → EndpointWord → Bool
 same_receiver v w = (v.endpoint == w.endpoint) && (v.thread == w.thread)
 
--- no endpoint comes after a greater one
+-- the words are in the order of their endpoints
 abbrev pub AreByEndpoint : List EndpointWord → Type 0
 AreByEndpoint words = IsNonDecreasingBy (λ (v : EndpointWord). v.endpoint) words

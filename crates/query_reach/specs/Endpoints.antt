@@ -14,6 +14,6 @@ endpoint_word thread shared word (Endpoint base badge rights) =
     Some (record { thread = thread; shared = shared; word = word; endpoint = base; badge = badge; rights = rights })
 endpoint_word thread shared word cap = None
 
--- those of a list of reached slots
+-- the words of a list of reached slots that lead to endpoints' capabilities
 abbrev pub endpoint_words : Forest Entry → ℕ → Bool → List Reached → List EndpointWord
 endpoint_words f thread shared list = filter_map (λ (r : Reached). endpoint_word thread shared r.word (cap_at f r.slot)) list

@@ -14,11 +14,11 @@ pub record AreFullSlots (f : Forest Entry) (filled : List FullSlot) : Type 0 whe
   pub full : (k : ℕ) (u : FullSlot) → slice_get filled k ≡ Some u → is_full u.address f ≡ true
   pub all : (slot : ℕ) → is_full slot f ≡ true → (k : ℕ) × ((u : FullSlot) × ((slice_get filled k ≡ Some u) × (u.address ≡ slot)))
 
--- each capability may stand in a slot
+-- each of the capabilities is one that a slot may hold
 abbrev pub AreLawful : ProfileName → List FullSlot → Type 0
 AreLawful p filled = (k : ℕ) (u : FullSlot) → slice_get filled k ≡ Some u → (u.cap ≡ Null) ⊎ IsLawful p (word_bits p) u.cap
 
--- their addresses rise
+-- the addresses of full slots rise
 abbrev pub AreRising : List FullSlot → Type 0
 AreRising filled =
     (i j : ℕ) (u v : FullSlot) → i < j → slice_get filled i ≡ Some u → slice_get filled j ≡ Some v → u.address < v.address

@@ -12,7 +12,7 @@ pub record AreByObject (list : List Derivation) (objects : List Keyed) : Type 0 
   pub numbers : AreKeyed (map (λ (d : Derivation). object_number d.cap) list) objects
   pub small : All (λ (d : Derivation). size_in d.cap < 2 ^ 32) list
 
--- and by the addresses of their slots
+-- places of derivations by the addresses of their slots, and by what they name
 pub record IsIndex (p : ProfileName) (list : List Derivation) (places objects : List Keyed) : Type 0 where
   pub addresses : AreKeyed (map (λ (d : Derivation). address_of p d.slot) list) places
   pub named : AreByObject list objects

@@ -118,7 +118,7 @@ setup_up_to newest table = do
   profile ← optional places.Top table (codes "profile") Wide profile
   setup_at profile table
 
--- a table in any format that is read, and a table only in the first format
+-- the set-up that a table is, in any format that is read, or its first fault
 abbrev pub setup_of : Members → Result SetupView Fault
 setup_of table = setup_up_to newest_format table
 

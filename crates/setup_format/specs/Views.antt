@@ -31,7 +31,7 @@ pub record ReadView : Type 0 where
 
 -- ---- what a set-up is, as the code keeps it
 
--- a call with its caller, and then all of them
+-- a call, with its client and what it expects
 abbrev pub call_view : Call → Caller → CallView
 call_view call caller = record { call = call; client = caller.client; expect = option_map string_bytes caller.expect }
 
@@ -41,7 +41,7 @@ call_views [] callers = []
 call_views (call ∷ calls) [] = []
 call_views (call ∷ calls) (caller ∷ callers) = call_view call caller ∷ call_views calls callers
 
--- its parts together
+-- a set-up of these parts
 abbrev pub setup_view : ProfileName → Plan → ℕ → ℕ → List CallView → SetupView
 setup_view profile plan clients limit calls =
     record { profile = profile; plan = plan; clients = clients; limit = limit; calls = calls }

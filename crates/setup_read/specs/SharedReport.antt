@@ -27,6 +27,6 @@ unfoldable pub shared_report_told : Texts → ProfileName → ℕ → List Entry
 shared_report_told texts p calls history v =
     entry_lines texts 1 history ++ (state_lines texts p v ++ entries_line (length history) calls)
 
--- the same by addresses
+-- the report of a history by addresses
 abbrev pub shared_report_of : ProfileName → ℕ → List Entry → Shown → List ℕ
 shared_report_of p calls history v = shared_report_told plain p calls history v

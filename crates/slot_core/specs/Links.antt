@@ -68,7 +68,7 @@ pub record IsLinked (links : List Link) (first last : Option ℕ) (order : List 
 abbrev pub order_of : List Link → Option ℕ → List ℕ
 order_of links first = walk (next_of links) (length links) first
 
--- the list itself
+-- the marked list to which the links lead from its first slot on
 abbrev pub rows_of : List Link → Option ℕ → List Marked
 rows_of links first = map (row_of links) (order_of links first)
 
