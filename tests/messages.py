@@ -383,6 +383,8 @@ STREAMS = [
      ["command line refused", "--without 0: slot 0 of the root CNode has no thread"]),
     (["audit", "--without", "loder"], SECOND.replace(" a =", " loader ="), "/dev/null", 4,
      ["command line refused", "--without loder: no address, and no name of the set-up; the nearest name is loader"]),
+    (["audit", "--without", "loader"], SECOND.replace(" a =", " loader_tcb ="), "/dev/null", 4,
+     ["command line refused", "--without loader: no address, and no name of the set-up; the nearest name is loader_tcb"]),
     (["audit", "--names", "--after", "1"], FIRST, "/dev/null", 4,
      ["command line refused", "--after 1: the set-up has 0 calls"]),
     (["audit", "--slot", "32", "--without", "2048"], FIRST, "/dev/null", 4,

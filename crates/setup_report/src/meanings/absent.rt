@@ -29,18 +29,29 @@ impl ObjectKind {
     }
 }
 
-/// The name that looks most like a word.
+/// Whether a name is a word with an end of its own behind it, as `app_tcb` is of `app`.
+fn is_begun_by(name: &str, word: &str) -> bool {
+    match name.strip_prefix(word) {
+        None => false,
+        Some(end) => end.starts_with("_"),
+    }
+}
+
+/// The name that looks most like a word; if none does, the first that begins with it.
 fn nearest<'a>(
     alloc: Global,
     names: &'a [Name],
     word: &str,
 ) -> Result<Option<&'a str>, AllocError> {
-    let (mut nearest, mut fewest) = (None, MAX_EDITS + 1);
+    let (mut nearest, mut fewest) = (None, MAX_EDITS + 2);
     if word.len() > MAX_WORD {
         return Ok(None);
     }
     for name in names {
-        let edits = osa_distance(alloc, word, name.text.as_str())?;
+        let mut edits = osa_distance(alloc, word, name.text.as_str())?;
+        if edits > MAX_EDITS && is_begun_by(name.text.as_str(), word) {
+            edits = MAX_EDITS + 1;
+        }
         if edits < fewest {
             (nearest, fewest) = (Some(name.text.as_str()), edits);
         }
