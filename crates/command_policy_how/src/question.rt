@@ -47,12 +47,13 @@ fn is_of_endpoint(told: Told, endpoint: u64) -> bool
 pub fn other_endpoints(alloc: Global, layout: &Layout, told: Told) -> Result<Vec<u64>, AllocError>
     ensures { IfOk result (λ v. v.items ≡ spec.other_endpoints layout.now told) }
 {
-    let endpoints = layout.endpoints.as_slice();
-    endpoints
-        .iter()
-        .filter(|endpoint| !is_of_endpoint(told, **endpoint))
-        .copied()
-        .collect(alloc)
+    let mut others = Vec::new(alloc);
+    for endpoint in &layout.endpoints {
+        if !is_of_endpoint(told, *endpoint) {
+            others.push(*endpoint)?;
+        }
+    }
+    Ok(others)
 }
 
 /// All threads of a policy, also those that it trusts.

@@ -108,7 +108,7 @@ fn make_ever(alloc: Global, options: Options<'_>, input: &[u8]) -> Result<Answer
 
 /// A policy that the layout keeps, if some threads are trusted.
 fn make_draft(alloc: Global, options: Options<'_>, input: &[u8]) -> Result<Answer, RunFault>
-    ensures made { IfOk result (λ made. IsAnswerTo (IsStateAnswer (IsDraft (trust_of options.entry)) options.entry.after) input.now made.text.items made.verdict) }
+    ensures made { IfOk result (λ made. IsAnswerTo (IsStateAnswer (IsDraft (trust_of options.entry) options.entry.after) options.entry.after) input.now made.text.items made.verdict) }
     ensures memory { IfErr result (λ fault. fault ≡ RunFault.Memory) }
 {
     let Ok(words) = Words::of(alloc, options) else {
