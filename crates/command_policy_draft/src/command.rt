@@ -55,7 +55,7 @@ fn answer_by<P: Profile, S: MakeStore<P> + DerivationStore<P>, W: MakeWaiters<P>
 ) -> Result<Answer, AllocError>
     requires plan { IsPlan P.profile asked.setup.now.plan }
     requires made { asked.made ≤ length asked.setup.now.calls }
-    ensures { IfOk result (λ made. spec.IsDraftText P.profile (names_view asked.entry.names.now) asked.entry.setup.now asked.entry.made asked.entry.silent.now asked.entry.messages.now made.text.items made.verdict) }
+    ensures { IfOk result (λ made. spec.IsDraftText P.profile (names_view asked.entry.names.now) asked.entry.setup.now asked.entry.after asked.entry.made asked.entry.silent.now asked.entry.messages.now made.text.items made.verdict) }
 {
     let alloc = asked.alloc;
     match kept_text::<P, S, W>(asked) {
@@ -76,7 +76,7 @@ impl StateCommand for Draft<'_> {
     ghost use Rattle.command_parts.specs.Threads.{trusted_by};
     ghost use Rattle.command_policy_draft.specs.Drafts.{IsDraft};
 
-    ghost answers = { λ draft. IsDraft (trusted_by draft.trust) };
+    ghost answers = { λ draft. IsDraft (trusted_by draft.trust) draft.after };
 
     fn answer<P: Profile, S: MakeStore<P> + DerivationStore<P>, W: MakeWaiters<P>>(
         &self,

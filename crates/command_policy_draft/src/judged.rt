@@ -1,5 +1,5 @@
 //! A draft is read back and judged before it is written.
-ghost use Rattle.std.specs.Prelude.{◌≡◌, ◌≢◌, ◌≤◌, ◌↔◌, ◌⊎◌, [], IfOk, IfSome, IsTrue, length, map, string_bytes};
+ghost use Rattle.std.specs.Prelude.{◌≡◌, ◌≤◌, ◌↔◌, IfOk, IfSome, IsTrue, length, map, string_bytes};
 ghost use Rattle.kernel_abstract.specs.Plan.{IsPlan};
 ghost use Rattle.setup_values.specs.Names.{names_view};
 ghost use Rattle.command_policy.specs.Policies.{IsJudged};
@@ -8,13 +8,13 @@ ghost use Rattle.command_policy_draft.specs.Drafts as spec;
 use crate::entries::SoFar;
 use crate::groups::{first_text, groups_text};
 use cap_core::Profile;
-use command_core::Verdict;
 use command_policy::{Judged, judge};
-use command_policy_text::kinds;
+use command_policy_text::{kinds, told_text};
 use ipc_core::MakeWaiters;
 use setup_format::Setup;
 use setup_policy::Member;
-use setup_policy_file::{Refusal, read_policy};
+use setup_policy_file::{Fault, Place, Refusal, Spot, read_policy};
+use setup_report::calls_made;
 use setup_values::Name;
 use slot_core::{DerivationStore, MakeStore};
 use std::alloc::{AllocError, Global};
@@ -24,8 +24,8 @@ const WAY_STEPS: u32 = 2;
 /// How many steps there are: for ways, for uses, for threads that wait, and one that adds nothing.
 const STEPS: u32 = 7;
 
-/// What a draft is asked of: a set-up, how many of its calls are made, and the live threads: those that are trusted to make no more
-/// calls, those that are trusted to send and receive alone, and the others.
+/// What a draft is asked of: a set-up, how many of its calls are made, and the number that was asked for; and the live threads: those
+/// that are trusted to make no more calls, those that are trusted to send and receive alone, and the others.
 #[derive(Clone, Copy)]
 pub struct Asked<'a> {
     pub alloc: Global,
@@ -38,7 +38,7 @@ pub struct Asked<'a> {
     pub others: &'a [u64],
 }
 
-/// What is judged of the policy that a text is.
+/// What is judged of the policy that a text is. It asks for as many calls as are asked for and made.
 fn read_back<P: Profile, S: MakeStore<P> + DerivationStore<P>, W: MakeWaiters<P>>(
     asked: Asked<'_>,
     text: &str,
@@ -47,17 +47,16 @@ fn read_back<P: Profile, S: MakeStore<P> + DerivationStore<P>, W: MakeWaiters<P>
     requires made { asked.made ≤ length asked.setup.now.calls }
     ensures judged { IfOk result (IsJudged P.profile asked.entry.setup.now asked.entry.made) }
     ensures fit { IfOk result (λ j. length j.replies.items ≤ length asked.entry.setup.now.calls) }
-    ensures read { IfOk result (spec.IsReadOf P.profile (names_view asked.entry.names.now) asked.entry.setup.now asked.entry.made text.now) }
+    ensures read { IfOk result (spec.IsReadOf P.profile (names_view asked.entry.names.now) asked.entry.setup.now asked.entry.after asked.entry.made text.now) }
 {
-    let file = read_policy(asked.alloc, text.as_bytes())?;
-    judge::<P, S, W>(
-        asked.alloc,
-        &file,
-        text,
-        asked.names,
-        asked.setup,
-        asked.made,
-    )
+    let alloc = asked.alloc;
+    let file = read_policy(alloc, text.as_bytes())?;
+    if file.after != asked.after || calls_made(asked.setup, asked.after) != Some(asked.made) {
+        let words = String::from_str(alloc, "the draft is of other calls than are asked for")?;
+        let spot = Spot::Key(Place::Top, "after");
+        return Err(Refusal::new(alloc, text, Fault::Value, spot, words));
+    }
+    judge::<P, S, W>(alloc, &file, text, asked.names, asked.setup, asked.made)
 }
 
 /// A draft that is not judged as a whole: entries are added for what breaks the policy so far.
@@ -106,17 +105,33 @@ fn are_threads(alloc: Global, members: &[Member], threads: &[u64]) -> Result<boo
     Ok(own.as_slice() == threads)
 }
 
-/// Whether nothing breaks a policy, or a part has the control block of a trusted thread, which no policy allows.
+/// The lines that tell of the trusted threads whose control blocks parts have, which no policy allows.
+fn thread_lines(alloc: Global, judged: &Judged) -> Result<Vec<String>, AllocError>
+    ensures { IfOk result (λ v. map string_bytes v.items ≡ spec.thread_lines judged.now) }
+{
+    let held = judged.held();
+    let threads = kinds::threads(alloc, held)?;
+    let mut lines = Vec::new(alloc);
+    for told in &threads {
+        let line = told_text(alloc, held, *told)?;
+        lines.push(line)?;
+    }
+    Ok(lines)
+}
+
+/// Whether nothing breaks a policy but that parts have the control blocks of trusted threads.
 fn is_held(alloc: Global, judged: &Judged, setup: &Setup) -> Result<bool, AllocError>
     requires { length judged.now.replies.items ≤ length setup.now.calls }
     ensures { IfOk result (λ is. IsTrue is → spec.IsHeldAsWritten judged.now setup.now) }
 {
-    let told = judged.told(alloc, setup)?;
-    if let Verdict::AllMet = told.verdict {
-        return Ok(true);
+    let threads = thread_lines(alloc, judged)?;
+    let lines = judged.breach_lines(alloc, setup)?;
+    for line in &lines {
+        if !threads.contains(line) {
+            return Ok(false);
+        }
     }
-    let threads = kinds::threads(alloc, judged.held())?;
-    Ok(!threads.is_empty())
+    Ok(true)
 }
 
 /// Whether a policy trusts whom it is to trust, and is held to.
@@ -145,7 +160,7 @@ pub fn kept_text<P: Profile, S: MakeStore<P> + DerivationStore<P>, W: MakeWaiter
 ) -> Result<Option<String>, Refusal>
     requires plan { IsPlan P.profile asked.setup.now.plan }
     requires made { asked.made ≤ length asked.setup.now.calls }
-    ensures { IfOk result (λ found. IfSome found (λ text. spec.IsKept P.profile (names_view asked.entry.names.now) asked.entry.setup.now asked.entry.made asked.entry.silent.now asked.entry.messages.now (string_bytes text))) }
+    ensures { IfOk result (λ found. IfSome found (λ text. spec.IsKept P.profile (names_view asked.entry.names.now) asked.entry.setup.now asked.entry.after asked.entry.made asked.entry.silent.now asked.entry.messages.now (string_bytes text))) }
 {
     let text = draft_text::<P, S, W>(asked)?;
     let judged = read_back::<P, S, W>(asked, text.as_str())?;

@@ -12,7 +12,7 @@ pub returns-clause-made : goal.returns-clause-made
 returns-clause-made c =
     let options = c.args.options in
     let trust = c.trust-trust in
-    let Told : Trusted → Type 0 = λ by. IfOk c.on_state.result (λ made. IsAnswerTo (IsStateAnswer (IsDraft by) options.after) c.args.input.now made.text.items made.verdict) in
+    let Told : Trusted → Type 0 = λ by. IfOk c.on_state.result (λ made. IsAnswerTo (IsStateAnswer (IsDraft by options.after) options.after) c.args.input.now made.text.items made.verdict) in
     subst Told
     (trusted_as trust.result (trust_of options) (ap texts trust.ensures.without ∙ c.in-Ok.ensures.without) (ap texts trust.ensures.messages ∙ c.in-Ok.ensures.messages))
     c.on_state.ensures.made

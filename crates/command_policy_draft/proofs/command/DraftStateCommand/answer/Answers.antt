@@ -15,6 +15,7 @@ returns g c =
     let p = g.P.Profile.profile in
     let setup = c.args.behind.now.setup.now in
     let made = c.args.behind.now.made in
+    let after = c.args.self.now.after in
     let v = c.args.kernel.now in
     let trust = trusted_by c.args.self.now.trust in
     let names = names_view c.args.behind.now.names.now in
@@ -30,11 +31,11 @@ returns g c =
     ∙ (ap (λ (some : List ℕ). live_of some c.as_slice-live.result.now c.as_slice-3.result.now) (c.as_slice-2.ensures.value ∙ c.in_ok-messages.ensures)
     ∙ (ap (λ (live : List ℕ). live_of named live c.as_slice-3.result.now) now
     ∙ ap (λ (others : List ℕ). live_of named (threads p v) others) (c.as_slice-3.ensures.value ∙ silent))) in
-    subst (λ (s : Shown). IfOk c.answer_by.result (λ answer. IsDraftOf trust p names setup made s answer.text.items answer.verdict)) c.requires.shows
+    subst (λ (s : Shown). IfOk c.answer_by.result (λ answer. IsDraftOf trust after p names setup made s answer.text.items answer.verdict)) c.requires.shows
     (where_ok _ _
     (λ answer told.
-    subst (λ (ts : List ℕ). IsDraftText p names setup made ts (messages_of trust p names setup v) answer.text.items answer.verdict)
+    subst (λ (ts : List ℕ). IsDraftText p names setup after made ts (messages_of trust p names setup v) answer.text.items answer.verdict)
     (c.as_slice-7.ensures.value ∙ silent)
-    (subst (λ (ts : List ℕ). IsDraftText p names setup made c.as_slice-7.result.now ts answer.text.items answer.verdict)
+    (subst (λ (ts : List ℕ). IsDraftText p names setup after made c.as_slice-7.result.now ts answer.text.items answer.verdict)
     (c.as_slice-8.ensures.value ∙ messages) told))
     c.answer_by.result c.answer_by.ensures)
