@@ -21,7 +21,12 @@ fn covers_some(region: &Object, objects: &[Object]) -> bool
     requires { region.now.bits < 32 }
     ensures { result ≡ list_any (spec.covers region.now) objects.now }
 {
-    objects.iter().any(|object| covers(region, object))
+    for object in objects {
+        if covers(region, object) {
+            return true;
+        }
+    }
+    false
 }
 
 /// Whether an object is no region of untyped memory, or has at most so many bits, or covers another one.
@@ -40,7 +45,12 @@ fn is_cut(most: u64, objects: &[Object], object: &Object) -> bool
 fn are_cut_to(most: u64, objects: &[Object]) -> bool
     ensures { result ≡ list_all (λ o. spec.is_cut o.kind most objects.now o) objects.now }
 {
-    objects.iter().all(|object| is_cut(most, objects, object))
+    for object in objects {
+        if !is_cut(most, objects, object) {
+            return false;
+        }
+    }
+    true
 }
 
 /// Whether the regions are cut as it is asked for.

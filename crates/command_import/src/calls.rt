@@ -1,7 +1,8 @@
 //! The calls of the loader.
 use cap_core::limits::MAX_RETYPE_COUNT;
 use cap_core::{Guard, Kind, Rights};
-use setup_layout::{FIRST_REGION_SLOT, Layout, Machine, Object, Places, Slot, Source};
+use setup_layout::{Layout, Machine, Object, Slot};
+use setup_places::{FIRST_REGION_SLOT, Places, Source};
 use std::alloc::{AllocError, Global};
 use std::fmt::Write;
 
@@ -45,6 +46,11 @@ fn kind_number(kind: Kind) -> u64 {
         Kind::Endpoint => 2,
         Kind::CNode => 4,
     }
+}
+
+/// The kind of an object, by its place among these; none if there is no such object.
+fn kind_at(objects: &[Object], number: usize) -> Option<Kind> {
+    Some(objects.get(number)?.kind)
 }
 
 /// Adds the name of a slot.
@@ -114,18 +120,18 @@ impl<'a> Calls<'a> {
     /// The slots that take a capability from the loader: each of an untyped region, and each without a badge that has others below
     /// it. What stands below a badge is copied from there.
     fn choose_sources(&mut self) {
+        let objects = self.layout.objects.as_slice();
         for (number, slot) in self.layout.slots.as_slice().iter().enumerate() {
-            let kind = self
-                .layout
-                .objects
-                .get(slot.object)
-                .map(|object| object.kind);
+            let kind = kind_at(objects, slot.object);
             if let Some(original) = self.originals.get_mut(number) {
                 *original = kind == Some(Kind::Untyped);
             }
         }
         for (above, below) in self.layout.derived.as_slice() {
-            let badge = self.layout.slots.get(*above).map_or(0, |slot| slot.badge);
+            let badge = match self.layout.slots.get(*above) {
+                Some(slot) => slot.badge,
+                None => 0,
+            };
             if badge == 0 {
                 if let Some(original) = self.originals.get_mut(*above) {
                     *original = true;
@@ -308,11 +314,7 @@ impl<'a> Calls<'a> {
         slot: &Slot,
         source: Option<usize>,
     ) -> Result<(), AllocError> {
-        let kind = self
-            .layout
-            .objects
-            .get(slot.object)
-            .map(|object| object.kind);
+        let kind = kind_at(self.layout.objects.as_slice(), slot.object);
         let word = match kind {
             Some(Kind::Endpoint) if source.is_none() => slot.badge,
             Some(Kind::CNode) => self.guard_word(slot.guard),
@@ -342,7 +344,7 @@ impl<'a> Calls<'a> {
     pub fn add_spaces(&mut self, alloc: Global) -> Result<(), AllocError> {
         let layout = self.layout;
         for slot in layout.slots.as_slice() {
-            let holder = layout.objects.get(slot.holder).map(|object| object.kind);
+            let holder = kind_at(layout.objects.as_slice(), slot.holder);
             if holder == Some(Kind::Tcb) {
                 self.add_space(alloc, slot)?;
             }
@@ -356,7 +358,7 @@ impl<'a> Calls<'a> {
         for (number, slot) in layout.slots.as_slice().iter().enumerate() {
             let is_original = self.originals.get(number).copied().unwrap_or(false);
             let source = self.sources.get(number).copied().unwrap_or(None);
-            let holder = layout.objects.get(slot.holder).map(|object| object.kind);
+            let holder = kind_at(layout.objects.as_slice(), slot.holder);
             if !is_original && source.is_some() == from_others && holder == Some(Kind::CNode) {
                 self.add_copy(alloc, slot, source)?;
             }
@@ -382,7 +384,7 @@ impl<'a> Calls<'a> {
         let layout = self.layout;
         for (number, slot) in layout.slots.as_slice().iter().enumerate() {
             let is_original = self.originals.get(number).copied().unwrap_or(false);
-            let kind = layout.objects.get(slot.object).map(|object| object.kind);
+            let kind = kind_at(layout.objects.as_slice(), slot.object);
             if is_original && (kind == Some(Kind::CNode)) == cnodes {
                 self.add_move(alloc, slot)?;
             }

@@ -39,7 +39,12 @@ pub fn is_same(one: &Object, other: &Object) -> bool
 fn is_among(object: &Object, others: &[Object]) -> bool
     ensures { result ≡ list_any (spec.are_same_object object.now) others.now }
 {
-    others.iter().any(|other| is_same(object, other))
+    for other in others {
+        if is_same(object, other) {
+            return true;
+        }
+    }
+    false
 }
 
 /// Whether no two objects of a layout are one.
@@ -74,7 +79,12 @@ fn is_of(object: &Object, cap: Cap) -> bool
 fn is_held_in<P: Profile>(object: &Object, rows: &[Derivation]) -> bool
     ensures { result ≡ list_any (λ d. spec.is_capability_of object.now.kind (derivation_view P.profile d).0.cap object.now) rows.now }
 {
-    rows.iter().any(|row| is_of(object, row.cap))
+    for row in rows {
+        if is_of(object, row.cap) {
+            return true;
+        }
+    }
+    false
 }
 
 /// Whether some slot holds a capability of an object.
@@ -88,7 +98,12 @@ fn is_live<P: Profile>(object: &Object, rows: &[Derivation]) -> bool
 fn are_live<P: Profile>(objects: &[Object], rows: &[Derivation]) -> bool
     ensures { result ≡ list_all (spec.is_object_live (map (derivation_view P.profile) rows.now)) objects.now }
 {
-    objects.iter().all(|object| is_live::<P>(object, rows))
+    for object in objects {
+        if !is_live::<P>(object, rows) {
+            return false;
+        }
+    }
+    true
 }
 
 /// Whether the state of a thread is that of one which makes calls, or of one which makes none.
@@ -126,7 +141,12 @@ fn all_stand<P: Profile, S: DerivationStore<P> + MakeStore<P>, W: MakeWaiters<P>
 ) -> bool
     ensures { result ≡ list_all (spec.stands kernel.now) objects.now }
 {
-    objects.iter().all(|object| stands(object, kernel))
+    for object in objects {
+        if !stands(object, kernel) {
+            return false;
+        }
+    }
+    true
 }
 
 /// Whether a capability of an object has the badge and the rights, or the guard, of a slot of a layout.
@@ -198,7 +218,12 @@ fn are_filled<P: Profile, S: DerivationStore<P> + MakeStore<P>, W: MakeWaiters<P
 ) -> bool
     ensures { result ≡ list_all (spec.is_slot_filled P.profile objects.now kernel.now.derivations) slots.now }
 {
-    slots.iter().all(|slot| is_filled(objects, slot, kernel))
+    for slot in slots {
+        if !is_filled(objects, slot, kernel) {
+            return false;
+        }
+    }
+    true
 }
 
 /// Whether an address is this number.
@@ -215,9 +240,12 @@ fn is_number(number: u64, address: Option<u64>) -> bool
 fn is_said<P: Profile>(objects: &[Object], slots: &[Slot], address: u64) -> bool
     ensures { result ≡ list_any (λ slot. spec.is_number address (spec.layout_slot_address P.profile objects.now slot)) slots.now }
 {
-    slots
-        .iter()
-        .any(|slot| is_number(address, address_of::<P>(objects, slot)))
+    for slot in slots {
+        if is_number(address, address_of::<P>(objects, slot)) {
+            return true;
+        }
+    }
+    false
 }
 
 /// How many slots the root CNode has.
@@ -260,7 +288,12 @@ fn all_known<P: Profile>(
 ) -> bool
     ensures { result ≡ list_all (λ d. spec.is_known P.profile end loader objects.now slots.now (derivation_view P.profile d).0.slot) rows.now }
 {
-    rows.iter().all(|row| is_known::<P>(end, loader, objects, slots, row.slot.address::<P>()))
+    for row in rows {
+        if !is_known::<P>(end, loader, objects, slots, row.slot.address::<P>()) {
+            return false;
+        }
+    }
+    true
 }
 
 /// Whether no slots are full but those.
@@ -303,7 +336,12 @@ fn is_pair<P: Profile>(above: u64, below: u64, row: &Derivation) -> bool
 fn is_pair_in<P: Profile>(above: u64, below: u64, rows: &[Derivation]) -> bool
     ensures { result ≡ list_any (λ d. spec.is_pair above below (derivation_view P.profile d)) rows.now }
 {
-    rows.iter().any(|row| is_pair::<P>(above, below, row))
+    for row in rows {
+        if is_pair::<P>(above, below, row) {
+            return true;
+        }
+    }
+    false
 }
 
 /// Whether some full slot is so.
@@ -339,9 +377,12 @@ fn are_derived<P: Profile>(
 ) -> bool
     ensures { result ≡ list_all (spec.is_derived P.profile objects.now slots.now (map (derivation_view P.profile) rows.now)) derived.now }
 {
-    derived
-        .iter()
-        .all(|pair| is_derived::<P>(objects, slots, rows, *pair))
+    for pair in derived {
+        if !is_derived::<P>(objects, slots, rows, *pair) {
+            return false;
+        }
+    }
+    true
 }
 
 /// Whether a kernel with these full slots passes all of these tests.

@@ -14,14 +14,25 @@ use std::fmt::Write;
 fn has_word(object: &Object) -> bool
     ensures { result ≡ told.has_word object.now }
 {
-    object.name.as_bytes().iter().all(|byte| *byte > 32)
+    let bytes = object.name.as_bytes();
+    for byte in bytes {
+        if *byte <= 32 {
+            return false;
+        }
+    }
+    true
 }
 
 /// Whether the names of these objects are words, so that a listing tells where they end.
 pub fn are_words(objects: &[Object]) -> bool
     ensures { result ≡ list_all told.has_word objects.now }
 {
-    objects.iter().all(|object| has_word(object))
+    for object in objects {
+        if !has_word(object) {
+            return false;
+        }
+    }
+    true
 }
 
 /// Adds the name of a slot.

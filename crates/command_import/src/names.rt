@@ -1,6 +1,7 @@
 //! The names of objects in a set-up.
-use setup_layout::{LOADER, Layout, Places, ReadLayout, SetupName};
+use setup_layout::Layout;
 use setup_marks::{IMPORT_FLOWS, IMPORT_FLOWS_WORD};
+use setup_places::{LOADER, Places, ReadLayout, SetupName};
 use std::alloc::AllocError;
 use std::fmt::Write;
 

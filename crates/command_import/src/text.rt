@@ -2,7 +2,8 @@
 use crate::calls::Calls;
 use crate::names::{add_names, add_whole_names};
 use cap_core::ProfileName;
-use setup_layout::{Layout, Places, ReadLayout, Remarks};
+use setup_layout::{Layout, Remarks};
+use setup_places::{Places, ReadLayout};
 use std::alloc::{AllocError, Global};
 use std::fmt::Write;
 

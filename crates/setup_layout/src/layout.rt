@@ -39,7 +39,7 @@ pub struct Slot {
 }
 
 /// The bits that an object has while it is read which no kernel here has, and which counts as an endpoint or a CNode.
-pub(crate) const OTHER_BITS: u32 = 64;
+pub const OTHER_BITS: u32 = 64;
 
 /// How a layout is read.
 #[derive(Clone, Copy)]

@@ -1,7 +1,7 @@
 //! capDL texts that are made of a file in another language, and the reading of such.
 use crate::fault::Remarks;
 use crate::layout::{Layout, Reading};
-use crate::reading::{ReadLayout, read_layout};
+use crate::reading::read_text;
 use crate::scanner::{Scanner, Spot};
 use std::alloc::{AllocError, Global};
 use std::fmt::{Display, Write};
@@ -108,32 +108,25 @@ pub struct MadeText {
 }
 
 impl MadeText {
-    /// Reads the layout. What is said of the lines is said of the parts of the file of which they were made. A file with faults has no
-    /// places.
-    pub fn read(self, alloc: Global, reading: Reading) -> Result<ReadLayout, AllocError> {
+    /// Reads the layout. What is said of the lines is said of the parts of the file of which they were made.
+    pub fn read(self, alloc: Global, reading: Reading) -> Result<Layout, AllocError> {
         let MadeText { lines, said } = self;
         let Said {
             mut faults,
             mut gaps,
             mut notes,
         } = said;
-        let mut read = read_layout(alloc, lines.text.as_bytes(), reading)?;
-        let mut named = Remarks::new(alloc);
-        lines.move_remarks(&read.layout.faults, &mut faults);
-        lines.move_remarks(&read.layout.gaps, &mut gaps);
-        lines.move_remarks(&read.layout.notes, &mut notes);
-        lines.move_remarks(&read.names.notes, &mut named);
-        lines.move_layout(&mut read.layout);
-        if faults.is_refused || gaps.is_refused || notes.is_refused || named.is_refused {
+        let mut layout = read_text(alloc, lines.text.as_bytes(), reading)?;
+        lines.move_remarks(&layout.faults, &mut faults);
+        lines.move_remarks(&layout.gaps, &mut gaps);
+        lines.move_remarks(&layout.notes, &mut notes);
+        lines.move_layout(&mut layout);
+        if faults.is_refused || gaps.is_refused || notes.is_refused {
             return Err(AllocError);
         }
-        if !faults.told.is_empty() {
-            read.places = None;
-        }
-        read.layout.faults = faults;
-        read.layout.gaps = gaps;
-        read.layout.notes = notes;
-        read.names.notes = named;
-        Ok(read)
+        layout.faults = faults;
+        layout.gaps = gaps;
+        layout.notes = notes;
+        Ok(layout)
     }
 }

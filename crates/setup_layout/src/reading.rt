@@ -1,12 +1,9 @@
 //! The reading of a layout.
 use crate::derived::Tree;
 use crate::fault::Topic;
-use crate::flows::add_flows;
 use crate::kinds::{ARCHES, NARROW_ARCHES, place_of};
 use crate::layout::{AssumedRights, Layout, Reading};
-use crate::names::{SetupNames, names_of};
 use crate::objects::Objects;
-use crate::places::{Places, places_of};
 use crate::scanner::{Scanner, Spot, Token, TokenKind};
 use crate::slots::Slots;
 use crate::words::Words;
@@ -15,15 +12,6 @@ use std::alloc::{AllocError, Global};
 
 /// The sections that are read.
 const SECTIONS: [&str; 3] = ["objects", "caps", "cdt"];
-
-/// A layout that was read, and the places of its objects where it has no fault.
-#[derive(Drop)]
-pub struct ReadLayout {
-    pub layout: Layout,
-    pub places: Option<Places>,
-    /// The names of its objects in a set-up.
-    pub names: SetupNames,
-}
 
 /// A text that is read, and what is read of it.
 #[derive(Drop)]
@@ -166,40 +154,16 @@ fn layout_of(alloc: Global, text: &str, reading: Reading) -> Result<Layout, Allo
     })
 }
 
-/// Reads a layout as capDL text. What is wrong with it is in its faults, and a layout with faults has no places.
-pub fn read_layout(
-    alloc: Global,
-    bytes: &[u8],
-    reading: Reading,
-) -> Result<ReadLayout, AllocError> {
+/// Reads a layout as capDL text. What is wrong with it is in its faults.
+pub fn read_text(alloc: Global, bytes: &[u8], reading: Reading) -> Result<Layout, AllocError> {
     let text = std::str::from_utf8(bytes);
     let mut layout = layout_of(alloc, text.unwrap_or("arch x86_64"), reading)?;
-    let declared = layout.objects.len();
-    let mut places = None;
-    if reading.flows && layout.faults.told.is_empty() {
-        add_flows(alloc, &mut layout)?;
-    }
     if text.is_err() {
-        layout
-            .faults
-            .say(Scanner::new("").spot(0), "the bytes are no text in UTF-8");
+        let told = "the bytes are no text in UTF-8";
+        layout.faults.say(Scanner::new("").spot(0), told);
     }
-    if layout.faults.told.is_empty() {
-        places = places_of(alloc, &mut layout)?;
-    }
-    let mut names = SetupNames::none(alloc);
-    if places.is_some() {
-        names = names_of(alloc, &mut layout, declared)?;
-    }
-    if layout.faults.is_refused || names.notes.is_refused {
+    if layout.faults.is_refused {
         return Err(AllocError);
     }
-    if !layout.faults.told.is_empty() {
-        places = None;
-    }
-    Ok(ReadLayout {
-        layout,
-        places,
-        names,
-    })
+    Ok(layout)
 }

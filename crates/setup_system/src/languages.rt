@@ -5,7 +5,8 @@ ghost use Rattle.setup_system.specs.Languages as spec;
 
 use crate::system::system_text;
 use setup_json::json_text;
-use setup_layout::{AssumedRights, Layout, ReadLayout, Reading, read_layout};
+use setup_layout::{AssumedRights, Layout, Reading, read_text};
+use setup_places::{ReadLayout, placed};
 use std::alloc::{AllocError, Global};
 
 /// A language in which a layout is written.
@@ -30,7 +31,12 @@ fn is_front(byte: u8) -> bool
 fn first_of(bytes: &[u8]) -> Option<u8>
     ensures { result ≡ find spec.is_inside bytes.now }
 {
-    bytes.iter().copied().find(|byte| !is_front(*byte))
+    for byte in bytes {
+        if !is_front(*byte) {
+            return Some(*byte);
+        }
+    }
+    None
 }
 
 /// Whether a byte can be the first one behind the `{` of a comment of capDL text, which begins with `{-`, or of an object of JSON.
@@ -44,7 +50,12 @@ fn is_mark(byte: u8) -> bool
 fn mark_of(bytes: &[u8]) -> Option<u8>
     ensures { result ≡ find spec.is_mark bytes.now }
 {
-    bytes.iter().copied().find(|byte| is_mark(*byte))
+    for byte in bytes {
+        if is_mark(*byte) {
+            return Some(*byte);
+        }
+    }
+    None
 }
 
 /// The language of a layout with these bytes: a `.system` file begins with `<`, and capDL's JSON form with `{`.
@@ -98,14 +109,14 @@ pub fn capdl_text(alloc: Global, bytes: &[u8], reading: Reading) -> Result<Vec<u
 }
 
 /// Reads a `.system` file.
-fn read_system(alloc: Global, text: &str, reading: Reading) -> Result<ReadLayout, AllocError> {
-    let mut read = system_text(alloc, text, reading)?.read(alloc, reading)?;
-    read.layout.assumed = if reading.all_rights {
+fn read_system(alloc: Global, text: &str, reading: Reading) -> Result<Layout, AllocError> {
+    let mut layout = system_text(alloc, text, reading)?.read(alloc, reading)?;
+    layout.assumed = if reading.all_rights {
         AssumedRights::AllRights
     } else {
         AssumedRights::LeastRights
     };
-    Ok(read)
+    Ok(layout)
 }
 
 /// Has a layout without faults be refused for what may carry authority, and was left out or assumed.
@@ -130,11 +141,12 @@ pub fn read_any_layout(
     reading: Reading,
 ) -> Result<ReadLayout, AllocError> {
     let reading = reading_of(reading, bytes);
-    let mut read = match (language_of(bytes), std::str::from_utf8(bytes)) {
+    let layout = match (language_of(bytes), std::str::from_utf8(bytes)) {
         (Language::SystemFile, Ok(text)) => read_system(alloc, text, reading)?,
         (Language::CapdlJson, Ok(text)) => json_text(alloc, text)?.read(alloc, reading)?,
-        _ => read_layout(alloc, bytes, reading)?,
+        _ => read_text(alloc, bytes, reading)?,
     };
+    let mut read = placed(alloc, layout)?;
     if reading.strict {
         refuse_gaps(&mut read.layout)?;
     }

@@ -1,8 +1,7 @@
 //! The names of a layout's objects in a set-up. An object has its own name there where that can stand in a set-up; any other name has a
 //! tail that is made of the whole own name, so that it means this object whatever else the layout declares.
-use crate::fault::Remarks;
-use crate::layout::{Layout, Object};
 use cap_core::Kind;
+use setup_layout::{Layout, Object, Remarks};
 use setup_marks::IMPORT_FLOWS;
 use std::alloc::{AllocError, Global};
 use std::collections::HashMap;

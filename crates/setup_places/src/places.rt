@@ -1,8 +1,6 @@
 //! Where the objects of a layout stand in the memory of a set-up.
-use crate::fault::Remarks;
-use crate::layout::{Layout, Object};
-use crate::machine::Machine;
 use cap_core::limits::{MAX_MEMORY_BITS, MAX_ROOT_RADIX, MIN_MEMORY_BITS};
+use setup_layout::{Layout, Machine, Object, Remarks};
 use std::alloc::{AllocError, Global};
 
 /// The most regions of a set-up that is made.

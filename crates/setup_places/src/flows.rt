@@ -1,6 +1,6 @@
 //! A layout in which each object counts, also one that a kernel here lacks: for what threads can ever get from each other.
-use crate::layout::{Layout, OTHER_BITS, Object, Slot};
 use cap_core::{Guard, Kind, ProfileName, Rights};
+use setup_layout::{Layout, OTHER_BITS, Object, Slot};
 use std::alloc::{AllocError, Global};
 
 /// The rights to write and to read, those by which capabilities are handed over, and by which a call can be answered.
