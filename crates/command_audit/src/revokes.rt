@@ -54,9 +54,13 @@ fn count_cleared<P: Profile, S: CapStore<P> + Drop, W: Waiters<P> + Drop>(
 ) -> usize
     ensures { result ≡ spec.cleared_count (map (derivation_view P.profile) old.now) new.now }
 {
-    old.iter()
-        .filter(|derivation| is_cleared(derivation.slot.address::<P>(), new))
-        .count()
+    let mut count = 0;
+    for derivation in old {
+        if is_cleared(derivation.slot.address::<P>(), new) {
+            count += 1;
+        }
+    }
+    count
 }
 
 /// Adds how many slots a revoke of a slot empties, and the objects that end, by capabilities that name them.
@@ -139,7 +143,12 @@ fn add_revoke_at<P: Profile, S: MakeStore<P> + DerivationStore<P>, W: MakeWaiter
 fn can_one_name(others: &[ThreadSlots], slot: u64) -> bool
     ensures { result ≡ list_any (can_name_slot slot) others.now }
 {
-    others.iter().any(|thread| can_name(thread, slot))
+    for thread in others {
+        if can_name(thread, slot) {
+            return true;
+        }
+    }
+    false
 }
 
 /// Whether a revoke of a slot is told: of each slot; where threads are trusted, of those alone that one of the others can name.
@@ -161,10 +170,13 @@ pub fn told_rows<P: Profile>(
 ) -> Result<Vec<Derivation>, AllocError>
     ensures { IfOk result (λ told. told.items ≡ filter (λ d. spec.is_revoke_told trusted.now others.now (slot_of (derivation_view P.profile d))) rows.now) }
 {
-    rows.iter()
-        .filter(|row| is_told(trusted, others, row.slot.address::<P>()))
-        .copied()
-        .collect(alloc)
+    let mut told = Vec::new(alloc);
+    for row in rows {
+        if is_told(trusted, others, row.slot.address::<P>()) {
+            told.push(*row)?;
+        }
+    }
+    Ok(told)
 }
 
 /// Adds what a revoke of each of some full slots with children would do. `rows` has all full slots.

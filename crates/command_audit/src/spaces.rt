@@ -17,7 +17,12 @@ fn name_alike(one: &ThreadSlots, other: &ThreadSlots) -> bool
 fn first_alike<'a>(list: &'a [ThreadSlots], slots: &ThreadSlots) -> Option<&'a ThreadSlots>
     ensures { option_copied result ≡ find (spec.name_alike slots.now) list.now }
 {
-    list.iter().find(|other| name_alike(slots, other))
+    for other in list {
+        if name_alike(slots, other) {
+            return Some(other);
+        }
+    }
+    None
 }
 
 /// The first of some threads that can name just what one of them can, where that is another one.
@@ -34,5 +39,10 @@ pub fn told_as(list: &[ThreadSlots], slots: &ThreadSlots) -> Option<u64>
 pub fn is_shared(list: &[ThreadSlots], slots: &ThreadSlots) -> bool
     ensures { result ≡ spec.is_shared list.now slots.now }
 {
-    list.iter().any(|other| other.thread != slots.thread && name_alike(slots, other))
+    for other in list {
+        if other.thread != slots.thread && name_alike(slots, other) {
+            return true;
+        }
+    }
+    false
 }

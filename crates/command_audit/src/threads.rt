@@ -53,13 +53,23 @@ fn slots_of_thread<P: Profile>(
 fn reaches(list: &[Reached], slot: u64) -> bool
     ensures { result ≡ list_any (λ r. r.slot == slot) list.now }
 {
-    list.iter().any(|reached| reached.slot == slot)
+    for reached in list {
+        if reached.slot == slot {
+            return true;
+        }
+    }
+    false
 }
 
 fn holds(list: &[Held], slot: u64) -> bool
     ensures { result ≡ list_any (λ h. h.slot == slot) list.now }
 {
-    list.iter().any(|held| held.slot == slot)
+    for held in list {
+        if held.slot == slot {
+            return true;
+        }
+    }
+    false
 }
 
 /// Whether a thread can name a slot.
@@ -251,7 +261,12 @@ fn add_trusted(out: &mut String, naming: &Naming<'_>, trusted: &[u64]) -> Result
 fn is_in(list: &[u64], number: u64) -> bool
     ensures { result ≡ is_in_list number list.now }
 {
-    list.iter().any(|other| number == *other)
+    for other in list {
+        if number == *other {
+            return true;
+        }
+    }
+    false
 }
 
 /// The live threads that are not trusted.
@@ -262,9 +277,11 @@ pub fn others(
 ) -> Result<Vec<u64>, AllocError>
     ensures { IfOk result (λ v. v.items ≡ filter (λ thread. not (is_in_list thread trusted.now)) threads.now.keys) }
 {
-    threads
-        .iter()
-        .filter(|thread| !is_in(trusted, **thread))
-        .copied()
-        .collect(alloc)
+    let mut others = Vec::new(alloc);
+    for thread in threads {
+        if !is_in(trusted, *thread) {
+            others.push(*thread)?;
+        }
+    }
+    Ok(others)
 }

@@ -34,7 +34,14 @@ pub(crate) fn is_same(exercise: &Setup, setup: &Setup) -> bool
 fn spaces(text: &str) -> usize
     ensures { result ≡ spec.spaces text.now }
 {
-    text.as_bytes().iter().filter(|byte| **byte == b' ').count()
+    let bytes = text.as_bytes();
+    let mut count = 0;
+    for byte in bytes {
+        if *byte == b' ' {
+            count += 1;
+        }
+    }
+    count
 }
 
 /// How many spaces there are in what a question asks for of a delivery.

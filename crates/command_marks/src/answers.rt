@@ -42,20 +42,26 @@ const UNREAD: &[u8] = b",,,,,cannot be read";
 fn right_count(marks: &[Mark]) -> usize
     ensures { result ≡ spec.right_count marks.now }
 {
-    marks
-        .iter()
-        .filter(|mark| is_mark(**mark, Mark::Right))
-        .count()
+    let mut count = 0;
+    for mark in marks {
+        if is_mark(*mark, Mark::Right) {
+            count += 1;
+        }
+    }
+    count
 }
 
 /// Of how many calls something is asked.
 fn asked_count(marks: &[Mark]) -> usize
     ensures { result ≡ spec.asked_count marks.now }
 {
-    marks
-        .iter()
-        .filter(|mark| !is_mark(**mark, Mark::Nothing))
-        .count()
+    let mut count = 0;
+    for mark in marks {
+        if !is_mark(*mark, Mark::Nothing) {
+            count += 1;
+        }
+    }
+    count
 }
 
 /// What stands behind the name of a file whose answers were marked.

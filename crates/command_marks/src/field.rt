@@ -15,7 +15,12 @@ fn needs_marks(byte: u8) -> bool
 fn has_needs(bytes: &[u8]) -> bool
     ensures { result ≡ spec.has_needs bytes.now }
 {
-    bytes.iter().any(|byte| needs_marks(*byte))
+    for byte in bytes {
+        if needs_marks(*byte) {
+            return true;
+        }
+    }
+    false
 }
 
 /// Adds a byte, a quotation mark twice.
