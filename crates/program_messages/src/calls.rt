@@ -64,7 +64,10 @@ pub fn note_on_broken<R: Eprint + AllocGlobal>(rt: &R, source: NamedText<'_>, no
         part: Part::Key,
     };
     if let Ok(span) = span_at(rt.alloc(), source.text, sought) {
-        let start = span.map_or(0, |span| span.start);
+        let start = match span {
+            Some(span) => span.start,
+            None => 0,
+        };
         let ((line, column), name) = (line_and_column(source.text, start), source.name);
         let _ = eprintln!(rt; "{name}:{line}:{column}: {}", note.text);
     }
@@ -86,11 +89,10 @@ fn unmeetable<R: AllocGlobal>(
     unmet: &[CallNote],
 ) -> Result<Vec<Option<String>>, AllocError> {
     let alloc = rt.alloc();
-    let calls = unmet
-        .iter()
-        .take(MOST_TOLD)
-        .map(|note| note.call)
-        .collect::<Vec<usize>>(alloc)?;
+    let mut calls = Vec::new(alloc);
+    for note in unmet.iter().take(MOST_TOLD) {
+        calls.push(note.call)?;
+    }
     unmeetable_expectations(alloc, source.text.as_bytes(), calls.as_slice())
 }
 

@@ -32,22 +32,28 @@ fn is_comment(line: &str) -> bool {
 
 /// The key or the word that a line begins with.
 fn first_word(line: &str) -> &str {
-    let end = line
-        .as_bytes()
-        .iter()
-        .position(|byte| !(byte.is_ascii_alphanumeric() || *byte == b'_'));
-    match end {
-        Some(end) => line.split_at_checked(end).unwrap_or((line, "")).0,
-        None => line,
+    for (end, byte) in line.as_bytes().iter().enumerate() {
+        if !(byte.is_ascii_alphanumeric() || *byte == b'_') {
+            return line.split_at_checked(end).unwrap_or((line, "")).0;
+        }
     }
+    line
+}
+
+/// The first line of a text that is no comment, without the white space around it.
+fn first_line(text: &str) -> Option<&str> {
+    for line in text.lines() {
+        let line = line.trim();
+        if !is_comment(line) {
+            return Some(line);
+        }
+    }
+    None
 }
 
 /// The kind that a text looks like, by the first of its lines that is no comment.
 pub fn kind_of(text: &str) -> Option<Kind> {
-    let line = text
-        .lines()
-        .map(|line| line.trim())
-        .find(|line| !is_comment(line))?;
+    let line = first_line(text)?;
     if line.starts_with("<") {
         return Some(Kind::System);
     }

@@ -1,5 +1,5 @@
 //! What is said of a layout.
-use setup_layout::{ReadLayout, Reading, Remarks, Spot};
+use setup_layout::{Reading, Remarks, Spot};
 use setup_positions::NamedText;
 use setup_system::read_any_layout;
 use std::alloc::{AllocError, Global};
@@ -38,7 +38,8 @@ pub fn layout_words(
     reading: Reading,
     name: &str,
 ) -> Result<String, AllocError> {
-    let ReadLayout { layout, names, .. } = read_any_layout(alloc, bytes, reading)?;
+    let read = read_any_layout(alloc, bytes, reading)?;
+    let (layout, names) = (&read.layout, &read.names);
     let text = std::str::from_utf8(bytes).unwrap_or("");
     let (source, mut words) = (NamedText { name, text }, String::new(alloc));
     if layout.faults.told.is_empty() {

@@ -140,13 +140,18 @@ fn note_on_words(rt: &impl Eprint, text: &str) {
 
 /// Says that one file is read in a run, where more words than one stand behind a command that reads one, and none is an option.
 fn note_on_files(rt: &impl Eprint, words: &[&str]) {
-    let is_option_or_help = |word: &&str| word.starts_with("-") || *word == "help";
-    if words.len() > 3 && !words.iter().any(is_option_or_help) {
-        complain(
-            rt,
-            "one file is read in a run; check and marks take several",
-        );
+    if words.len() <= 3 {
+        return;
     }
+    for word in words {
+        if word.starts_with("-") || *word == "help" {
+            return;
+        }
+    }
+    complain(
+        rt,
+        "one file is read in a run; check and marks take several",
+    );
 }
 
 /// Says that a word is no command, in these words, and which command looks like it.

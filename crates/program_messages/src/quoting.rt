@@ -14,6 +14,16 @@ fn is_plain(byte: u8) -> bool {
         )
 }
 
+/// Whether each byte of a word means nothing but itself to a shell.
+fn is_plain_word(word: &str) -> bool {
+    for byte in word.as_bytes() {
+        if !is_plain(*byte) {
+            return false;
+        }
+    }
+    !word.is_empty()
+}
+
 /// A file's name as it is written for a shell: as it is, or between quotes. Where it would be an option, `./` is before it.
 ///
 /// # Errors
@@ -21,7 +31,7 @@ fn is_plain(byte: u8) -> bool {
 pub fn shell_word(alloc: Global, name: &str) -> Result<String, AllocError> {
     let is_option = name != "-" && name.starts_with("-");
     let front = if is_option { "./" } else { "" };
-    if !name.is_empty() && name.as_bytes().iter().all(|byte| is_plain(*byte)) {
+    if is_plain_word(name) {
         return format!(in alloc; "{front}{name}");
     }
     let mut text = format!(in alloc; "{front}'")?;

@@ -5,19 +5,28 @@ use std::alloc::{AllocError, Global};
 
 /// Whether a word says a base and, behind a colon, bits.
 fn is_region(word: &str) -> bool {
-    word.split_once(':').is_some_and(|(base, bits)| {
-        base.parse::<u64>().is_ok() && bits.parse::<u32>().is_ok()
-    })
+    match word.split_once(':') {
+        Some((base, bits)) => base.parse::<u64>().is_ok() && bits.parse::<u32>().is_ok(),
+        None => false,
+    }
 }
 
 /// The first word of `--untyped` that says no region.
 fn no_region(text: &str) -> Option<&str> {
-    text.split(',').find(|word| !is_region(*word))
+    for word in text.split(',') {
+        if !is_region(word) {
+            return Some(word);
+        }
+    }
+    None
 }
 
 /// Whether the number of an option is not from the least to the most.
 fn is_past(number: Option<u64>, least: u32, most: u32) -> bool {
-    number.is_some_and(|n| n < u64::from(least) || n > u64::from(most))
+    match number {
+        Some(n) => n < u64::from(least) || n > u64::from(most),
+        None => false,
+    }
 }
 
 /// What is wrong with a number, where one is.
@@ -39,7 +48,9 @@ fn wrong_number(alloc: Global, options: Options<'_>) -> Result<Option<String>, A
 
 /// What is wrong with a text, where one is.
 fn wrong_text(alloc: Global, options: Options<'_>) -> Result<Option<String>, AllocError> {
-    if let Some(word) = options.untyped.and_then(no_region) {
+    if let Some(text) = options.untyped
+        && let Some(word) = no_region(text)
+    {
         let text = format!(in alloc;
             "--untyped {word}: BASE:BITS is accepted, as 32768:12; with commas between regions"
         )?;

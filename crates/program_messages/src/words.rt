@@ -36,15 +36,13 @@ pub fn near_command(alloc: Global, word: &str) -> Result<Option<&'static str>, A
 /// Whether this is the first word behind the program's name, and looks neither like an option nor like a file's name, which has
 /// a dot or a slash.
 pub fn may_be_command(words: &[&str], word: &str) -> bool {
-    let looks_like_file = word
-        .as_bytes()
-        .iter()
-        .any(|byte| matches!(*byte, b'.' | b'/'));
-    let is_first = words.get(1).is_some_and(|first| *first == word);
+    let bytes = word.as_bytes();
+    let looks_like_file = bytes.contains(&b'.') || bytes.contains(&b'/');
+    let is_first = words.get(1) == Some(&word);
     is_first && !word.is_empty() && !word.starts_with("-") && !looks_like_file
 }
 
 /// Whether a word is a command.
 pub fn is_command(word: &str) -> bool {
-    COMMANDS.iter().any(|command| *command == word)
+    COMMANDS.contains(&word)
 }
