@@ -5,7 +5,8 @@ what `check` writes. A refused set-up gets the line of its refusal; for any othe
 The trace has the report's lines of the calls, its last line and its exit status; a call that is refused, dropped or finds nothing has no
 changes; a line that goes was there, and one that comes was not; and the state behind the last call gives the report's lines of the state.
 The state behind each call, or behind the last one of a long run, gives the forest that `tree` writes, siblings in its order. The lines
-of `why` are among those of the trace.
+of `why` are among those of the trace. With `--ways` there are lines of ways besides, and nothing else is another: each call by a thread
+that is ready has one of the word `cap` first, and none fails of a call that is not refused.
 
 `why` has the report's lines of the refused calls, each with one to four lines below it, how many there are, the report's last line and
 its exit status. Where there is a NAME.why, each call is also chosen by its number: there are its lines alone, or `not refused`; of a
@@ -17,6 +18,7 @@ standard input. By `migrate` that one is refused, since it has another format.
 `record` writes the set-up in all but what its calls expect: each expects the reply that the report shows, and of a reply that is too long
 for an expectation all but the words of the message. By `check` each expectation of it is met. What is recorded of an exercise, marked by
 itself, is all right."""
+import itertools
 import pathlib
 import re
 import sys
@@ -214,6 +216,19 @@ def faults_of_recorded(program, setup, report, recorded):
         yield f"what is recorded is not right: {marks[-200:]!r}"
 
 
+def faults_of_ways(told, trace, status):
+    """What is wrong with a trace that has the ways of words."""
+    lines = told[1].splitlines(keepends=True)
+    if told[0] != status or [line for line in lines if not line.startswith("  way ")] != trace.splitlines(keepends=True):
+        yield "with its ways the trace has other lines besides, or another status"
+    for at, line in enumerate(lines):
+        if CALL.match(line) and lines[at + 2].startswith("  way cap ") == bool(re.search(r": refused 10[01]\b", line)):
+            yield f"{line.strip()} has ways, and looks nothing up, or the other way round"
+        if CALL.match(line) and ": refused " not in line:
+            ways = itertools.takewhile(lambda it: it.startswith("  way "), lines[at + 2:])
+            yield from (f"{line.strip()} is done, and {way.strip()}" for way in ways if ": " in way)
+
+
 def faults(program, setup):
     """What is wrong with what is said of a set-up."""
     (status, report), recorded, *told = (run(program, command, setup) for command in ("check", "record", "trace", "why"))
@@ -226,6 +241,7 @@ def faults(program, setup):
     yield from (f"status {it[0]}, and that of check is {status}" for it in told if it[0] != status)
     trace, why = (text for _, text in told)
     yield from faults_of_trace(program, setup, report, trace, why)
+    yield from faults_of_ways(run(program, "trace", "--ways", setup), trace, status)
     lines = report.splitlines(keepends=True)
     calls = [line for line in lines if CALL.match(line)]
     yield from faults_of_all(calls, lines, why)

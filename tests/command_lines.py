@@ -124,6 +124,8 @@ LINES = [
     ("check --names text.toml", 2, "set-up refused 200 at text\n"),
     ("check --names - text.toml", 2, "-: expected 1 of 1\ntext.toml: set-up refused 200 at text\n"),
     ("trace --names", 0, "  + endpoint 6144 sending 2048\n"),
+    ("trace --ways", 0, "  way cap 4 bits 64 from 2048 guard 0 size 60 index 0100 slot 128\n"),
+    ("why --ways", 4, REFUSED),
     ("why --names", 0, "refused 0 of 2\nexpected 1 of 1\n"),
     ("threads --names", 0, "entries 2 of 2\n"),
     ("explore --names", 0, "explore 2 wide clients 1 calls 2\n"),

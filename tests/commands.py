@@ -85,7 +85,7 @@ LINES = [
     ("check", "set_up.toml"), ("check", "stored.toml"), ("check --strict --names", "set_up.toml"), ("check first.toml", "apart.toml"),
     ("check --quiet", "apart.toml"),
     ("marks", "set_up.toml"), ("marks --of set_up.toml", "set_up.toml"), ("record", "set_up.toml"),
-    ("trace", "set_up.toml"), ("trace --names", "set_up.toml"),
+    ("trace", "set_up.toml"), ("trace --names", "set_up.toml"), ("trace --ways", "set_up.toml"),
     ("migrate", "first.toml"),
     ("threads", "set_up.toml"), ("threads --first 1 --names", "set_up.toml"),
     ("why", "set_up.toml"), ("why --call 2 --names", "set_up.toml"),

@@ -43,7 +43,7 @@ _sel4sim() {
             [[ $word == -* ]] || mapfile -t -O "${#COMPREPLY[@]}" COMPREPLY < <(compgen -f -- "$word")
             ;;
         trace)
-            COMPREPLY=($(compgen -W '--names -h --help' -- "$word"))
+            COMPREPLY=($(compgen -W '--ways --names -h --help' -- "$word"))
             [[ $word == -* ]] || mapfile -t -O "${#COMPREPLY[@]}" COMPREPLY < <(compgen -f -- "$word")
             ;;
         migrate)

@@ -17,6 +17,7 @@ complete -c sel4sim -n '__fish_use_subcommand' -a record -d 'Run a set-up and pr
 complete -c sel4sim -n '__fish_seen_subcommand_from record' -s h -l help -d 'Print help'
 complete -c sel4sim -n '__fish_seen_subcommand_from record' -F
 complete -c sel4sim -n '__fish_use_subcommand' -a trace -d 'Run a set-up and print what each of its calls changed'
+complete -c sel4sim -n '__fish_seen_subcommand_from trace' -l ways -d 'Show the way of each word of a call in bits'
 complete -c sel4sim -n '__fish_seen_subcommand_from trace' -l names -d 'Show names instead of addresses'
 complete -c sel4sim -n '__fish_seen_subcommand_from trace' -s h -l help -d 'Print help'
 complete -c sel4sim -n '__fish_seen_subcommand_from trace' -F

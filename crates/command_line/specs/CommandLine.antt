@@ -121,7 +121,7 @@ subcommands =
     subcommand_with (codes "check") Several (flag_rule (codes "strict") ∷ flag_rule (codes "quiet") ∷ names_rule ∷ [])
     ∷ subcommand_with (codes "marks") Several (text_rule (codes "of") ∷ [])
     ∷ subcommand_with (codes "record") One []
-    ∷ subcommand_with (codes "trace") One (names_rule ∷ [])
+    ∷ subcommand_with (codes "trace") One (flag_rule (codes "ways") ∷ names_rule ∷ [])
     ∷ subcommand_with (codes "migrate") One []
     ∷ subcommand_with (codes "threads") One (first_rule ∷ names_rule ∷ [])
     ∷ subcommand_with (codes "why") One (number_rule (codes "call") ∷ names_rule ∷ [])
@@ -272,6 +272,7 @@ pub record HasOptions (rows : List Row) (options : Options) : Type 0 where
   pub states : Says (first_of (codes "states") rows) options.states
   pub witness : option_map (λ s. s.now) options.witness ≡ first_of (codes "witness") rows
   pub ends : options.ends ≡ is_set (first_of (codes "ends") rows)
+  pub ways : options.ways ≡ is_set (first_of (codes "ways") rows)
   pub dot : options.dot ≡ is_set (first_of (codes "dot") rows)
   pub profile : option_map (λ s. s.now) options.profile ≡ first_of (codes "profile") rows
   pub threads : Says (first_of (codes "threads") rows) options.threads

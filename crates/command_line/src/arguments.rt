@@ -86,6 +86,8 @@ pub struct Options<'a> {
     pub witness: Option<&'a str>,
     /// Whether `--ends` of `explore` is there: clients that share nothing are explored group by group.
     pub ends: bool,
+    /// Whether `--ways` of `trace` is there: of each call is told the way of each of its words, in bits.
+    pub ways: bool,
     /// Whether `--dot` of `tree` is there: a graph is asked for.
     pub dot: bool,
     /// `--profile` of `new`: the machine.

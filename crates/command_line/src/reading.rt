@@ -252,6 +252,7 @@ fn options_in<'a>(matches: &ArgMatches<'a>) -> Options<'a>
         states: number_given(matches, "states"),
         witness: text_given(matches, "witness"),
         ends: flag_given(matches, "ends"),
+        ways: flag_given(matches, "ways"),
         dot: flag_given(matches, "dot"),
         profile: text_given(matches, "profile"),
         threads: number_given(matches, "threads"),

@@ -68,7 +68,10 @@ pub const COMMANDS: [CommandRow; 17] = [
         OptionRow("of", Text("EXERCISE"), "Mark the files by the questions of this one, and print a table"),
     ] },
     CommandRow { name: "record", files: One, about: "Run a set-up and print it with the reply to each call as what the call expects", options: &[] },
-    CommandRow { name: "trace", files: One, about: "Run a set-up and print what each of its calls changed", options: &[NAMES] },
+    CommandRow { name: "trace", files: One, about: "Run a set-up and print what each of its calls changed", options: &[
+        OptionRow("ways", Nothing, "Show the way of each word of a call in bits"),
+        NAMES,
+    ] },
     CommandRow { name: "migrate", files: One, about: "Print a set-up of format 1 as one of format 2", options: &[] },
     CommandRow { name: "threads", files: One, about: "Run each client of a set-up in a thread of its own and print what was done, in order", options: &[FIRST, NAMES] },
     CommandRow { name: "why", files: One, about: "Run a set-up and print why its calls are refused", options: &[

@@ -12,3 +12,5 @@ pub mod Put
 pub mod Added
 pub mod Derives
 pub mod Walks
+pub mod Lookups
+pub mod Digits

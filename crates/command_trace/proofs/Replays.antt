@@ -1,5 +1,5 @@
 -- The lines of the calls of a run are the report's, each followed by its details.
-use Rattle.std.proofs.Common.{◌≡◌, ℕ, ◌+◌, List, [], ◌∷◌, ◌++◌, map, refl, ap, ◌∙◌, append_assoc}
+use Rattle.std.proofs.Common.{◌≡◌, ℕ, ◌+◌, Bool, List, [], ◌∷◌, ◌++◌, map, refl, ap, ◌∙◌, append_assoc}
 use Rattle.toml.specs.Data.{Members}
 use Rattle.cap_core.specs.declared.profile.ProfileName.{ProfileName}
 use Rattle.kernel_abstract.specs.declared.call.Reply.{Reply}
@@ -17,13 +17,13 @@ report_followed texts number (call ∷ calls) [] = refl
 report_followed texts number (call ∷ calls) (reply ∷ replies) =
     ap (λ l. terminated (call_text texts number call.call reply call.expect) ++ l) (report_followed texts (number + 1) calls replies)
 
-pub trace_followed : (texts : Texts) (p : ProfileName) (table : Members) (i : ℕ) (A : State) (calls : List CallView) →
-    traced_calls_lines texts p table i A calls ≡ followed (report_lines texts (i + 1) calls (replies_of p A (map (λ (c : CallView). c.call) calls))) (details texts p table i A calls)
+pub trace_followed : (ways : Bool) (texts : Texts) (p : ProfileName) (table : Members) (i : ℕ) (A : State) (calls : List CallView) →
+    traced_calls_lines ways texts p table i A calls ≡ followed (report_lines texts (i + 1) calls (replies_of p A (map (λ (c : CallView). c.call) calls))) (details ways texts p table i A calls)
 unfolding traced_calls_lines replies_of details
-trace_followed texts p table i A [] = refl
-trace_followed texts p table i A (call ∷ calls) =
+trace_followed ways texts p table i A [] = refl
+trace_followed ways texts p table i A (call ∷ calls) =
     let B = (step p A call.call).state in
     let first = terminated (call_text texts (i + 1) call.call (step p A call.call).reply call.expect) in
-    let more = call_details texts p table i A call.call in
-    append_assoc first more (traced_calls_lines texts p table (i + 1) B calls)
-    ∙ ap (λ l. first ++ (more ++ l)) (trace_followed texts p table (i + 1) B calls)
+    let more = call_details ways texts p table i A call.call in
+    append_assoc first more (traced_calls_lines ways texts p table (i + 1) B calls)
+    ∙ ap (λ l. first ++ (more ++ l)) (trace_followed ways texts p table (i + 1) B calls)

@@ -12,8 +12,10 @@ ghost use Rattle.command_trace.specs.Views.{IsStateTold};
 ghost use Rattle.command_why.specs.Tables.{call_table as call_table_of};
 ghost use Rattle.command_why.specs.Why.{reason_lines_of};
 ghost use Rattle.command_trace.specs.Trace.{words_line, why_text, traced_call_lines, traced_calls_lines};
+ghost use Rattle.command_trace.specs.Ways.{ways_asked as ways_asked_of};
 
 use crate::lines::{Told, foresee, tell_made};
+use crate::ways::ways_asked;
 use crate::words::OpWords;
 use cap_core::Profile;
 use command_why::{Asked, call_table, explain};
@@ -44,12 +46,13 @@ fn add_why(out: &mut String, why: &Option<String>) -> Result<(), AllocError>
     }
 }
 
-/// Makes the call at place `i` of a set-up, and adds its line, its words, why it is refused, and what it changed. `told` is what
-/// was told of the state before it, where that is kept.
+/// Makes the call at place `i` of a set-up, and adds its line, its words, their ways where these are asked for, why it is refused, and
+/// what it changed. `told` is what was told of the state before it, where that is kept.
 fn make_call<P: Profile, S: DerivationStore<P> + Drop, W: Waiters<P> + Drop>(
     alloc: Global,
     out: &mut String,
     naming: &Naming<'_>,
+    ways: bool,
     setup: &Setup,
     table: &Table,
     i: usize,
@@ -64,6 +67,7 @@ fn make_call<P: Profile, S: DerivationStore<P> + Drop, W: Waiters<P> + Drop>(
     ensures text { IfOk result (λ r. (call : CallView) → slice_get setup.now.calls i ≡ Some call
         → string_bytes out.new ≡ string_bytes out.old
         ++ traced_call_lines (naming_view naming.now) (i + 1) call r.1
+        (ways_asked_of ways (naming_view naming.now) P.profile kernel.old call.call)
         (reason_lines_of (naming_view naming.now) P.profile kernel.old (record { call = call.call; table = call_table_of (table_view table.now) i }))
         (told_lines (naming_view naming.now) P.profile kernel.old) (told_lines (naming_view naming.now) P.profile kernel.new)) }
     ensures told { IfOk result (λ r. IsKept (naming_view naming.now) P.profile kernel.new r.0) }
@@ -75,11 +79,13 @@ fn make_call<P: Profile, S: DerivationStore<P> + Drop, W: Waiters<P> + Drop>(
         table: call_table(table, i),
     };
     let why = explain::<P, S, W>(alloc, kernel, asked)?;
+    let ways = ways_asked::<P, S, W>(alloc, ways, naming, kernel, &call)?;
     let found = kernel.explain_call(&call);
     let foreseen = foresee::<P, S, W>(alloc, naming, told, kernel, found)?;
     let reply = kernel.step(call);
     add_call(alloc, out, naming, i + 1, &call, setup.expect(i), reply)?;
     add_words(out, call.op)?;
+    out.push_str(ways.as_str())?;
     add_why(out, &why)?;
     let told = tell_made::<P, S, W>(alloc, out, naming, foreseen, kernel, reply)?;
     Ok((told, reply))
@@ -91,6 +97,7 @@ pub fn add_calls<P: Profile, S: DerivationStore<P> + Drop, W: Waiters<P> + Drop>
     alloc: Global,
     out: &mut String,
     naming: &Naming<'_>,
+    ways: bool,
     setup: &Setup,
     table: &Table,
     kernel: &mut Kernel<P, S, W>,
@@ -102,13 +109,13 @@ pub fn add_calls<P: Profile, S: DerivationStore<P> + Drop, W: Waiters<P> + Drop>
         → replies.items ≡ replies_of P.profile A (map (λ c. c.call) setup.now.calls)) }
     ensures text { IfOk result (λ replies. (A : State) → IsReached P.profile A → kernel.old ≡ shown A
         → string_bytes out.new ≡ string_bytes out.old
-        ++ traced_calls_lines (naming_view naming.now) P.profile (table_view table.now) 0 A setup.now.calls) }
+        ++ traced_calls_lines ways (naming_view naming.now) P.profile (table_view table.now) 0 A setup.now.calls) }
 {
     let mut told = Some(first);
     let mut replies = Vec::with_capacity(alloc, setup.calls().len())?;
     for i in 0..setup.calls().len() {
         let (next, reply) = make_call::<P, S, W>(
-            alloc, out, naming, setup, table, i, kernel, told,
+            alloc, out, naming, ways, setup, table, i, kernel, told,
         )?;
         told = next;
         replies.push(reply)?;

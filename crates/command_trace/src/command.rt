@@ -14,39 +14,41 @@ use setup_format::ReadSetup;
 use slot_core::{DerivationStore, MakeStore, SaveStore};
 use std::alloc::{AllocError, Global};
 
-/// Runs the set-up in a profile, and tells what each call changes, by addresses or by names.
+/// Runs the set-up in a profile, and tells what each call changes, by addresses or by names, with the ways of words or without.
 #[tactic(auto, unfolding(crate::specs::Traces::traced_in))]
 fn trace_setup<P: Profile, S: MakeStore<P> + DerivationStore<P>, W: MakeWaiters<P>>(
     alloc: Global,
     by_name: bool,
+    ways: bool,
     read: &ReadSetup,
 ) -> Result<Answer, AllocError>
     requires { IsPlan P.profile read.now.setup.plan }
-    ensures { IfOk result (λ made. (made.text.items, made.verdict) ≡ traced_in by_name P.profile (read_view read.now)) }
+    ensures { IfOk result (λ made. (made.text.items, made.verdict) ≡ traced_in by_name ways P.profile (read_view read.now)) }
 {
     let (names, setup) = (read.names.as_slice(), &read.setup);
     let naming = naming_after::<P, S, W>(alloc, by_name, names, setup)?;
-    let (text, count, unmet) = trace::<P, S, W>(alloc, &naming, &read.table, names, setup)?;
+    let (text, count, unmet) = trace::<P, S, W>(alloc, &naming, ways, &read.table, names, setup)?;
     Ok(Answer::with_unmet(alloc, text, verdict_on(count), unmet))
 }
 
 /// What each call of a set-up changes, in a line each. If `names` is set, objects and slots that have a name in the state after
-/// all calls are told by it. The verdict is that of the expectations.
+/// all calls are told by it. If `ways` is set, the way of each word of a call is told, in bits. The verdict is that of the expectations.
 #[derive(Clone, Copy, Drop)]
 pub struct Trace {
     pub names: bool,
+    pub ways: bool,
 }
 
 impl Command for Trace {
     ghost use Rattle.command_trace.specs.Traces.{IsTrace};
 
-    ghost answers = { λ trace. IsTrace trace.names };
+    ghost answers = { λ trace. IsTrace trace.names trace.ways };
 
     fn answer<P: Profile, S: SaveStore<P> + DerivationStore<P>, W: SaveWaiters<P>>(
         &self,
         alloc: Global,
         read: &ReadSetup,
     ) -> Result<Answer, AllocError> {
-        trace_setup::<P, S, W>(alloc, self.names, read)
+        trace_setup::<P, S, W>(alloc, self.names, self.ways, read)
     }
 }

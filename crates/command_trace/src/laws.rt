@@ -1,5 +1,5 @@
 //! Laws of a trace. Nothing is done.
-ghost use Rattle.std.specs.Prelude.{◌≡◌, ℕ, ◌+◌, List, [], is_some, map};
+ghost use Rattle.std.specs.Prelude.{◌≡◌, ℕ, ◌+◌, Bool, List, [], is_some, map};
 ghost use Rattle.toml.specs.Data.{Members};
 ghost use Rattle.cap_core.specs.declared.profile.ProfileName.{ProfileName};
 ghost use Rattle.kernel_abstract.specs.declared.call.Call.{Call};
@@ -17,9 +17,9 @@ ghost use Rattle.command_trace.specs.Laws.{details, followed, report_lines};
 pub fn calls_are_those_of_the_report()
     ensures report { (texts : Texts) (number : ℕ) (calls : List CallView) (replies : List Reply)
         → call_lines texts number calls replies ≡ followed (report_lines texts number calls replies) [] }
-    ensures trace { (texts : Texts) (p : ProfileName) (table : Members) (i : ℕ) (A : State) (calls : List CallView)
-        → traced_calls_lines texts p table i A calls
-        ≡ followed (report_lines texts (i + 1) calls (replies_of p A (map (λ c. c.call) calls))) (details texts p table i A calls) }
+    ensures trace { (ways : Bool) (texts : Texts) (p : ProfileName) (table : Members) (i : ℕ) (A : State) (calls : List CallView)
+        → traced_calls_lines ways texts p table i A calls
+        ≡ followed (report_lines texts (i + 1) calls (replies_of p A (map (λ c. c.call) calls))) (details ways texts p table i A calls) }
     ensures last { (calls : List CallView) (replies : List Reply)
         → count_line (met_count calls replies) (expectation_count calls replies) ≡ expectation_line calls replies }
 {}

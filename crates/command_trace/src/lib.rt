@@ -2,12 +2,14 @@
 //! of a kernel's state, and how two states differ.
 #![tactic(auto)]
 
+mod bits;
 mod calls;
 mod command;
 mod head;
 mod laws;
 mod lines;
 mod run;
+mod ways;
 mod words;
 
 pub use command::Trace;

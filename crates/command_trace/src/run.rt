@@ -40,8 +40,8 @@ fn add_expectations(out: &mut String, count: ExpectationCount) -> Result<(), All
 }
 
 /// The trace of a set-up's run, in the profile of its plan: the names by which it was spelt, what the boot gives, and
-/// for each call the report's own line, its words, why it is refused, and what it changed: each line of the state that is gone
-/// and each that is new; and how many of the expectations are met. `table` is the table that the set-up was read from: a
+/// for each call the report's own line, its words, with `ways` the way of each of them, why it is refused, and what it changed: each
+/// line of the state that is gone and each that is new; and how many of the expectations are met. `table` is the table that the set-up was read from: a
 /// value that it spells by a name has that name beside it, where a reason speaks of it. A line tells of a thread, of the last
 /// message delivered to one, of an endpoint, of a full slot with the slot that it stands right below, of a CNode that only
 /// slots of its own name, or of the sibling right in front of a full slot. Objects and slots stand as `naming` tells them.
@@ -51,12 +51,13 @@ fn add_expectations(out: &mut String, count: ExpectationCount) -> Result<(), All
 pub fn trace<P: Profile, S: MakeStore<P> + DerivationStore<P>, W: MakeWaiters<P>>(
     alloc: Global,
     naming: &Naming<'_>,
+    ways: bool,
     table: &Table,
     names: &[Name],
     setup: &Setup,
 ) -> Result<(Vec<u8>, ExpectationCount, Vec<CallNote>), AllocError>
     requires { IsPlan P.profile setup.now.plan }
-    ensures text { IfOk result (λ r. r.0.items ≡ spec.trace_told (naming_view naming.now) P.profile (table_view table.now) (names_view names.now) setup.now) }
+    ensures text { IfOk result (λ r. r.0.items ≡ spec.trace_told ways (naming_view naming.now) P.profile (table_view table.now) (names_view names.now) setup.now) }
     ensures met { IfOk result (λ r. r.1.met ≡ met_count setup.now.calls (spec.replies_to P.profile setup.now)) }
     ensures expected { IfOk result (λ r. r.1.expected
         ≡ expectation_count setup.now.calls (spec.replies_to P.profile setup.now)) }
@@ -67,7 +68,16 @@ pub fn trace<P: Profile, S: MakeStore<P> + DerivationStore<P>, W: MakeWaiters<P>
     add_names(&mut out, names)?;
     add_boot(&mut out)?;
     let told = tell::<P, S, W>(alloc, &mut out, naming, &kernel)?;
-    let replies = add_calls::<P, S, W>(alloc, &mut out, naming, setup, table, &mut kernel, told)?;
+    let replies = add_calls::<P, S, W>(
+        alloc,
+        &mut out,
+        naming,
+        ways,
+        setup,
+        table,
+        &mut kernel,
+        told,
+    )?;
     let count = expectations(alloc, setup, replies.as_slice())?;
     add_expectations(&mut out, count)?;
     let unmet = unmet_calls(alloc, setup, replies.as_slice(), count)?;

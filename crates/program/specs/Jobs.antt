@@ -153,7 +153,7 @@ IsImport options input text verdict =
 -- what each command writes for an input, by the policy with these bytes if its words name one: its text and its verdict
 abbrev pub meaning : Job → Options → List ℕ → List ℕ → List ℕ → Verdict → Type 0
 meaning Check options policy = IsCheck options
-meaning Trace options policy = IsAnswerTo (IsTrace options.names)
+meaning Trace options policy = IsAnswerTo (IsTrace options.names options.ways)
 meaning Threads options policy = IsShared options
 meaning Migrate options policy = IsMigration
 meaning Why options policy = IsAnswerTo (IsWhy options.names options.call)

@@ -399,8 +399,8 @@ impl Engine for Work<'_> {
         match self.job {
             Job::Check => make_check(alloc, options, input),
             Job::Trace => {
-                let names = options.names;
-                on_setup(alloc, Trace { names }, input)
+                let Options { names, ways, .. } = options;
+                on_setup(alloc, Trace { names, ways }, input)
             }
             Job::Threads => unreachable!(),
             Job::Migrate => Migrator.make(alloc, input),

@@ -8,6 +8,7 @@ use Rattle.setup_report.specs.Naming.{naming_view}
 use Rattle.command_trace.specs.Told.{told_lines}
 use Rattle.command_why.specs.Tables.{call_table}
 use Rattle.command_why.specs.Why.{reason_lines_of}
+use Rattle.command_trace.specs.Ways.{ways_asked}
 use Rattle.command_trace.specs.Trace.{traced_call_lines, traced_calls_lines, why_at}
 use Rattle.command_trace.proofs.Differences.{written}
 use Rattle.command_trace.proofs.Steps.{reached_after, after_one, replies_one, take_next, there_is, take_whole, start_of_run, no_replies}
@@ -22,7 +23,7 @@ loop-i-init g c =
       told = c.requires.told;
       stands = λ A reached same. same ∙ ap shown (sym (start_of_run p A));
       replies = λ A reached same. c.in_ok-replies.ensures.items ∙ sym (no_replies p A);
-      text = λ A reached same. ap (λ B. string_bytes c.args.out.now ++ traced_calls_lines texts p (table_view c.args.table.now) 0 B c.args.setup.now.calls) (start_of_run p A);
+      text = λ A reached same. ap (λ B. string_bytes c.args.out.now ++ traced_calls_lines c.args.ways texts p (table_view c.args.table.now) 0 B c.args.setup.now.calls) (start_of_run p A);
     }
 
 pub make_call-requires-clause-reached : goal.make_call-requires-clause-reached
@@ -59,13 +60,13 @@ loop-i-preserved g c =
           let stands = c.loop-i.invariant.stands A reached same in
           let steps = c.in_ok-next.ensures.steps B call (reached_after p A made reached) stands at.1 in
           let wrote : string_bytes c.make_call.new.out
-          ≡ string_bytes c.loop-i.out ++ traced_call_lines texts (i + 1) call (step p B call.call).reply (why_at texts p table i B call.call) (told_lines texts p (shown B)) (told_lines texts p (shown (step p B call.call).state)) =
+          ≡ string_bytes c.loop-i.out ++ traced_call_lines texts (i + 1) call (step p B call.call).reply (ways_asked c.args.ways texts p (shown B) call.call) (why_at texts p table i B call.call) (told_lines texts p (shown B)) (told_lines texts p (shown (step p B call.call).state)) =
           c.in_ok-next.ensures.text call at.1
-          ∙ (λ k. string_bytes c.loop-i.out ++ traced_call_lines texts (i + 1) call (steps.reply_is k) (reason_lines_of texts p (stands k) (record { call = call.call; table = call_table table i })) (told_lines texts p (stands k)) (told_lines texts p (steps.shows k))) in
-          ap (λ C. string_bytes c.make_call.new.out ++ traced_calls_lines texts p table (i + 1) C (drop (i + 1) calls)) (ap (state_after p A) more ∙ after_one p A made call.call)
+          ∙ (λ k. string_bytes c.loop-i.out ++ traced_call_lines texts (i + 1) call (steps.reply_is k) (ways_asked c.args.ways texts p (stands k) call.call) (reason_lines_of texts p (stands k) (record { call = call.call; table = call_table table i })) (told_lines texts p (stands k)) (told_lines texts p (steps.shows k))) in
+          ap (λ C. string_bytes c.make_call.new.out ++ traced_calls_lines c.args.ways texts p table (i + 1) C (drop (i + 1) calls)) (ap (state_after p A) more ∙ after_one p A made call.call)
           ∙ written (string_bytes c.loop-i.out) (string_bytes c.make_call.new.out) (string_bytes c.args.out.now) _
-          (traced_calls_lines texts p table (i + 1) (step p B call.call).state (drop (i + 1) calls)) _ (traced_calls_lines texts p table 0 A calls)
-          wrote (call_next texts p table calls i call B at.1) (c.loop-i.invariant.text A reached same);
+          (traced_calls_lines c.args.ways texts p table (i + 1) (step p B call.call).state (drop (i + 1) calls)) _ (traced_calls_lines c.args.ways texts p table 0 A calls)
+          wrote (call_next c.args.ways texts p table calls i call B at.1) (c.loop-i.invariant.text A reached same);
     }
 
 pub returns-clause-replies : goal.returns-clause-replies
@@ -83,5 +84,5 @@ returns-clause-text g c = λ A reached same.
     let many : length c.calls-i-end.result.now ≡ length calls = ap length c.calls-i-end.ensures ∙ length-map calls (λ (k : CallView). k.call) in
     let made = map (λ (k : CallView). k.call) (take c.loop-i.i calls) in
     sym (append-nil (string_bytes c.loop-i.out))
-    ∙ ap (λ l. string_bytes c.loop-i.out ++ l) (sym (none_left (naming_view c.args.naming.now) p (table_view c.args.table.now) c.loop-i.i (state_after p A made) calls c.loop-i.i (omega (arith, c.loop-i-test.false, many))))
+    ∙ ap (λ l. string_bytes c.loop-i.out ++ l) (sym (none_left c.args.ways (naming_view c.args.naming.now) p (table_view c.args.table.now) c.loop-i.i (state_after p A made) calls c.loop-i.i (omega (arith, c.loop-i-test.false, many))))
     ∙ c.loop-i.invariant.text A reached same

@@ -18,6 +18,6 @@ invariant-loop-i g l =
       stands : (A : State) → IsReached p A → l.initial.kernel ≡ shown A → l.kernel ≡ shown (state_after p A (map (λ (c : CallView). c.call) (take l.i l.setup.calls)));
       replies : (A : State) → IsReached p A → l.initial.kernel ≡ shown A → l.replies.items ≡ replies_of p A (map (λ (c : CallView). c.call) (take l.i l.setup.calls));
       text : (A : State) → IsReached p A → l.initial.kernel ≡ shown A →
-          string_bytes l.out ++ traced_calls_lines texts p (table_view l.table) l.i (state_after p A (map (λ (c : CallView). c.call) (take l.i l.setup.calls))) (drop l.i l.setup.calls)
-          ≡ string_bytes l.initial.out ++ traced_calls_lines texts p (table_view l.table) 0 A l.setup.calls;
+          string_bytes l.out ++ traced_calls_lines l.ways texts p (table_view l.table) l.i (state_after p A (map (λ (c : CallView). c.call) (take l.i l.setup.calls))) (drop l.i l.setup.calls)
+          ≡ string_bytes l.initial.out ++ traced_calls_lines l.ways texts p (table_view l.table) 0 A l.setup.calls;
     }

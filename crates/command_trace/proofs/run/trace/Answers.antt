@@ -52,7 +52,7 @@ returns-clause-text g c =
     c.in_ok-add_expectations.ensures
     ∙ (λ i. (trace_head_line c.args.setup.now ++ name_lines (names_view c.args.names.now))
     ++ ((terminated (codes "0 boot") ++ told_changes nothing_told (told_lines texts p (stands i)))
-    ++ (traced_calls_lines texts p (table_view c.args.table.now) 0 (boot p plan) calls
+    ++ (traced_calls_lines c.args.ways texts p (table_view c.args.table.now) 0 (boot p plan) calls
     ++ count_line
     ((c.in_ok-count.ensures.met ∙ ap (met_count calls) replies) i)
     ((c.in_ok-count.ensures.expected ∙ ap (expectation_count calls) replies) i))))

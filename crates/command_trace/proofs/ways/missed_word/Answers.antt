@@ -1,0 +1,12 @@
+use Rattle.std.proofs.Common.{ap, ◌∙◌, Result}
+use Rattle.kernel_abstract.specs.declared.invocation.Invocation.{Invocation}
+use Rattle.kernel_abstract.specs.declared.reason.Reason.{Reason}
+use Rattle.command_trace.specs.Ways.{missed}
+use Rattle.command_trace.proofs.Lookups.{word_missed}
+use Rattle.command_trace.proofs.ways.missed_word.Goals as goal
+
+pub returns : goal.returns
+returns g c =
+    c.missed_in.ensures
+    ∙ ap (λ (r : Result Invocation Reason). missed r) c.explain_call.ensures
+    ∙ word_missed g.P.Profile.profile c.args.kernel.now c.args.thread c.args.cap c.requires
