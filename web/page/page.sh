@@ -1,7 +1,7 @@
 #!/bin/sh
 # page.sh PROGRAM SETUP > run.html: a page that steps through the run of a set-up.
 # It is viewer.html, which stands beside this script, or which join.py makes there first, with three lines filled in: the
-# title, by the set-up's name; the trace that `PROGRAM trace SETUP` writes; and, where the run has at most 200 calls, the
+# title, by the set-up's name; the trace that `PROGRAM trace --ways SETUP` writes; and, where the run has at most 200 calls, the
 # lines of what threads name, and of who can send to whom, that `PROGRAM audit --after N SETUP` writes for each N, from 0
 # on. & and < are escaped.
 # The status is the program's: 0, or 1 where an expectation is not met. With any other status no page is written, and
@@ -22,11 +22,11 @@ fi
 most_audits=200
 trace=$(mktemp) && audits=$(mktemp) || exit 3
 trap 'rm -f "$trace" "$audits"' EXIT
-"$1" trace "$2" > "$trace"
+"$1" trace --ways "$2" > "$trace"
 status=$?
 if [ "$status" -gt 1 ]; then
     cat "$trace" >&2
-    echo "page.sh: no page: $1 trace $2 ended with status $status" >&2
+    echo "page.sh: no page: $1 trace --ways $2 ended with status $status" >&2
     exit "$status"
 fi
 calls=$(sed -n '1s/.* calls //p' "$trace")

@@ -1,11 +1,8 @@
 // The question how an index is read: its bits are clicked apart where the guard of a CNode ends, or the number of a slot, and where the
-// lookup ends. What is right is worked out by the page, as the boxes of bits in the steps are.
-import { Run } from "../../page/source/state.mjs";
+// lookup ends. What is right the trace tells, as it does the boxes of bits in the steps.
 import { button, dim, element } from "../../page/source/element.mjs";
 import { drawBoxes } from "../../page/source/ways.mjs";
-import { inBits } from "../../page/source/bit_boxes.mjs";
 import { readTrace } from "../../page/source/trace.mjs";
-import { waysOf } from "../../page/source/lookup.mjs";
 
 /** Of a longer index nothing is asked. */
 const MOST_BITS = 16;
@@ -20,22 +17,17 @@ function cutsOf(parts) {
 }
 
 /** What is asked of one call, `{ name, bits, parts, cuts }`, or undefined. */
-function askedOf({ words }, ways) {
+function askedOf({ words, ways }) {
   const found = ASKED.find(([name, depth]) => Number(words[depth]) <= MOST_BITS && ways.some((way) => way.name === name));
   if (!found) return undefined;
   const [name, depth] = found;
-  const { word, parts } = ways.find((way) => way.name === name);
-  return { name, bits: inBits(word, words[depth]), parts, cuts: cutsOf(parts) };
+  const { bits, parts } = ways.find((way) => way.name === name);
+  return { name, bits, parts, cuts: cutsOf(parts) };
 }
 
 /** What is asked of the indices of a trace's calls, by the numbers of the calls. */
 export function indicesOf(text) {
-  const { steps, machine } = readTrace(text);
-  const run = new Run(steps);
-  return new Map(steps.slice(1).map((step) => {
-    run.go(step.number - 1);
-    return [step.number, askedOf(step, waysOf(run.state, machine, step))];
-  }));
+  return new Map(readTrace(text).steps.slice(1).map((step) => [step.number, askedOf(step)]));
 }
 
 const isSame = (one, other) => one.join() === other.join();

@@ -15,7 +15,7 @@ import { goalOf } from "./goal_text.mjs";
 import { indicesOf } from "./cutting.mjs";
 import { keepAt, keptAt } from "./kept.mjs";
 import { reasonsByCall } from "./why.mjs";
-import { traceBefore } from "./trace_text.mjs";
+import { TRACED, traceBefore } from "./trace_text.mjs";
 import { wordBitsOf } from "./places.mjs";
 
 /** What is kept of all exercises, by the texts that ask. */
@@ -96,7 +96,7 @@ export class Exercise {
     }
     // Until the new sheet is drawn, the one before it takes no answers.
     this.sheet.parent.inert = true;
-    const trace = await this.ask("trace", text);
+    const trace = await this.ask(TRACED, text);
     if (trace === null) return true;
     this.state = { ...NEW, inTurn: told.inTurn, ...keptAt(KEPT)[text], of: told.calls.filter(({ asked }) => asked).length };
     this.draw(trace);
@@ -114,9 +114,9 @@ export class Exercise {
 
   /** What the program writes of a text, or null where another set-up is open by then; where it refuses the text, the set-up is
       shown as any other one. */
-  async ask(subcommand, text) {
+  async ask(words, text) {
     const { told, name, page } = this;
-    const answer = await page.program.run([subcommand, name], name, new TextEncoder().encode(text));
+    const answer = await page.program.run([...words, name], name, new TextEncoder().encode(text));
     // What was stopped gives nothing away: the sheet stays.
     if (told !== this.told || answer === STOPPED) return null;
     if (answer.status === 0 || answer.status === 1) return new TextDecoder().decode(answer.output);
@@ -173,7 +173,7 @@ export class Exercise {
   /** What the program answers to another set-up, asked for its trace. */
   async traceOf(text) {
     const { told, name } = this;
-    const answer = await this.page.program.run(["trace", name], name, new TextEncoder().encode(text));
+    const answer = await this.page.program.run([...TRACED, name], name, new TextEncoder().encode(text));
     return told === this.told ? answer : STOPPED;
   }
 
@@ -257,7 +257,7 @@ export class Exercise {
 
   /** What the program answers to each call, by its number, or null. */
   async replies() {
-    const report = await this.ask("check", this.answeredText);
+    const report = await this.ask(["check"], this.answeredText);
     return report && new Map(callsOf(report).map((it) => [it.number, it]));
   }
 
@@ -314,7 +314,7 @@ export class Exercise {
   /** Shows the help that was asked for with wrong answers. */
   async drawHelped(replies) {
     const helped = Object.entries(this.state.helped);
-    const why = helped.length > 0 ? await this.ask("why", this.answeredText) : null;
+    const why = helped.length > 0 ? await this.ask(["why"], this.answeredText) : null;
     if (why === null) return;
     const reasons = reasonsByCall(why);
     for (const [number, steps] of helped) {
@@ -366,8 +366,8 @@ export class Exercise {
 
   /** Shows what the calls before one are answered: the trace, or null. */
   async showCards(replies, end) {
-    const why = await this.ask("why", this.answeredText);
-    const trace = why === null ? null : await this.ask("trace", this.answeredText);
+    const why = await this.ask(["why"], this.answeredText);
+    const trace = why === null ? null : await this.ask(TRACED, this.answeredText);
     if (trace === null) return null;
     const reasons = reasonsByCall(why);
     for (const card of this.sheet.cards.values()) {

@@ -9,7 +9,7 @@ import { decoded } from "./basics.mjs";
 import { isCallsAlone, withCall, withMine, withoutCall } from "./goal_text.mjs";
 import { placesOf, wordBitsOf, wordsTold } from "./places.mjs";
 import { reasonsByCall } from "./why.mjs";
-import { traceBefore } from "./trace_text.mjs";
+import { TRACED, traceBefore } from "./trace_text.mjs";
 
 /** So long after the last key what was typed is run. */
 const MILLISECONDS_STILL = 300;
@@ -57,9 +57,9 @@ export class Goal {
   }
 
   /** What the program writes of the set-up by some words; or `{ fault }` where it refuses it; or null where other calls are there by then. */
-  async ask(word, round) {
+  async ask(words, round) {
     const { page, exercise: { name } } = this;
-    const answer = await page.program.run([word, name], name, new TextEncoder().encode(this.text));
+    const answer = await page.program.run([...words, name], name, new TextEncoder().encode(this.text));
     if (round !== this.round || answer === STOPPED) return null;
     const isRun = answer.status === 0 || answer.status === 1;
     return isRun ? { text: decoded(answer.output) } : { fault: wordsTold(decoded(answer.errors))[0]?.words ?? decoded(answer.output) };
@@ -72,8 +72,8 @@ export class Goal {
     this.round += 1;
     const { round } = this;
     const texts = [];
-    for (const word of ["check", "why", "trace"]) {
-      const answer = await this.ask(word, round);
+    for (const words of [["check"], ["why"], TRACED]) {
+      const answer = await this.ask(words, round);
       if (answer === null) return;
       const fault = answer.fault ?? (isCallsAlone(this.told, this.state.mine) ? "" : FAULT);
       if (fault) {

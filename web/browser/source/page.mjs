@@ -16,12 +16,13 @@ import { element } from "../../page/source/element.mjs";
 import { LETTERS_BY_ITSELF, Runs } from "./runs.mjs";
 import { Rules } from "./rules.mjs";
 import { Sharing } from "./sharing.mjs";
+import { TRACED } from "./trace_text.mjs";
 import { Visits } from "./visits.mjs";
 import { callAt, lastLineOf, placesOf } from "./places.mjs";
 import { decoded, link, quoted } from "./basics.mjs";
 import { drawTerms } from "./terms.mjs";
 import { drawingOf } from "../../page/source/picture.mjs";
-import { drawMade, isLayout, setupNameOf } from "./layout.mjs";
+import { drawMade, drawRights, importWords, isLayout, setupNameOf } from "./layout.mjs";
 import { keepLeft, keepState } from "./kept.mjs";
 import { listenToFiles, saveFile } from "../../page/source/files.mjs";
 
@@ -56,7 +57,7 @@ class Page {
       shown: (number) => this.showCall(number), asked: (told) => this.askWhatIf(told) });
     // What is kept the editor can undo.
     this.branch = new Branch({ steps: this.steps, told: () => ({ text: this.editor.text, title: this.title }),
-      trace: (text) => this.runs.answerAlso(["trace"], text), keep: (text, number) => {
+      trace: (text) => this.runs.answerAlso(TRACED, text), keep: (text, number) => {
         this.firstCall = number;
         this.editor.mirror.setValue(text);
       } });
@@ -73,6 +74,7 @@ class Page {
     this.asOpened = "";
     this.firstCall = 0;
     this.shownCall = 0;
+    this.rights = "";
     this.shownFor = null;
     this.reasons = new Map();
     this.reported = "";
@@ -145,19 +147,22 @@ class Page {
       this.choose(POLICY);
       return null;
     }
-    return isLayout(name) ? this.openLayout(text, name) : this.open(text, name);
+    return isLayout(name) ? this.openLayout(text, name, "") : this.open(text, name);
   }
 
-  /** Opens the set-up that the program makes of a layout; where it makes none, the layout, with its faults at their lines. */
-  async openLayout(text, name) {
-    const answer = await this.program.run(["import", name], name, new TextEncoder().encode(text));
+  /** Opens the set-up that the program makes of a layout, by rights that it does not say; where it makes none, the layout, with its faults at
+      their lines. */
+  async openLayout(text, name, rights = this.rights) {
+    this.rights = rights;
+    const answer = await this.program.run(importWords(name, rights), name, new TextEncoder().encode(text));
     if (answer === STOPPED) return;
     if (answer.status !== 0) {
       await this.openIn(REPORT, text, name);
       return;
     }
     await this.openIn(REPORT, decoded(answer.output), setupNameOf(name));
-    this.say(...drawMade(name, decoded(answer.errors), link("see the layout", () => this.openIn(REPORT, text, name))));
+    this.say(...drawMade(name, decoded(answer.errors), link("see the layout", () => this.openIn(REPORT, text, name)),
+      drawRights(name, rights, (chosen) => this.openLayout(text, name, chosen))));
   }
 
   /** Keeps a set-up that was changed and is left, and offers the way back to it. */

@@ -4,6 +4,10 @@ const NAME = "sel4sim";
 /** A run that took more memory than this leaves a worker behind that is not used again, so that it is given back. */
 const KEPT_MEMORY = 64 << 20;
 
+/** The status of a command line that is refused. */
+const LINE_REFUSED = 4;
+const WAYS = "--ways";
+
 /** What a run that was stopped gives in place of an answer. */
 export const STOPPED = Symbol("stopped");
 
@@ -28,8 +32,15 @@ export class Program {
   }
 
   /** Runs the program with words and the files that they may name, one and others. The answer is `{ status, output, errors,
-      milliseconds, memory }`, with `trap` in place of `status` where it was ended by the browser, or STOPPED. */
+      milliseconds, memory }`, with `trap` in place of `status` where it was ended by the browser, or STOPPED. A module that is older
+      than `trace --ways` is asked for a trace alone: the steps say what that lacks. */
   async run(words, name, bytes, others = []) {
+    const answer = await this.runOnce(words, name, bytes, others);
+    const isOlder = answer.status === LINE_REFUSED && words.includes(WAYS);
+    return isOlder ? this.runOnce(words.filter((word) => word !== WAYS), name, bytes, others) : answer;
+  }
+
+  async runOnce(words, name, bytes, others) {
     this.stop();
     const answer = new Promise((give) => {
       this.give = give;

@@ -4,7 +4,7 @@ import { STOPPED } from "./program.mjs";
 import { callsOf } from "./report.mjs";
 import { decoded, link, quoted } from "./basics.mjs";
 import { element } from "../../page/source/element.mjs";
-import { isLayout } from "./layout.mjs";
+import { importWords, isLayout } from "./layout.mjs";
 import { reasonsByCall } from "./why.mjs";
 import { wordsTold } from "./places.mjs";
 
@@ -94,8 +94,9 @@ export class Runs {
   async runLayout(text, bytes) {
     const { page } = this;
     const [{ round }, { name }] = [this, page];
-    byId("command-line").textContent = `sel4sim import ${quoted(name)}`;
-    const answer = await page.program.run(["import", name], name, bytes);
+    const words = importWords(name, page.rights);
+    byId("command-line").textContent = ["sel4sim", ...words.map(quoted)].join(" ");
+    const answer = await page.program.run(words, name, bytes);
     if (answer === STOPPED || round !== this.round) return;
     page.editor.clear();
     if (answer.status === 0) page.say("The program makes a set-up of this layout. ", link("open the set-up", () => page.openLayout(text, name)));

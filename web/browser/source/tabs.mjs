@@ -9,6 +9,7 @@ import { drawOrders } from "./orders.mjs";
 import { drawReport, threadsReported } from "./report.mjs";
 import { drawWhy } from "./why.mjs";
 import { namesOf, wordBitsOf } from "./places.mjs";
+import { TRACED } from "./trace_text.mjs";
 
 /** The text as it is. */
 function showText(page, panel, text) {
@@ -78,7 +79,7 @@ function showSetup(page, panel, text) {
 const AFTER = { name: "after", about: "How many calls are made; all without it", least: "all calls" };
 
 export const REPORT = { name: "report", words: ["check"], about: "What each call is answered, and the state at the end", show: showReport };
-export const STEPS = { name: "steps", words: ["trace"], about: "What each call changes, step by step", show: showSteps };
+export const STEPS = { name: "steps", words: TRACED, about: "What each call changes, step by step", show: showSteps };
 const AUDIT = {
   name: "audit", words: ["audit"], about: "Who reaches what, who can send to whom, and what each revoke would destroy",
   options: [AFTER, { name: "slot", about: "The address of a slot: what a revoke of it would change", least: "none" }],
@@ -120,7 +121,8 @@ export const TABS = [
     missed: "an expectation is not met in some order, an order ends stuck, or not all orders were made",
     options: [{ name: "first", about: "So many calls are made before the clients begin", least: "0" },
       { name: "states", about: "The most states that are kept", least: "100000" }], show: showOrders },
-  { name: "trace", words: ["trace"], about: "The steps as text", isRare: true, show: showText },
+  { name: "trace", words: ["trace"], about: "The steps as text", isRare: true, show: showText,
+    options: [{ name: "ways", about: "With the way of each word of a call, in bits", isAlone: true }] },
   { name: "migrate", words: ["migrate"], about: "A set-up of format 1 as one of format 2", isRare: true, show: showSetup },
   { name: "threads", words: ["threads"], about: "The clients of a set-up side by side", isRare: true,
     told: "A browser gives this program no threads, so clients that run side by side cannot be shown here. The program "

@@ -1,5 +1,8 @@
 // A trace as a text.
 
+/** The words that ask for the trace of which the steps are drawn. */
+export const TRACED = ["trace", "--ways"];
+
 /** A trace that ends before a call. */
 export function traceBefore(trace, number) {
   const lines = trace.split("\n");

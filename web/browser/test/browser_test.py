@@ -41,7 +41,7 @@ import teacher  # noqa: E402
 import what_if  # noqa: E402
 from tester import SITE, Tester, as_answer, choose_pair, native, opened_at_last_call, option, pick, picked, type_option  # noqa: E402
 
-SUBCOMMANDS = (["check"], ["marks"], ["trace"], ["migrate"], ["why"], ["audit"], ["ever"], ["never", "2048,4096"], ["explore"],
+SUBCOMMANDS = (["check"], ["marks"], ["trace"], ["trace", "--ways"], ["migrate"], ["why"], ["audit"], ["ever"], ["never", "2048,4096"], ["explore"],
                ["tree"])
 SEED = 7
 TEXTS = 400

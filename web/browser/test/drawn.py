@@ -252,7 +252,7 @@ TRACES = """(async () => {
   const told = {};
   for (const { topic, setups } of sel4sim.page.data.topics) {
     for (const { name, text } of setups.filter((it) => it.text.length < 40000)) {
-      const { status, output } = await sel4sim.run(["trace", name], name, new TextEncoder().encode(text));
+      const { status, output } = await sel4sim.run(["trace", "--ways", name], name, new TextEncoder().encode(text));
       if (status < 2) told[`${topic}/${name}`] = new TextDecoder().decode(output);
     }
   }

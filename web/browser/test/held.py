@@ -149,6 +149,31 @@ def opened(test, _):
     test.wanted(browser.value(SETUP) == (LAYOUTS / "hello_camkes.cdl").read_text(), "the layout is another one")
 
 
+def rights_chosen(test, _):
+    """Of a .system file the rights that it does not say can be chosen: all are taken at first; a choice makes the set-up anew, and the layout
+    is read by it."""
+    browser = test.browser
+    pick(test, "examples", "send_then_receive")
+    test.choose(LAYOUTS / "hello.system", "open")
+    test.until("document.getElementById('name').value === 'hello.toml' && document.getElementById('import-rights')", "no rights can be chosen for a .system file")
+    test.settle()
+    for chosen, said in (("least", "assumed rights least"), ("", "assumed rights all")):
+        browser.value(f"(() => {{ const it = document.getElementById('import-rights'); it.value = {chosen!r}; it.dispatchEvent(new Event('change')); }})()")
+        test.until(f"{SETUP}.includes({said!r}) && document.getElementById('import-rights')?.value === {chosen!r}", f"the choice {chosen!r} makes no set-up of the {said}")
+        test.settle()
+    browser.value("(() => { const it = document.getElementById('import-rights'); it.value = 'least'; it.dispatchEvent(new Event('change')); })()")
+    test.until(f"{SETUP}.includes('assumed rights least')", "the least rights are not taken")
+    test.settle()
+    browser.value("[...document.querySelectorAll('#notice button')].find((it) => it.textContent === 'see the layout').click()")
+    test.until("document.getElementById('name').value === 'hello.system'", "nothing leads back to the layout")
+    test.settle()
+    told = test.text("command-line")
+    test.wanted(told == "sel4sim import --rights least hello.system", f"the layout is read by {told!r}")
+    test.choose(LAYOUTS / "hello_camkes.cdl", "open")
+    test.until("document.getElementById('name').value === 'hello_camkes.toml'", "a layout from a file makes no set-up")
+    test.wanted(not browser.value("document.getElementById('import-rights') !== null"), "rights can be chosen for capDL text")
+
+
 def faulty(test, _):
     """A layout with faults stays in the editor, each fault at its line."""
     browser = test.browser
@@ -163,4 +188,4 @@ def faulty(test, _):
         test.wanted(told == lines and lines, f"{layout.name}: faults are marked at {sorted(told)}, and are at {sorted(lines)}")
 
 
-CHECKS = (same_as_native, held, by_which_calls, kept, opened, faulty)
+CHECKS = (same_as_native, held, by_which_calls, kept, opened, rights_chosen, faulty)

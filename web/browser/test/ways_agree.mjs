@@ -1,16 +1,15 @@
-// ways_agree.mjs FILE: FILE has traces by their names, as JSON. A lookup that the program says fails has no slot in the page's drawing of it, one that
-// leads to a slot has that one, and of a call that is not refused each word has one.
+// ways_agree.mjs FILE: FILE has traces with ways by their names, as JSON. A lookup that a reason says fails has no slot in the way that the page
+// reads, one that leads to a slot has that one, and of a call that is not refused each word has one.
 import { readFileSync } from "node:fs";
-import { Run } from "../../page/source/state.mjs";
 import { readTrace } from "../../page/source/trace.mjs";
-import { waysOf } from "../../page/source/lookup.mjs";
 
 const FAILS = /^(?:its guard|its radix|no CNode is there)/mu;
 const LOOKED_UP = /^(cap|root|src_root|index|src_index) \d+(?: @\S+)?(?: (?:src_)?depth \d+(?: @\S+)?)? is looked up from/mu;
 const LEADS = /^(\w+) \d+(?: @\S+)? leads to slot (\d+)/gmu;
 
 /** What is wrong with the ways of a step, and how many lookups of it fail. */
-function* faultsOf(step, ways) {
+function* faultsOf(step) {
+  const { ways } = step;
   const reason = step.reasons.join("\n");
   const failing = ways.filter(({ address }) => address === null).map(({ name }) => name);
   const told = FAILS.test(reason) ? LOOKED_UP.exec(reason)[1] : null;
@@ -24,13 +23,9 @@ function* faultsOf(step, ways) {
 
 const counts = { ways: 0, faults: 0 };
 for (const [name, text] of Object.entries(JSON.parse(readFileSync(process.argv[2], "utf8")))) {
-  const { steps, machine } = readTrace(text);
-  const run = new Run(steps);
-  for (const step of steps.slice(1)) {
-    run.go(step.number - 1);
-    const ways = waysOf(run.state, machine, step);
-    counts.ways += ways.length;
-    for (const fault of faultsOf(step, ways)) {
+  for (const step of readTrace(text).steps.slice(1)) {
+    counts.ways += step.ways.length;
+    for (const fault of faultsOf(step)) {
       counts.faults += 1;
       console.log(`${name}, call ${step.number}: ${fault}`);
     }

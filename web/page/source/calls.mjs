@@ -16,7 +16,7 @@ export function nextStep(steps, from, direction, holds) {
 
 /** Whether a step's lines have a text in them, or what the page writes of it. */
 export function hasText(step, told, text) {
-  const lines = [step.line, step.with, ...step.reasons, ...step.changes.map(({ line }) => line.text), ...told.texts];
+  const lines = [step.line, step.with, ...step.ways.map(({ line }) => line), ...step.reasons, ...step.changes.map(({ line }) => line.text), ...told.texts];
   return lines.some((line) => line.includes(text));
 }
 

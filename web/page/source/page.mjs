@@ -25,6 +25,12 @@ const TITLE = "sel4sim run";
 /** The parts that are shown alone, one after another. */
 const ALONE = ["forest", "spaces", "memory"];
 
+const WITHOUT_WAYS = "This trace does not say which slots the words of a call lead to: it was written without --ways, or by a program "
+  + "that does not have this option.";
+
+/** Whether a call looked words up, and its lines do not say how. The calls of threads that are not ready look none up. */
+const lacksWays = ({ number, reply, ways }) => number > 0 && ways.length === 0 && !/^refused 10[01]$/u.test(reply);
+
 /** The trace without the steps that do not fit the state before them, and what is to be said of it. */
 function fitting(trace) {
   const misfit = firstMisfit(trace.steps);
@@ -33,7 +39,8 @@ function fitting(trace) {
       + "is there already. So it was altered. The calls before it are shown.";
     return [{ ...trace, steps: trace.steps.slice(0, misfit) }, notice];
   }
-  return [trace, trace.complete ? "" : "This trace was cut off: its last lines are missing."];
+  if (!trace.complete) return [trace, "This trace was cut off: its last lines are missing."];
+  return [trace, trace.steps.some(lacksWays) ? WITHOUT_WAYS : ""];
 }
 
 function expectedWords({ expected }) {
@@ -232,7 +239,7 @@ class Page {
   /** The step as the trace has it, and the state as lines, where these are opened. */
   drawLines() {
     const { step, state, isAsked } = this.view;
-    const effect = [...step.reasons.map((reason) => `  ${reason}`), ...step.changes.map(({ sign, line }) => `  ${sign} ${line.text}`)];
+    const effect = [...step.ways.map((way) => way.line), ...step.reasons.map((reason) => `  ${reason}`), ...step.changes.map(({ sign, line }) => `  ${sign} ${line.text}`)];
     const line = isAsked ? `${step.number} ${step.thread} ${step.operation}` : step.line;
     byId("step-text").textContent = [line, step.with, ...(isAsked ? [] : effect)].filter(Boolean).join("\n");
     byId("state-text").textContent = byId("state-lines").open ? state.texts().join("\n") : "";

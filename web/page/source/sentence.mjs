@@ -1,4 +1,4 @@
-// A call as a sentence. The slots in it are found by the page's own lookups.
+// A call as a sentence. The slots in it are those that the ways of its words lead to.
 import { code, counted, dim } from "./element.mjs";
 import { guardInWords } from "./bit_boxes.mjs";
 import { KINDS_BY_NUMBER, capabilityName, kindWord, nameOfWord, slotName, threadName } from "./names.mjs";
@@ -20,9 +20,11 @@ function rightsOf(bits) {
   return [...RIGHTS].map((right, place) => ((Number(bits) >> place) & 1 ? right : "-")).join("");
 }
 
-/** A slot that is named by an index and a depth, and the capability that it held before the call. */
+/** A slot that is named by an index and a depth, and the capability that it held before the call; what is not told of a way is not
+    guessed. */
 function slotNamed(view, address, index, depth, capability) {
-  if (address === null || address === undefined) return dim(`no slot (index ${index} of ${depth} bits leads to none)`);
+  if (address === undefined) return ["index ", code(index), ` of ${depth} bits`];
+  if (address === null) return dim(`no slot (index ${index} of ${depth} bits leads to none)`);
   const held = capability ? [" ", capabilityName(view, capability, true)] : null;
   return [slotName(view, address), nameOfWord(view, index, address), held];
 }
@@ -31,6 +33,7 @@ const target = (view, words) => slotNamed(view, view.named.target, words.index, 
 const source = (view, words) => slotNamed(view, view.named.source, words.src_index, words.src_depth, view.held.source);
 
 function invoked(view, words) {
+  if (view.named.invoked === undefined) return ["its capability ", code(words.cap)];
   const held = view.held.invoked ? [" ", capabilityName(view, view.held.invoked, true)] : null;
   const slot = slotName(view, view.named.invoked);
   const name = nameOfWord(view, words.cap, view.named.invoked);
@@ -52,6 +55,7 @@ function retype(view, words) {
 /** The slots that a retype fills. */
 function filledSlots(view, { offset, count }) {
   const node = view.named.filled;
+  if (node === undefined) return ["slots from ", code(offset), " on"];
   if (!node) return dim("no CNode");
   const last = BigInt(offset) + BigInt(count) - 1n;
   return code(`${node.base || "root"}[${offset}${last > BigInt(offset) ? `..${last}` : ""}]`);
@@ -66,6 +70,7 @@ function copy(view, words) {
 
 /** The data that a mint or a mutate sets: a CNode's guard, or else a badge. */
 function dataOf(view, { word }) {
+  if (view.named.source === undefined) return [", with the word ", code(word)];
   if (view.held.source?.kind === "cnode") return [", with ", guardOf(word, view.trace.machine)];
   return [", with the badge ", code(word)];
 }
@@ -83,7 +88,7 @@ function threadInvoked(view, words) {
 function setSpace(view, words) {
   const guard = words.word === "0" ? null : [", with ", guardOf(words.word, view.trace.machine)];
   const held = view.held.root ? [" ", capabilityName(view, view.held.root, true)] : null;
-  const root = [slotName(view, view.named.root), held];
+  const root = view.named.root === undefined ? ["its capability ", code(words.root)] : [slotName(view, view.named.root), held];
   return ["the CSpace root of ", threadInvoked(view, words), " to ", root, guard];
 }
 

@@ -1,6 +1,8 @@
 // Reads a trace; docs/trace.md has its grammar. Whatever does not keep to the grammar is refused with the number of its
 // line. So all that the rest of the page draws has the right form and lies in bounds, whoever wrote the file.
 
+import { WAY, readWay } from "./way.mjs";
+
 const NUMBER = "(?:0|[1-9][0-9]{0,19})";
 const MESSAGE = `label ${NUMBER} words(?: ${NUMBER}){0,4}`;
 const DELIVERED = `delivered ${NUMBER} from ${NUMBER} to ${NUMBER} badge ${NUMBER} ${MESSAGE}`;
@@ -215,8 +217,19 @@ function readChanges(reader, machine) {
 function readBoot(reader, machine) {
   const line = reader.line;
   if (!reader.take(pattern("0 boot"))) reader.refuse("neither a name nor `0 boot`");
-  return { number: 0, line, with: "", thread: "", operation: "boot", reply: "", expectation: "", words: {}, reasons: [],
+  return { number: 0, line, with: "", thread: "", operation: "boot", reply: "", expectation: "", words: {}, ways: [], reasons: [],
     changes: readChanges(reader, machine) };
+}
+
+/** The ways of the words of a call: none where the trace was not asked for them, or where the call looks none up. */
+function readWays(reader, words, machine) {
+  const ways = [];
+  for (let match = reader.take(WAY); match; match = reader.take(WAY)) {
+    const [, name, word] = match;
+    if (words[name] !== word || ways.some((way) => way.name === name)) reader.refuse("each way is of one word of its call");
+    ways.push(reader.within(() => readWay(match, machine)));
+  }
+  return ways;
 }
 
 /** The lines that say why a call is refused: none where it is answered otherwise. */
@@ -231,11 +244,11 @@ function readReasons(reader, reply) {
 function readCall(reader, match, machine) {
   const [line, number, thread, operation, reply, expectation = ""] = match;
   if (!Object.hasOwn(KEYS, operation)) throw new TraceFault(reader.place, `no operation: ${operation}`);
-  const words = reader.take(/^  with .*$/);
-  if (!words) reader.refuse("a call has its words in the line below it");
-  return { number: Number(number), line, with: words[0], thread, operation, reply, expectation,
-    words: reader.within(() => readWords(operation, words[0])), reasons: readReasons(reader, reply),
-    changes: readChanges(reader, machine) };
+  const given = reader.take(/^  with .*$/);
+  if (!given) reader.refuse("a call has its words in the line below it");
+  const words = reader.within(() => readWords(operation, given[0]));
+  return { number: Number(number), line, with: given[0], thread, operation, reply, expectation, words,
+    ways: readWays(reader, words, machine), reasons: readReasons(reader, reply), changes: readChanges(reader, machine) };
 }
 
 function readSteps(reader, machine) {

@@ -2,7 +2,7 @@
 import { NOTHING, changesOf } from "./changes.mjs";
 import { Places } from "./places.mjs";
 import { Run } from "./state.mjs";
-import { namedSlots, waysOf } from "./lookup.mjs";
+import { namedSlots } from "./way.mjs";
 
 const ROLES = ["invoked", "root", "source", "target"];
 
@@ -27,8 +27,8 @@ export class Views {
     const { trace, run } = this;
     const step = trace.steps[number];
     const before = this.placesBehind(number - 1);
-    const named = number === 0 ? {} : namedSlots(run.state, trace.machine, step);
-    const ways = number === 0 ? [] : waysOf(run.state, trace.machine, step);
+    const { ways } = step;
+    const named = namedSlots(run.state, step);
     const held = Object.fromEntries(ROLES.map((role) => [role, run.state.slot.get(named[role])?.capability]));
     const ring = new Set([named.invoked, named.source, named.target]);
     const passed = new Set(ways.filter(({ parts }) => parts.length > 1).flatMap(({ parts }) => parts.map(({ slot }) => slot?.address)));

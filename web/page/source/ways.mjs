@@ -1,13 +1,13 @@
-// The way of each word that a call names, through the CNodes, as boxes: the guard and the slot of each, in bits. Worked out
-// by this page from the state before the call.
+// The way of each word that a call names, through the CNodes, as boxes: the guard and the slot of each, in bits, as the trace
+// tells them.
 import { drawBitBox, guardInWords } from "./bit_boxes.mjs";
 import { code, counted, dim, element, foldBehind } from "./element.mjs";
 import { slotName } from "./names.mjs";
 
 /** What is said of a guard: how many bits it takes, or what it is where the word has other ones. */
-function wordsOfGuard({ guard, wanted, isRight }) {
+function wordsOfGuard({ wanted, isRight, needs }) {
   if (isRight) return `guard, ${counted(wanted.length, "bit")}`;
-  return guard.length < wanted.length ? `guard needs ${wanted.length}` : `guard is ${guardInWords(`0b${wanted}`, wanted.length)}`;
+  return wanted === undefined ? `guard needs ${needs}` : `guard is ${guardInWords(`0b${wanted}`, wanted.length)}`;
 }
 
 function drawSlot({ base, slot: { bits, number, isWhole, needs } }) {

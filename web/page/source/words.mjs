@@ -4,7 +4,7 @@ import { KINDS_BY_NUMBER, kindWord, namesOfWord } from "./names.mjs";
 import { Places } from "./places.mjs";
 import { Run } from "./state.mjs";
 import { meaningOf } from "./refusals.mjs";
-import { namedSlots } from "./lookup.mjs";
+import { namedSlots } from "./way.mjs";
 
 const isOfNode = ({ line }) => line.capability?.kind === "cnode";
 const isSlot = (address) => address !== null && address !== undefined;
@@ -87,7 +87,7 @@ export function wordsOfSteps(trace) {
   const run = new Run(trace.steps);
   let after = new Places(run.state, trace.machine);
   return trace.steps.map((step, number) => {
-    const named = number === 0 ? {} : namedSlots(run.state, trace.machine, step);
+    const named = namedSlots(run.state, step);
     const held = threadsHeld(run.state, named);
     const before = after;
     run.go(number);

@@ -7,7 +7,7 @@ from special import COUNT, open_run, text, wait
 def found(browser, _, folder):
     """The find box finds what the page writes itself of a call: a slot's place, a name, what a reply means."""
     for wanted, number in (("root[5]", COUNT - 2), ("root[4]", COUNT - 3), ("2048.cspace", COUNT - 1), ("sender", 1),
-                           ("slot 160", COUNT - 2), ("5 bits", None)):
+                           ("slot 160", COUNT - 2), ("index 0101", COUNT - 2), ("5 bytes", None)):
         open_run(browser, folder)
         browser.value(f"document.getElementById('find').value = {json.dumps(wanted)}")
         browser.press("/")

@@ -6,7 +6,7 @@ import { countWays, waysBetween } from "../source/channels.mjs";
 import { TraceFault, readTrace } from "../source/trace.mjs";
 import { Run, firstMisfit } from "../source/state.mjs";
 import { inOrder } from "../source/order.mjs";
-import { namedSlots, slotOfWord } from "../source/lookup.mjs";
+import { namedSlots } from "../source/way.mjs";
 import { wordsOfSteps } from "../source/words.mjs";
 
 const HEAD = "trace 2 narrow memory_bits 12 calls 1\nname server 1024\nname again 1024\n0 boot\n";
@@ -70,23 +70,63 @@ test("siblings stand in the kernel's order, and an emptied one where it stood", 
   assert.deepEqual(order(32), [128, 96, 32, 64]);
 });
 
-test("words lead to slots", () => {
-  const { machine, steps } = readTrace(TRACE);
-  const run = new Run(steps);
-  run.go(0);
-  assert.equal(slotOfWord(run.state, machine, 1024, "3"), 48);
-  assert.equal(slotOfWord(run.state, machine, 1024, "18446744069414584323"), 48, "the low 32 bits alone count");
-  assert.equal(slotOfWord(run.state, machine, 1024, "16"), null, "the guard does not match");
-  assert.deepEqual(namedSlots(run.state, machine, steps[1]), { invoked: 48, root: undefined });
+const GUARD = `${"0".repeat(28)}`;
+
+/** A step whose line of words is followed by ways. */
+function stepWith(words, ...ways) {
+  const lines = ways.map((way) => `  way ${way}\n`).join("");
+  const [, step] = readTrace(`${HEAD}${BOOT}1 1024 ${words.includes("index") ? "delete" : "recv"}: done\n  with ${words}\n${lines}expected 0 of 0\n`).steps;
+  return step;
+}
+
+const boxesOf = ({ parts }) => parts.map(({ guard, unread, over, slot }) => [guard, slot?.bits, slot?.address, over, unread].filter((it) => it !== undefined));
+
+test("a way is read in its bits, and tells the slots that a call names", () => {
+  const found = stepWith("cap 3", "cap 3 bits 32 from 1024 guard 0 size 28 index 0011 slot 48");
+  assert.deepEqual(boxesOf(found.ways[0]), [[GUARD, "0011", 48]]);
+  assert.equal(found.ways[0].parts[0].base, 0);
+  assert.deepEqual(namedSlots({ slot: new Map() }, found), { invoked: 48, root: undefined, source: undefined, target: undefined });
+  const low = stepWith("cap 18446744069414584323", "cap 18446744069414584323 bits 32 from 1024 guard 0 size 28 index 0011 slot 48");
+  assert.equal(low.ways[0].address, 48, "the low 32 bits alone count");
+  const words = "cap 1 index 173 depth 9";
+  const two = stepWith(words, "cap 1 bits 32 from 1024 guard 0 size 28 index 0001 slot 16",
+    "index 173 bits 9 from 16 guard 2 size 3 index 10 slot 3104 guard 3 size 2 index 01 slot 3152");
+  assert.deepEqual(boxesOf(two.ways[1]), [["010", "10", 3104], ["11", "01", 3152]]);
+  assert.deepEqual(namedSlots({ slot: new Map() }, two), { invoked: 16, root: undefined, source: undefined, target: 3152 });
+  assert.deepEqual(namedSlots({ slot: new Map() }, stepWith(words)), {}, "what is not told is not known");
+});
+
+test("of a way that leads to no slot the bits are told that fail, and those behind them", () => {
+  const cap = "cap 1 bits 32 from 1024 guard 0 size 28 index 0001 slot 16";
+  const endOf = (depth, told) => stepWith(`cap 1 index 39 depth ${depth}`, cap, `index 39 bits ${depth} from 16${told}`).ways[1];
+  const guard = endOf(9, ": its guard is 5 of size 3; the next 3 of the 9 bits left read 0");
+  assert.deepEqual([boxesOf(guard), guard.parts[0].wanted, guard.address], [[["000", "100111"]], "101", null]);
+  assert.deepEqual(boxesOf(endOf(9, " guard 0 size 3 index 10 slot 3104: no CNode is there; bits left over: 4")), [["000", "10", 3104], ["0111"]]);
+  const short = endOf(9, " guard 0 size 3 index 10 slot 3104: its guard has size 5; bits left: 4");
+  assert.deepEqual([boxesOf(short)[1], short.parts[1].needs], [["0111", ""], 5]);
+  const radix = endOf(9, " guard 0 size 3 index 10 slot 3104: its radix is 3; bits left behind the guard: 2");
+  assert.deepEqual([boxesOf(radix)[1], radix.parts[1].slot.needs], [["01", "11"], 3]);
+  assert.deepEqual(boxesOf(endOf(9, ": no CNode is there")), [["000100111"]]);
+});
+
+test("a way that is none of its call, or has other bits than its word, is refused", () => {
+  const right = "cap 3 bits 32 from 1024 guard 0 size 28 index 0011 slot 48";
+  for (const wrong of [right.replace("cap 3", "cap 2"), right.replace("cap", "root"), right.replace("0011", "0010"), right.replace("size 28", "size 27"),
+    right.replace("bits 32", "bits 33"), `${right}: no reason`, `${right}\n  way ${right}`]) {
+    assert.throws(() => stepWith("cap 3", wrong), TraceFault, wrong);
+  }
+  const short = "index 3 bits 9 from 16 guard 0 size 3 index 00 slot 3104";
+  assert.throws(() => stepWith("cap 1 index 3 depth 9", short), TraceFault, "an index with bits left over leads to no slot");
 });
 
 test("what is written of a call has the places of its slots, the names of its threads and what its reply means", () => {
-  const call = "1 1024 resume: refused 100\n  with cap 4\n  no live thread is at 1024\n  live threads: 3072\n";
+  const call = "1 1024 send: refused 3\n  with cap 4 label 0 words\n  way cap 4 bits 32 from 1024 guard 0 size 28 index 0100 slot 64\n"
+    + "  cap 4 leads to slot 64: tcb 3072\n  a send is made by an endpoint's capability\n";
   const other = "  + thread 3072 inactive\n  + slot 64 tcb 3072 original\n  + sibling 64 after 48\n";
   const text = `${HEAD.replace("0 boot", "name other 3072\nname fourth 4\n0 boot")}${BOOT}${other}${call}expected 0 of 0\n`;
   const [, { gist, texts }] = wordsOfSteps(readTrace(text));
   assert.equal(gist, "by 4");
-  for (const wanted of ["by 4", "root[4]", "server", "again", "other", "fourth", "no live thread at this address"]) {
+  for (const wanted of ["by 4", "root[4]", "server", "again", "other", "fourth", "IllegalOperation: the wrong kind of capability, or data that cannot be set"]) {
     assert.ok(texts.includes(wanted), `${wanted} is not in ${texts}`);
   }
 });

@@ -1,7 +1,7 @@
 #!/usr/bin/env python3
 """page_test.py PROGRAM FOLDER: makes a page of each set-up in FOLDER and steps through it in chromium.
-page_test.py --traces FOLDER: the same with traces that are there already, the files NAME.trace in FOLDER; without the
-set-ups of its own and the planted faults, which need the program.
+page_test.py --traces FOLDER: the same with traces that are there already, the files NAME.trace in FOLDER, each written with
+`--ways`; without the set-ups of its own and the planted faults, which need the program.
 
 Each page is stepped through forward and back (a long run for its first 60 calls) and by jumps; behind each step what it
 shows is compared with a replay of the trace that is made here. Nothing that a page does may leave it: its policy has to
@@ -152,7 +152,7 @@ def step_through(browser, program, setups, folder):
 
 
 def trace_of(program, setup):
-    return subprocess.run([program, "trace", setup], capture_output=True, text=True, timeout=600).stdout
+    return subprocess.run([program, "trace", "--ways", setup], capture_output=True, text=True, timeout=600).stdout
 
 
 def faults_of_planted(browser, program, folder):
@@ -169,7 +169,7 @@ def faults_of_planted(browser, program, folder):
 def stand_in(folder):
     """A program that gives a file as the trace."""
     path = folder / "stand_in"
-    path.write_text('#!/bin/sh\n[ "$1" = trace ] && exec cat "$2"\n')
+    path.write_text('#!/bin/sh\n[ "$1 $2" = "trace --ways" ] && exec cat "$3"\n')
     path.chmod(0o755)
     return path
 

@@ -36,7 +36,7 @@ def steps_of(trace):
                 steps[-1].gone.append(line[4:])
             elif line.startswith("  + "):
                 steps[-1].come.append(line[4:])
-            elif not line.startswith("  with"):
+            elif not line.startswith(("  with", "  way ")):
                 steps[-1].reasons.append(line[2:])
     return steps
 

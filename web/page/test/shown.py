@@ -170,13 +170,14 @@ def wrong_words(shown, state, profile):
 
 
 def slots_named(replay, number):
-    """The words of a call that its sentence has, each with the slot that it led to before the call, or None."""
+    """The words of a call that its sentence has, each with the slot that it led to before the call, or None. A thread that is not ready looks
+    nothing up."""
     words, slots = replay.words(number), slots_of(replay.states[number - 1])
     _, thread, operation, *_ = CALL.fullmatch(replay.steps[number].lines[0]).groups()
-    is_live = int(thread) in lines_of(replay.states[number - 1], "thread")
+    is_ready = lines_of(replay.states[number - 1], "thread").get(int(thread)) == f"thread {thread} ready"
 
     def by_word(word):
-        return slot_of_word(slots, int(thread), words[word], replay.profile) if is_live else None
+        return slot_of_word(slots, int(thread), words[word], replay.profile) if is_ready else None
 
     def by_index(root, index, depth):
         return slot_of_index(slots, slots.get(by_word(root)), words[index], words[depth], replay.profile)
@@ -223,7 +224,7 @@ def wrong_ways(shown, replay, number):
         if name in ("cap", "root"):
             slot = slot_of_word(slots, int(thread), int(word), replay.profile)
         else:
-            start = slot_of_word(slots, int(thread), words["cap" if name == "index" else "src_root"], replay.profile)
+            start = slot_of_word(slots, int(thread), words["src_root" if name == "src_index" else "root" if "root" in words else "cap"], replay.profile)
             slot = slot_of_index(slots, slots.get(start), int(word), depth, replay.profile)
         bits = "".join(part for _, part in parts)
         whole = f"{int(word) % (1 << depth):0{depth}b}"

@@ -21,6 +21,14 @@ HARM = ("</pre></body><script>document.title = 'taken'</script>",
         "' onmouseover='document.title = 1",
         "{script} {trace} \\")
 COUNT = len(HARM) + 4
+
+
+def way_of(word, start, node, guard=0):
+    """The line of a way through one CNode, by the size of its guard, the index in bits and the slot."""
+    size, index, slot = node
+    return f"  way {word} bits 64 from {start} guard {guard} size {size} index {index} slot {slot}\n"
+
+
 # The last of these is refused, with texts that mean harm in its reason too.
 REASON = f"  cap 3 {HARM[0]}\n  the second line {HARM[1]}\n"
 # A run with these texts, and with a guard that its thread has to name.
@@ -30,18 +38,19 @@ name endpoint 3
 0 boot
 {BOOT}""" + "".join(f"""{number} 2048 nbsend: {"refused 2" if number == len(HARM) else "dropped"} [not met: {harm}]
   with cap 3 label 0 words
-""" for number, harm in enumerate(HARM, 1)) + REASON + f"""{COUNT - 3} 2048 revoke: done
+{way_of("cap 3", 2048, (60, "0011", 96))}""" for number, harm in enumerate(HARM, 1)) + REASON + f"""{COUNT - 3} 2048 revoke: done
   with cap 1 index 4 depth 64
-{COUNT - 2} 2048 copy: done
+{way_of("cap 1", 2048, (60, "0001", 32))}{way_of("index 4", 32, (60, "0100", 128))}{COUNT - 2} 2048 copy: done
   with cap 1 index 5 depth 64 src_root 1 src_index 3 src_depth 64 rights 1
-  + slot 160 endpoint 4096 badge 0 rights w--- under 96
+{way_of("cap 1", 2048, (60, "0001", 32))}{way_of("src_root 1", 2048, (60, "0001", 32))}{way_of("index 5", 32, (60, "0101", 160))}\
+{way_of("src_index 3", 32, (60, "0011", 96))}  + slot 160 endpoint 4096 badge 0 rights w--- under 96
 {COUNT - 1} 2048 set_space: done
   with cap 2 root 1 word 378
-  - slot 2048 cnode 0 radix 4 guard 0 size 60 under 32
+{way_of("cap 2", 2048, (60, "0010", 64))}{way_of("root 1", 2048, (60, "0001", 32))}  - slot 2048 cnode 0 radix 4 guard 0 size 60 under 32
   + slot 2048 cnode 0 radix 4 guard 5 size 58 under 32
 {COUNT} 2048 send: waiting [met]
   with cap 332 label 7 words 1 2
-  - thread 2048 ready
+{way_of("cap 332", 2048, (58, "0011", 96), guard=5)}  - thread 2048 ready
   + thread 2048 sending 4096 badge 0 label 7 words 1 2
   - endpoint 4096 idle
   + endpoint 4096 sending 2048
@@ -200,6 +209,8 @@ ODD_TEXTS = {
     "a line of its own": (RUN.replace("expected", "unexpected"), "no line of a trace"),
     "a change that does not fit": (RUN.replace("- endpoint 4096 idle", "- endpoint 4096 sending 2048"),
                                    f"at call {COUNT}"),
+    "a trace without ways": (re.sub(r"  way .*\n", "", RUN), "it was written without --ways"),
+    "a way of other bits": (RUN.replace("index 0101", "index 0111"), "these are not the bits of index 5"),
     "a trace that was cut off": (RUN[:RUN.index("expected")], "cut off"),
     "an empty file": ("", "line 1"),
 }
