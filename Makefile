@@ -87,6 +87,7 @@ rows-python:
 	python3 tests/names.py reports $(program) $(setups)/examples $(setups)/capabilities $(setups)/why_lookups $(answers)/explorations $(answers)/trees
 	python3 tests/parts.py $(program) $(answers)/parts 5
 	python3 tests/random_policies.py $(program) 1 60 $(answers)/parts
+	python3 tests/random_takes.py $(program) 1 500
 	python3 tests/drafts.py $(program) 1 60 $(answers)/policies $(answers)/parts
 	python3 tests/hows.py $(program) $(answers)/hows $(answers)/parts $(answers)/policies
 	python3 tests/revokes.py $(program) $(answers)/audits $(setups)

@@ -150,7 +150,11 @@ fn taken_by(alloc: Global, part_slots: &[PartSlot], part: u64) -> Result<Vec<u64
 }
 
 /// Of each of some parts, the parts from which it may take slots.
-pub fn takes(alloc: Global, part_slots: &[PartSlot], parts: &[u64]) -> Result<Vec<Take>, AllocError>
+pub fn part_takes(
+    alloc: Global,
+    part_slots: &[PartSlot],
+    parts: &[u64],
+) -> Result<Vec<Take>, AllocError>
     ensures { IfOk result (λ v. v.items ≡ spec.takes part_slots.now parts.now) }
 {
     let mut takes = Vec::new(alloc);

@@ -13,7 +13,7 @@ use crate::head::{Heading, add_heading};
 use crate::messages::messengers;
 use crate::parts::PartLines;
 use crate::sets::listed;
-use crate::takes::{TakeLine, part_slots, takes};
+use crate::takes::{TakeLine, part_slots, part_takes};
 use crate::telling::{PartNaming, homes};
 use crate::threads::callers;
 use crate::ways::{MessageLine, Passing, PassingLine, message_ways, parts_of, ways_by};
@@ -111,7 +111,7 @@ impl<P: Profile, S: DerivationStore<P> + Drop, W: Waiters<P> + Drop> PartLines<'
             ++ flat_map (spec.take_line (part_naming_view self.now.told.now)) (spec_takes self.now.slots.now self.now.numbers.now)) }
         ensures count { IfOk result (λ n. n ≡ length (spec_takes self.now.slots.now self.now.numbers.now)) }
     {
-        let taken = takes(self.alloc, self.slots, self.numbers)?;
+        let taken = part_takes(self.alloc, self.slots, self.numbers)?;
         let told = self.told;
         add_each(out, taken.as_slice(), &TakeLine { told })?;
         Ok(taken.len())

@@ -3,4 +3,7 @@
 
 mod policy;
 
-pub use policy::{Allowance, Label, Labels, Member, OwnRegion, Policy, PolicyWay, sender_entry};
+pub use policy::{
+    Allowance, Label, Labels, Member, OwnRegion, Policy, PolicyTake, PolicyVersion, PolicyWay,
+    sender_entry,
+};

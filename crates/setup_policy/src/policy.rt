@@ -4,6 +4,13 @@ ghost use Rattle.setup_policy.specs.Entries as spec;
 
 use cap_core::Rights;
 
+/// The version of the format that a policy is written in.
+#[derive(Clone, Copy, PartialEq, Eq)]
+pub enum PolicyVersion {
+    One,
+    Two,
+}
+
 /// A thread, and the number of the group that it belongs to, or its own where it is trusted.
 #[derive(Clone, Copy)]
 pub struct Member {
@@ -38,6 +45,13 @@ pub struct Allowance {
     pub rights: Rights,
 }
 
+/// That calls of threads of `from` may empty slots of `to`, by a revoke.
+#[derive(Clone, Copy, PartialEq, Eq)]
+pub struct PolicyTake {
+    pub from: u64,
+    pub to: u64,
+}
+
 /// The name of an object, behind a `@`.
 #[derive(Drop)]
 pub struct Label {
@@ -48,6 +62,7 @@ pub struct Label {
 /// A policy. Groups and trusted threads are numbered, the groups first, in the order of the policy.
 #[derive(Drop)]
 pub struct Policy {
+    pub version: PolicyVersion,
     /// The name of each group, and what each trusted thread is called in the policy.
     pub actors: Vec<String>,
     /// The numbers of the groups.
@@ -61,6 +76,8 @@ pub struct Policy {
     pub regions: Vec<OwnRegion>,
     pub ways: Vec<PolicyWay>,
     pub uses: Vec<Allowance>,
+    /// Who may take from whom; empty in version 1, which says nothing of takes.
+    pub takes: Vec<PolicyTake>,
     /// What the ways and the uses let groups hold.
     pub allowances: Vec<Allowance>,
     /// Whether Grant hands over capabilities.

@@ -1,6 +1,6 @@
 -- What a policy file says: a grammar over the table of its text. It is of files that are taken, and says nothing of faults.
-use Rattle.std.specs.Prelude.{codes, ◌≡◌, ℕ, List, [], ◌∷◌, ◌++◌, map, Bool, true, bit_and, ◌==◌, if◌then◌else◌, Option, Some, None, option_and_then, option_map, string_bytes}
-use Rattle.std.specs.List.{list_all}
+use Rattle.std.specs.Prelude.{codes, ◌≡◌, ℕ, List, [], ◌∷◌, ◌++◌, length, map, Bool, true, false, bit_and, ◌==◌, if◌then◌else◌, Option, Some, None, option_and_then, option_map, string_bytes}
+use Rattle.std.specs.List.{flat_map, list_all}
 use Rattle.toml.specs.Data.{Data, as_table, Members, get_member}
 use Rattle.toml.specs.Parse.{parse_document}
 use Rattle.std.specs.Str.{IsUtf8}
@@ -9,10 +9,14 @@ use Rattle.cap_core.specs.Rights.{write_bit}
 use Rattle.setup_policy_file.specs.declared.file.GroupEntry.{GroupEntry}
 use Rattle.setup_policy_file.specs.declared.file.WayEntry.{WayEntry}
 use Rattle.setup_policy_file.specs.declared.file.UseEntry.{UseEntry}
+use Rattle.setup_policy_file.specs.declared.file.TakeEntry.{TakeEntry}
 use Rattle.setup_policy_file.specs.declared.file.PolicyFile.{PolicyFile}
+use Rattle.setup_policy.specs.declared.policy.PolicyVersion.{PolicyVersion}
+use Rattle.setup_policy.specs.declared.policy.PolicyVersion.TheVariants.{One, Two}
 use Rattle.setup_format.specs.Tables.{is_one_of}
 use Rattle.setup_values.specs.Keys.{keys_of}
-use Rattle.setup_policy_file.specs.Values.{all_of, word_view, version_of, switch_of, number_of, group_name_of, word_of, word_in, words_of, group_names_of, elements_of, badge_of, rights_of, WordView}
+use Rattle.setup_policy_file.specs.Values.{all_of, word_view, version_of, switch_of, number_of, group_name_of, word_of, word_in, words_of, group_names_of, elements_of, badge_of, rights_of, one_or_more, WordView}
+use Rattle.setup_policy_file.specs.Lists.{has_badges, expanded_way, expanded_use, expanded_take, WayLists, UseLists, TakeLists, WayView, UseView, TakeView}
 
 -- ---- what is read at a key
 
@@ -33,9 +37,9 @@ optional read (Some d) = option_map Some (read d)
 abbrev pub words_at : List ℕ → Members → Option (List WordView)
 words_at key table = given_or [] words_of (get_member key table)
 
--- a switch, which is on where the key is missing
-abbrev pub switch_at : List ℕ → Members → Option Bool
-switch_at key table = given_or true switch_of (get_member key table)
+-- a switch, which is this where the key is missing
+abbrev pub switch_or : Bool → List ℕ → Members → Option Bool
+switch_or other key table = given_or other switch_of (get_member key table)
 
 -- the elements of a list, none where the key is missing
 abbrev pub elements_at : List ℕ → Members → Option (List Data)
@@ -50,7 +54,7 @@ abbrev pub after_in : Members → Option (Option ℕ)
 after_in table = optional number_of (get_member (codes "after") table)
 
 -- the version of the form
-abbrev pub version_in : Members → Option ℕ
+abbrev pub version_in : Members → Option PolicyVersion
 version_in table = needed version_of (codes "policy") table
 
 -- the rights of a way: Write where they are not given, and else some with Write
@@ -65,8 +69,12 @@ way_rights_at table = given_or (record { 0 = write_bit }) (λ d. option_and_then
 abbrev pub has_only : List (List ℕ) → Members → Bool
 has_only known table = list_all (is_one_of known) (keys_of table)
 
-abbrev pub top_keys : List (List ℕ)
-top_keys = codes "policy" ∷ codes "after" ∷ codes "silent" ∷ codes "messages" ∷ codes "alone" ∷ codes "seL4_grant" ∷ codes "calls_succeed" ∷ codes "group" ∷ codes "way" ∷ codes "use" ∷ []
+abbrev pub take_key : PolicyVersion → List (List ℕ)
+take_key One = []
+take_key Two = codes "take" ∷ []
+
+abbrev pub top_keys : PolicyVersion → List (List ℕ)
+top_keys version = codes "policy" ∷ codes "after" ∷ codes "silent" ∷ codes "messages" ∷ codes "alone" ∷ codes "seL4_grant" ∷ codes "calls_succeed" ∷ codes "group" ∷ codes "way" ∷ codes "use" ∷ take_key version
 
 abbrev pub group_keys : List (List ℕ)
 group_keys = codes "name" ∷ codes "threads" ∷ codes "regions" ∷ []
@@ -74,8 +82,14 @@ group_keys = codes "name" ∷ codes "threads" ∷ codes "regions" ∷ []
 abbrev pub way_keys : List (List ℕ)
 way_keys = codes "from" ∷ codes "to" ∷ codes "by" ∷ codes "badge" ∷ codes "rights" ∷ []
 
+abbrev pub way_list_keys : List (List ℕ)
+way_list_keys = codes "from" ∷ codes "to" ∷ codes "by" ∷ codes "badge" ∷ codes "rights" ∷ codes "both" ∷ []
+
 abbrev pub use_keys : List (List ℕ)
 use_keys = codes "group" ∷ codes "of" ∷ codes "badge" ∷ codes "rights" ∷ []
+
+abbrev pub take_keys : List (List ℕ)
+take_keys = codes "from" ∷ codes "to" ∷ codes "both" ∷ []
 
 -- what is read of an element that is a table with no other keys
 abbrev pub table_with : {A : Type 0} → List (List ℕ) → (Members → Option A) → Option Members → Option A
@@ -115,13 +129,6 @@ table_groups_of table = option_and_then (all_of group_of) (elements_at (codes "g
 
 -- ---- ways: who may send to whom; a badge of 0 stands for any
 
-pub record WayView : Type 0 where
-  pub from : List ℕ
-  pub to : List ℕ
-  pub by : WordView
-  pub badge : ℕ
-  pub rights : Rights
-
 abbrev pub way_view : WayEntry → WayView
 way_view w = record { from = string_bytes w.from; to = string_bytes w.to; by = word_view w.by; badge = w.badge; rights = w.rights }
 
@@ -135,16 +142,25 @@ way_in table = way_with (needed group_name_of (codes "from") table) (needed grou
 abbrev pub way_of : Data → Option WayView
 way_of d = table_with way_keys way_in (as_table d)
 
-abbrev pub ways_of : Members → Option (List WayView)
-ways_of table = option_and_then (all_of way_of) (elements_at (codes "way") table)
+-- with lists, of which version 2 knows: a badge for all of from, or one for each
+abbrev pub way_lists_with : Option (List (List ℕ)) → Option (List (List ℕ)) → Option (List WordView) → Option (List ℕ) → Option Rights → Option Bool → Option WayLists
+way_lists_with (Some from) (Some to) (Some by) (Some badges) (Some rights) (Some both) =
+    if has_badges (length from) badges then Some (record { from = from; to = to; by = by; badges = badges; rights = rights; both = both }) else None
+way_lists_with _ _ _ _ _ _ = None
+
+abbrev pub way_lists_in : Members → Option WayLists
+way_lists_in table =
+    way_lists_with (needed (one_or_more group_name_of) (codes "from") table) (needed (one_or_more group_name_of) (codes "to") table) (needed (one_or_more word_of) (codes "by") table)
+    (needed (one_or_more badge_of) (codes "badge") table) (way_rights_at table) (switch_or false (codes "both") table)
+
+abbrev pub way_lists_of : Data → Option WayLists
+way_lists_of d = table_with way_list_keys way_lists_in (as_table d)
+
+abbrev pub ways_of : PolicyVersion → Members → Option (List WayView)
+ways_of One table = option_and_then (all_of way_of) (elements_at (codes "way") table)
+ways_of Two table = option_map (flat_map expanded_way) (option_and_then (all_of way_lists_of) (elements_at (codes "way") table))
 
 -- ---- uses: capabilities that open no way by themselves; a badge of 0 stands for any
-
-pub record UseView : Type 0 where
-  pub group : List ℕ
-  pub of : WordView
-  pub badge : ℕ
-  pub rights : Rights
 
 abbrev pub use_view : UseEntry → UseView
 use_view u = record { group = string_bytes u.group; of = word_view u.of; badge = u.badge; rights = u.rights }
@@ -159,27 +175,62 @@ use_in table = use_with (needed group_name_of (codes "group") table) (needed wor
 abbrev pub use_of : Data → Option UseView
 use_of d = table_with use_keys use_in (as_table d)
 
-abbrev pub uses_of : Members → Option (List UseView)
-uses_of table = option_and_then (all_of use_of) (elements_at (codes "use") table)
+abbrev pub use_lists_with : Option (List (List ℕ)) → Option (List WordView) → Option (List ℕ) → Option Rights → Option UseLists
+use_lists_with (Some groups) (Some of) (Some badges) (Some rights) =
+    if has_badges (length groups) badges then Some (record { groups = groups; of = of; badges = badges; rights = rights }) else None
+use_lists_with _ _ _ _ = None
+
+abbrev pub use_lists_in : Members → Option UseLists
+use_lists_in table =
+    use_lists_with (needed (one_or_more group_name_of) (codes "group") table) (needed (one_or_more word_of) (codes "of") table)
+    (needed (one_or_more badge_of) (codes "badge") table) (needed rights_of (codes "rights") table)
+
+abbrev pub use_lists_of : Data → Option UseLists
+use_lists_of d = table_with use_keys use_lists_in (as_table d)
+
+abbrev pub uses_of : PolicyVersion → Members → Option (List UseView)
+uses_of One table = option_and_then (all_of use_of) (elements_at (codes "use") table)
+uses_of Two table = option_map (flat_map expanded_use) (option_and_then (all_of use_lists_of) (elements_at (codes "use") table))
+
+-- ---- takes: who may empty slots of whom; version 1 has none
+
+abbrev pub take_view : TakeEntry → TakeView
+take_view t = record { from = string_bytes t.from; to = string_bytes t.to }
+
+abbrev pub take_lists_with : Option (List (List ℕ)) → Option (List (List ℕ)) → Option Bool → Option TakeLists
+take_lists_with (Some from) (Some to) (Some both) = Some (record { from = from; to = to; both = both })
+take_lists_with _ _ _ = None
+
+abbrev pub take_lists_in : Members → Option TakeLists
+take_lists_in table =
+    take_lists_with (needed (one_or_more group_name_of) (codes "from") table) (needed (one_or_more group_name_of) (codes "to") table) (switch_or false (codes "both") table)
+
+abbrev pub take_lists_of : Data → Option TakeLists
+take_lists_of d = table_with take_keys take_lists_in (as_table d)
+
+abbrev pub takes_of : PolicyVersion → Members → Option (List TakeView)
+takes_of One table = Some []
+takes_of Two table = option_map (flat_map expanded_take) (option_and_then (all_of take_lists_of) (elements_at (codes "take") table))
 
 -- ---- a policy file
 
 -- the file is what the table says; groups of alone stand first
 pub record IsPolicyTable (table : Members) (file : PolicyFile) : Type 0 where
-  pub version : version_in table ≡ Some 1
-  pub only : has_only top_keys table ≡ true
+  pub version : version_in table ≡ Some file.version
+  pub only : has_only (top_keys file.version) table ≡ true
   pub after : after_in table ≡ Some file.after
   pub silent : words_at (codes "silent") table ≡ Some (map word_view file.silent.items)
   pub messages : words_at (codes "messages") table ≡ Some (map word_view file.messages.items)
-  pub grant : switch_at (codes "seL4_grant") table ≡ Some file.grant
-  pub calls : switch_at (codes "calls_succeed") table ≡ Some file.calls
+  pub grant : switch_or true (codes "seL4_grant") table ≡ Some file.grant
+  pub calls : switch_or true (codes "calls_succeed") table ≡ Some file.calls
   pub alone : List GroupEntry
   pub told : List GroupEntry
   pub groups : file.groups.items ≡ alone ++ told
   pub alone_are : alone_groups_of table ≡ Some (map group_view alone)
   pub told_are : table_groups_of table ≡ Some (map group_view told)
-  pub ways : ways_of table ≡ Some (map way_view file.ways.items)
-  pub uses : uses_of table ≡ Some (map use_view file.uses.items)
+  pub ways : ways_of file.version table ≡ Some (map way_view file.ways.items)
+  pub uses : uses_of file.version table ≡ Some (map use_view file.uses.items)
+  pub takes : takes_of file.version table ≡ Some (map take_view file.takes.items)
 
 -- the file is what the text says
 pub record IsPolicyText (bytes : List ℕ) (file : PolicyFile) : Type 0 where

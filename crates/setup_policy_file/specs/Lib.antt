@@ -1,3 +1,4 @@
 pub mod Files
+pub mod Lists
 pub mod Values
 pub mod Private

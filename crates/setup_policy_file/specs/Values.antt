@@ -1,5 +1,5 @@
 -- The values of a policy's keys: what each is read as, and none where it is not taken.
-use Rattle.std.specs.Prelude.{codes, ℕ, ◌+◌, ◌*◌, ◌-◌, ◌^◌, ℤ, pos, negsuc, List, [], ◌∷◌, length, Bool, false, ◌&&◌, ◌||◌, ◌==◌, nat_lt, nat_le, bit_or, if◌then◌else◌, Option, Some, None, option_and_then, option_map, string_bytes, Result, Ok, Err}
+use Rattle.std.specs.Prelude.{codes, ℕ, ◌+◌, ◌*◌, ◌-◌, ◌^◌, ℤ, pos, negsuc, List, [], ◌∷◌, length, Bool, false, ◌&&◌, ◌||◌, ◌==◌, nat_lt, bit_or, if◌then◌else◌, Option, Some, None, option_and_then, option_map, string_bytes, Result, Ok, Err}
 use Rattle.std.specs.Str.{bytes_eq}
 use Rattle.std.specs.List.{list_all}
 use Rattle.std.specs.Char.{is_ascii_digit, is_ascii_alphanumeric}
@@ -7,7 +7,8 @@ use Rattle.toml.specs.Data.{Data, as_integer, as_str, as_bool, as_array}
 use Rattle.cap_core.specs.declared.profile.ProfileName.TheVariants.{Wide}
 use Rattle.cap_core.specs.declared.rights.Rights.{Rights}
 use Rattle.cap_core.specs.Rights.{write_bit, read_bit, grant_bit, grant_reply_bit}
-use Rattle.setup_values.specs.declared.values.Wrong.{Wrong}
+use Rattle.setup_policy.specs.declared.policy.PolicyVersion.{PolicyVersion}
+use Rattle.setup_policy.specs.declared.policy.PolicyVersion.TheVariants.{One, Two}
 use Rattle.setup_values.specs.Kinds as kinds
 use Rattle.setup_policy_file.specs.declared.file.Word.{Word}
 use Rattle.setup_policy_file.specs.declared.file.Word.TheVariants as w
@@ -30,8 +31,11 @@ abbrev pub number_of : Data → Option ℕ
 number_of d = option_and_then natural (as_integer d)
 
 -- the version of the form
-abbrev pub version_of : Data → Option ℕ
-version_of = number_of
+abbrev pub version_numbered : ℕ → Option PolicyVersion
+version_numbered n = if n == 1 then Some One else if n == 2 then Some Two else None
+
+abbrev pub version_of : Data → Option PolicyVersion
+version_of d = option_and_then version_numbered (number_of d)
 
 abbrev pub switch_of : Data → Option Bool
 switch_of = as_bool
@@ -90,6 +94,14 @@ and_more _ _ = None
 abbrev pub all_of : {A B : Type 0} → (A → Option B) → List A → Option (List B)
 all_of read [] = Some []
 all_of read (x ∷ xs) = and_more (read x) (all_of read xs)
+
+-- a list, or one value without brackets
+abbrev pub elements_or : Data → Option (List Data) → List Data
+elements_or d None = d ∷ []
+elements_or d (Some ds) = ds
+
+abbrev pub one_or_more : {A : Type 0} → (Data → Option A) → Data → Option (List A)
+one_or_more read d = all_of read (elements_or d (elements_of d))
 
 abbrev pub words_of : Data → Option (List WordView)
 words_of d = option_and_then (all_of word_of) (elements_of d)

@@ -52,6 +52,7 @@ pub enum Place {
     Group(usize),
     Way(usize),
     Use(usize),
+    Take(usize),
 }
 
 impl fmt::Display for Place {
@@ -62,6 +63,7 @@ impl fmt::Display for Place {
             Place::Group(n) => write!(f, "group {n}"),
             Place::Way(n) => write!(f, "way {n}"),
             Place::Use(n) => write!(f, "use {n}"),
+            Place::Take(n) => write!(f, "take {n}"),
         }
     }
 }
@@ -125,6 +127,7 @@ pub fn line_and_column(
         Place::Group(n) => (Some(("group", n)), key),
         Place::Way(n) => (Some(("way", n)), key),
         Place::Use(n) => (Some(("use", n)), key),
+        Place::Take(n) => (Some(("take", n)), key),
     };
     match span_in(alloc, text, array, key, part)? {
         Some(span) => Ok(place_of(text, span.start)),

@@ -1,10 +1,12 @@
 //! What a policy file says, in its own words.
 use crate::fault::Place;
 use cap_core::Rights;
+use setup_policy::PolicyVersion;
+use std::alloc::{AllocError, Global};
 use std::fmt;
 
 /// A word for a thread, an endpoint or a region: a number, or a name of the set-up.
-#[derive(Drop)]
+#[derive(Drop, PartialEq, Eq)]
 pub enum Word {
     Number(u64),
     Name(String),
@@ -38,6 +40,8 @@ pub struct WayEntry {
     /// 0 stands for any.
     pub badge: u64,
     pub rights: Rights,
+    /// The table that says it: one with lists says several.
+    pub place: Place,
 }
 
 /// A capability that opens no way by itself.
@@ -48,11 +52,23 @@ pub struct UseEntry {
     /// 0 stands for any.
     pub badge: u64,
     pub rights: Rights,
+    /// The table that says it: one with lists says several.
+    pub place: Place,
 }
 
-/// A policy file.
+/// Who may empty slots of whom, by a revoke.
+#[derive(Drop)]
+pub struct TakeEntry {
+    pub from: String,
+    pub to: String,
+    /// The table that says it: one with lists says several.
+    pub place: Place,
+}
+
+/// A policy file. Lists in its tables are written out: an entry is of single words.
 #[derive(Drop)]
 pub struct PolicyFile {
+    pub version: PolicyVersion,
     pub after: Option<u64>,
     pub silent: Vec<Word>,
     pub messages: Vec<Word>,
@@ -62,4 +78,6 @@ pub struct PolicyFile {
     pub groups: Vec<GroupEntry>,
     pub ways: Vec<WayEntry>,
     pub uses: Vec<UseEntry>,
+    /// None in version 1.
+    pub takes: Vec<TakeEntry>,
 }

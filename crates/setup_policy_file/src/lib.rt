@@ -2,6 +2,8 @@
 //! is proved (`IsPolicyText`); its faults are tested.
 #![tactic(auto)]
 
+mod arrays;
+mod expanded;
 mod fault;
 mod faults;
 mod file;
@@ -9,10 +11,12 @@ mod lists;
 mod near;
 mod reader;
 mod reading;
+mod several;
+mod tables;
 mod values;
 
 pub use fault::{Fault, Place, Spot, line_and_column};
 pub use faults::{Note, Refusal};
-pub use file::{GroupEntry, PolicyFile, UseEntry, WayEntry, Word};
+pub use file::{GroupEntry, PolicyFile, TakeEntry, UseEntry, WayEntry, Word};
 pub use near::{did_you_mean, nearest};
 pub use reading::read_policy;

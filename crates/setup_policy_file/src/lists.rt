@@ -23,7 +23,7 @@ pub trait Listing: Copy {
 
     ghost reads: { Data → Option View };
 
-    /// Reads an element, 1 the first; none where it is at fault.
+    /// Reads an element, 1 the first, or 0 where there is no list around it; none where it is at fault.
     fn read(self, faults: &mut Faults<'_>, value: &Value, n: usize) -> Option<Self::Out>
         ensures { IfSome result (λ x. reads (view value.now) ≡ Some (shown x)) };
 }

@@ -17,6 +17,7 @@ use crate::values::{
     word,
 };
 use cap_core::Rights;
+use setup_policy::PolicyVersion;
 use std::alloc::{AllocError, Global};
 use toml::{Table, Value};
 
@@ -92,7 +93,7 @@ impl<'a> Reader<'a> {
         let Form { name, has, .. } = self.form;
         let words = match self.place {
             Place::Top => format!(in self.alloc;
-                "the key {key} is missing; write policy = 1 at the top"
+                "the key {key} is missing; write policy = 2 at the top"
             )?,
             _ => format!(in self.alloc; "the key {key} is missing; a {name} has {has}")?,
         };
@@ -100,7 +101,7 @@ impl<'a> Reader<'a> {
     }
 
     /// The value of a key; a fault where it is missing.
-    fn value(self, faults: &mut Faults<'_>, key: &str) -> Option<&'a Value>
+    pub fn value(self, faults: &mut Faults<'_>, key: &str) -> Option<&'a Value>
         ensures { IfSome result (λ v. get_member key.now (table_view self.entry.table.now) ≡ Some (view v.now)) }
     {
         match self.find(key) {
@@ -114,6 +115,14 @@ impl<'a> Reader<'a> {
         ensures { IfSome result (λ x. read ≡ Ok x) }
     {
         faults.taken(Spot::Key(self.place, key), named(self.alloc, key, read))
+    }
+
+    /// Where an element of the list at a key stands, 1 the first; or the key, where the value is no list and has 0.
+    pub fn element<'k>(self, key: &'k str, n: usize) -> Spot<'k> {
+        match n {
+            0 => Spot::Key(self.place, key),
+            n => Spot::Element(self.place, key, n),
+        }
     }
 
     /// A list, whose elements are read.
@@ -161,12 +170,12 @@ impl<'a> Reader<'a> {
         self.list_in(Words { reader: self, key }, faults, key, value)
     }
 
-    /// A switch, on where the key is missing.
-    pub fn switch(self, faults: &mut Faults<'_>, key: &str) -> Option<bool>
-        ensures { IfSome result (λ b. spec.switch_at key.now (table_view self.entry.table.now) ≡ Some b) }
+    /// A switch, which is as told where the key is missing.
+    pub fn switch(self, faults: &mut Faults<'_>, key: &str, otherwise: bool) -> Option<bool>
+        ensures { IfSome result (λ b. spec.switch_or otherwise key.now (table_view self.entry.table.now) ≡ Some b) }
     {
         match self.find(key) {
-            None => Some(true),
+            None => Some(otherwise),
             Some(value) => self.taken(faults, key, switch(self.alloc, value)),
         }
     }
@@ -204,12 +213,12 @@ impl<'a> Reader<'a> {
     }
 
     /// The rights of a way, Write where the key is missing.
-    pub fn way_rights(self, faults: &mut Faults<'_>) -> Option<Rights>
+    pub fn way_rights(self, faults: &mut Faults<'_>, version: PolicyVersion) -> Option<Rights>
         ensures { IfSome result (λ r. spec.way_rights_at (table_view self.entry.table.now) ≡ Some r) }
     {
         match self.find("rights") {
             None => Some(Rights::WRITE),
-            Some(value) => self.taken(faults, "rights", way_rights(self.alloc, value)),
+            Some(value) => { self.taken(faults, "rights", way_rights(self.alloc, value, version)) }
         }
     }
 
@@ -227,8 +236,8 @@ impl<'a> Reader<'a> {
     }
 
     /// The version of the form.
-    pub fn version(self, faults: &mut Faults<'_>) -> Option<()>
-        ensures { IfSome result (λ _. spec.version_in (table_view self.entry.table.now) ≡ Some 1) }
+    pub fn version(self, faults: &mut Faults<'_>) -> Option<PolicyVersion>
+        ensures { IfSome result (λ v. spec.version_in (table_view self.entry.table.now) ≡ Some v) }
     {
         let value = self.value(faults, "policy")?;
         self.taken(faults, "policy", version(self.alloc, value))
@@ -268,9 +277,9 @@ impl<'a> Reader<'a> {
 
 /// The words at a key.
 #[derive(Clone, Copy)]
-struct Words<'a> {
-    reader: Reader<'a>,
-    key: &'a str,
+pub struct Words<'a> {
+    pub reader: Reader<'a>,
+    pub key: &'a str,
 }
 
 impl Listing for Words<'_> {
@@ -287,6 +296,6 @@ impl Listing for Words<'_> {
     fn read(self, faults: &mut Faults<'_>, value: &Value, n: usize) -> Option<Word> {
         let Words { reader, key } = self;
         let word = named(reader.alloc, key, word(reader.alloc, value));
-        faults.taken(Spot::Element(reader.place, key, n), word)
+        faults.taken(reader.element(key, n), word)
     }
 }

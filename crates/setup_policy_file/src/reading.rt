@@ -1,21 +1,24 @@
 //! A policy file is read.
-ghost use Rattle.std.specs.Prelude.{◌≡◌, [], ◌∷◌, true, IfOk, IfSome, IsErr, Some, map, option_and_then, option_map};
+ghost use Rattle.std.specs.Prelude.{◌≡◌, [], ◌∷◌, IfOk, IfSome, Some, map, option_map};
 ghost use Rattle.toml.specs.View.{view, table_view};
-ghost use Rattle.toml.specs.Data.{as_table};
 ghost use Rattle.setup_policy_file.specs.Values as values;
 ghost use Rattle.setup_policy_file.specs.Files as spec;
 ghost use Rattle.setup_policy_file.specs.Private.{alone_group_of};
 
+use crate::arrays::{entry, tables};
+use crate::expanded::{expanded_takes, expanded_uses, expanded_ways};
 use crate::fault::{Fault, Place, Spot, line_and_column};
 use crate::faults::{Faults, Refusal};
-use crate::file::{GroupEntry, PolicyFile, UseEntry, WayEntry, Word};
-use crate::lists::{Listing, each};
+use crate::file::{GroupEntry, PolicyFile, TakeEntry, UseEntry, WayEntry, Word};
+use crate::lists::Listing;
 use crate::reader::{Form, Reader, named};
+use crate::tables::{TAKE_TABLE, TakeTables, UseTables, WAY_TABLE, WayTables};
 use crate::values::{Bad, group_name, word_in};
+use setup_policy::PolicyVersion;
 use std::alloc::Global;
 use toml::{Table, Value};
 
-/// What the top table has.
+/// What the top table has, in version 1.
 const TOP: Form = Form {
     name: "policy",
     keys: &[
@@ -33,6 +36,25 @@ const TOP: Form = Form {
     has: "policy, after, silent, messages, alone, seL4_grant, calls_succeed, group, way, use",
 };
 
+/// The same in version 2.
+const TOP_WITH_TAKES: Form = Form {
+    name: "policy",
+    keys: &[
+        "policy",
+        "after",
+        "silent",
+        "messages",
+        "alone",
+        "seL4_grant",
+        "calls_succeed",
+        "group",
+        "way",
+        "use",
+        "take",
+    ],
+    has: "policy, after, silent, messages, alone, seL4_grant, calls_succeed, group, way, use, take",
+};
+
 const GROUP: Form = Form {
     name: "group",
     keys: &["name", "threads", "regions"],
@@ -45,75 +67,12 @@ const WAY: Form = Form {
     has: "from, to, by, badge and rights: { from = \"a\", to = \"b\", by = \"ep\", badge = 10 }",
 };
 
-const USE: Form = Form {
+/// A use, also with lists.
+pub const USE: Form = Form {
     name: "use",
     keys: &["group", "of", "badge", "rights"],
     has: "group, of, badge and rights: { group = \"a\", of = \"ep\", badge = \"any\", rights = \"wr\" }",
 };
-
-/// That the value at an array's key is no list of tables.
-fn no_tables<T>(alloc: Global, form: Form) -> Result<T, Bad>
-    ensures { IsErr result }
-{
-    let Form { name, has, .. } = form;
-    let words = format!(in alloc; "{name} has to be a list of tables, of {has}")?;
-    Err(Bad::Wrong(Fault::Type, words))
-}
-
-/// The elements of an array, which are tables; none where the key is not there.
-#[tactic(auto, using(setup_values::proofs::Loops::item_list_view))]
-fn entries<'a>(top: Reader<'a>, form: Form) -> Result<&'a [Value], Bad>
-    ensures { IfOk result (λ es. spec.elements_at form.name.now (table_view top.entry.table.now) ≡ Some (map view es.now)) }
-{
-    let Some(value) = top.find(form.name) else {
-        return Ok(&[]);
-    };
-    let Some(array) = value.as_array() else {
-        return no_tables(top.alloc, form);
-    };
-    let elements = array.as_slice();
-    if elements.iter().all(Value::is_table) {
-        Ok(elements)
-    } else {
-        no_tables(top.alloc, form)
-    }
-}
-
-/// What the tables of an array are read as.
-fn tables<L: Listing>(
-    list: L,
-    faults: &mut Faults<'_>,
-    top: Reader<'_>,
-    form: Form,
-) -> Option<Vec<L::Out>>
-    ensures { IfSome result (λ v. option_and_then (values.all_of L.reads) (spec.elements_at form.name.now (table_view top.entry.table.now)) ≡ Some (map L.shown v.items)) }
-{
-    let spot = Spot::Key(Place::Top, form.name);
-    let entries = faults.taken(spot, entries(top, form))?;
-    each(list, top.alloc, faults, entries)
-}
-
-/// One table of an array, which has no other keys than it may.
-fn entry<'a>(
-    faults: &mut Faults<'_>,
-    top: Reader<'a>,
-    form: Form,
-    value: &'a Value,
-    place: Place,
-) -> Option<Reader<'a>>
-    ensures is { IfSome result (λ r. as_table (view value.now) ≡ Some (table_view r.table.now)) }
-    ensures only { IfSome result (λ r. spec.has_only (map (λ k. k.now) form.keys.now) (table_view r.table.now) ≡ true) }
-{
-    let table = value.as_table()?;
-    let reader = Reader {
-        table,
-        place,
-        form,
-        ..top
-    };
-    reader.only_known(faults)?;
-    Some(reader)
-}
 
 /// The one thread of a group of its own, which has the group's name.
 fn one_thread(alloc: Global, name: &str) -> Result<Vec<Word>, Bad>
@@ -204,12 +163,13 @@ fn group_in(faults: &mut Faults<'_>, reader: Reader<'_>) -> Option<GroupEntry>
     })
 }
 
-/// The ways.
+/// The ways of version 1.
 #[derive(Clone, Copy)]
 struct Ways<'a>(Reader<'a>);
 
 impl Listing for Ways<'_> {
-    ghost use Rattle.setup_policy_file.specs.Files.{WayView, way_of, way_view};
+    ghost use Rattle.setup_policy_file.specs.Lists.{WayView};
+    ghost use Rattle.setup_policy_file.specs.Files.{way_of, way_view};
 
     type Out = WayEntry;
 
@@ -232,22 +192,24 @@ fn way_in(faults: &mut Faults<'_>, reader: Reader<'_>) -> Option<WayEntry>
     let to = reader.group_name(faults, "to");
     let by = reader.word(faults, "by");
     let badge = reader.badge(faults, "badge");
-    let rights = reader.way_rights(faults);
+    let rights = reader.way_rights(faults, PolicyVersion::One);
     Some(WayEntry {
         from: from?,
         to: to?,
         by: by?,
         badge: badge?,
         rights: rights?,
+        place: reader.place,
     })
 }
 
-/// The uses.
+/// The uses of version 1.
 #[derive(Clone, Copy)]
 struct Uses<'a>(Reader<'a>);
 
 impl Listing for Uses<'_> {
-    ghost use Rattle.setup_policy_file.specs.Files.{UseView, use_of, use_view};
+    ghost use Rattle.setup_policy_file.specs.Lists.{UseView};
+    ghost use Rattle.setup_policy_file.specs.Files.{use_of, use_view};
 
     type Out = UseEntry;
 
@@ -275,6 +237,7 @@ fn use_in(faults: &mut Faults<'_>, reader: Reader<'_>) -> Option<UseEntry>
         of: of?,
         badge: badge?,
         rights: rights?,
+        place: reader.place,
     })
 }
 
@@ -313,6 +276,67 @@ fn all_apart(faults: &mut Faults<'_>, groups: &[GroupEntry]) -> Option<()> {
     if are_apart { Some(()) } else { None }
 }
 
+/// What the top table of a version has.
+fn top_form(version: PolicyVersion) -> Form
+    ensures { map (λ k. k.now) result.keys.now ≡ spec.top_keys version }
+{
+    match version {
+        PolicyVersion::One => TOP,
+        PolicyVersion::Two => TOP_WITH_TAKES,
+    }
+}
+
+/// The ways; of version 2 those that its tables with lists stand for.
+fn read_ways(
+    faults: &mut Faults<'_>,
+    top: Reader<'_>,
+    version: PolicyVersion,
+) -> Option<Vec<WayEntry>>
+    ensures { IfSome result (λ v. spec.ways_of version (table_view top.entry.table.now) ≡ Some (map spec.way_view v.items)) }
+{
+    match version {
+        PolicyVersion::One => tables(Ways(top), faults, top, WAY),
+        PolicyVersion::Two => {
+            let tables = tables(WayTables(top), faults, top, WAY_TABLE)?;
+            faults.kept(expanded_ways(top.alloc, tables.as_slice()))
+        }
+    }
+}
+
+/// The uses; of version 2 those that its tables with lists stand for.
+fn read_uses(
+    faults: &mut Faults<'_>,
+    top: Reader<'_>,
+    version: PolicyVersion,
+) -> Option<Vec<UseEntry>>
+    ensures { IfSome result (λ v. spec.uses_of version (table_view top.entry.table.now) ≡ Some (map spec.use_view v.items)) }
+{
+    match version {
+        PolicyVersion::One => tables(Uses(top), faults, top, USE),
+        PolicyVersion::Two => {
+            let tables = tables(UseTables(top), faults, top, USE)?;
+            faults.kept(expanded_uses(top.alloc, tables.as_slice()))
+        }
+    }
+}
+
+/// The takes that the tables of version 2 stand for.
+fn read_takes(
+    faults: &mut Faults<'_>,
+    top: Reader<'_>,
+    version: PolicyVersion,
+) -> Option<Vec<TakeEntry>>
+    ensures { IfSome result (λ v. spec.takes_of version (table_view top.entry.table.now) ≡ Some (map spec.take_view v.items)) }
+{
+    match version {
+        PolicyVersion::One => Some(Vec::new(top.alloc)),
+        PolicyVersion::Two => {
+            let tables = tables(TakeTables(top), faults, top, TAKE_TABLE)?;
+            faults.kept(expanded_takes(top.alloc, tables.as_slice()))
+        }
+    }
+}
+
 /// What the table of a policy says; none where it is at fault. Behind a fault of the version nothing is read.
 fn read_top(faults: &mut Faults<'_>, table: &Table) -> Option<PolicyFile>
     ensures { IfSome result (spec.IsPolicyTable (table_view table.now)) }
@@ -323,22 +347,28 @@ fn read_top(faults: &mut Faults<'_>, table: &Table) -> Option<PolicyFile>
         place: Place::Top,
         form: TOP,
     };
-    top.version(faults)?;
+    let version = top.version(faults)?;
+    let top = Reader {
+        form: top_form(version),
+        ..top
+    };
     let known = top.only_known(faults);
     let after = top.after(faults);
     let silent = top.words(faults, "silent");
     let messages = top.words(faults, "messages");
     let alone = alone_groups(faults, top);
-    let grant = top.switch(faults, "seL4_grant");
-    let calls = top.switch(faults, "calls_succeed");
+    let grant = top.switch(faults, "seL4_grant", true);
+    let calls = top.switch(faults, "calls_succeed", true);
     let told = tables(Groups(top), faults, top, GROUP);
-    let ways = tables(Ways(top), faults, top, WAY);
-    let uses = tables(Uses(top), faults, top, USE);
+    let ways = read_ways(faults, top, version);
+    let uses = read_uses(faults, top, version);
+    let takes = read_takes(faults, top, version);
     let (mut groups, mut told) = (alone?, told?);
     faults.kept(groups.append(&mut told))?;
     all_apart(faults, groups.as_slice())?;
     known?;
     Some(PolicyFile {
+        version,
         after: after?,
         silent: silent?,
         messages: messages?,
@@ -347,6 +377,7 @@ fn read_top(faults: &mut Faults<'_>, table: &Table) -> Option<PolicyFile>
         groups,
         ways: ways?,
         uses: uses?,
+        takes: takes?,
     })
 }
 

@@ -1,5 +1,5 @@
 //! The values of a policy's keys.
-ghost use Rattle.std.specs.Prelude.{◌≡◌, IfOk, IsErr, Some, map, option_and_then, string_bytes};
+ghost use Rattle.std.specs.Prelude.{◌≡◌, IfOk, IsErr, MatchOption, None, Some, map, option_and_then, string_bytes};
 ghost use Rattle.std.specs.List.{list_all};
 ghost use Rattle.toml.specs.View.{view};
 ghost use Rattle.setup_policy_file.specs.Values as spec;
@@ -8,6 +8,7 @@ ghost use Rattle.setup_policy_file.specs.Files.{with_write};
 use crate::fault::Fault;
 use crate::file::Word;
 use cap_core::{Rights, Wide};
+use setup_policy::PolicyVersion;
 use setup_values::kinds::Word as SetupWord;
 use setup_values::{Kind, KnownNames};
 use std::alloc::{AllocError, AllocFailed, Global};
@@ -62,15 +63,16 @@ fn wrong_value<T>(words: String) -> Result<T, Bad>
 }
 
 /// The version of the form.
-pub fn version(alloc: Global, value: &Value) -> Result<(), Bad>
-    ensures { IfOk result (λ _. spec.version_of (view value.now) ≡ Some 1) }
+pub fn version(alloc: Global, value: &Value) -> Result<PolicyVersion, Bad>
+    ensures { IfOk result (λ v. spec.version_of (view value.now) ≡ Some v) }
 {
     match value {
-        Value::Integer(1) => Ok(()),
+        Value::Integer(1) => Ok(PolicyVersion::One),
+        Value::Integer(2) => Ok(PolicyVersion::Two),
         Value::Integer(other) => wrong_value(format!(in alloc;
-            "the value is {other}; this program reads policy = 1"
+            "the value is {other}; this program reads policy = 1 and policy = 2"
         )?),
-        other => wrong_type(alloc, "value is", other, "write policy = 1"),
+        other => wrong_type(alloc, "value is", other, "write policy = 2"),
     }
 }
 
@@ -210,17 +212,25 @@ pub fn word(alloc: Global, value: &Value) -> Result<Word, Bad>
     }
 }
 
-/// The elements of a list.
+/// The elements of a value that is a list.
 #[tactic(auto, using(setup_values::proofs::Loops::item_list_view))]
+pub fn listed(value: &Value) -> Option<&[Value]>
+    ensures { MatchOption result (spec.elements_of (view value.now) ≡ None) (λ es. spec.elements_of (view value.now) ≡ Some (map view es.now)) }
+{
+    let array = value.as_array()?;
+    Some(array.as_slice())
+}
+
+/// The elements of a list.
 pub fn elements(alloc: Global, value: &Value) -> Result<&[Value], Bad>
     ensures { IfOk result (λ es. spec.elements_of (view value.now) ≡ Some (map view es.now)) }
 {
-    let Some(array) = value.as_array() else {
+    let Some(elements) = listed(value) else {
         let shown = shown(alloc, value)?;
         let words = format!(in alloc; "the value is {shown}; it has to be a list: [{shown}]")?;
         return Err(Bad::Wrong(Fault::Type, words));
     };
-    Ok(array.as_slice())
+    Ok(elements)
 }
 
 /// What is wrong with a badge.
@@ -297,16 +307,31 @@ pub fn rights(alloc: Global, value: &Value) -> Result<Rights, Bad>
     Ok(rights)
 }
 
+/// What is wrong with the rights of a way that lack Write.
+fn wrong_rights(alloc: Global, value: &Value, version: PolicyVersion) -> Result<Rights, Bad>
+    ensures { IsErr result }
+{
+    match version {
+        PolicyVersion::One => wrong_value(String::from_str(
+            alloc,
+            "a way carries Write; add w, or say by a use what else may be held",
+        )?),
+        PolicyVersion::Two => {
+            let shown = shown(alloc, value)?;
+            wrong_value(format!(in alloc;
+                "the rights are {shown}; who sends needs w: write it, or a use for what is not sent"
+            )?)
+        }
+    }
+}
+
 /// The rights of a way, which have Write.
-pub fn way_rights(alloc: Global, value: &Value) -> Result<Rights, Bad>
+pub fn way_rights(alloc: Global, value: &Value, version: PolicyVersion) -> Result<Rights, Bad>
     ensures { IfOk result (λ r. option_and_then with_write (spec.rights_of (view value.now)) ≡ Some r) }
 {
     let rights = rights(alloc, value)?;
     if rights.0 & Rights::WRITE.0 == 0 {
-        return wrong_value(String::from_str(
-            alloc,
-            "a way carries Write; add w, or say by a use what else may be held",
-        )?);
+        return wrong_rights(alloc, value, version);
     }
     Ok(rights)
 }

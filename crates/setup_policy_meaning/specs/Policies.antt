@@ -1,5 +1,5 @@
 -- What a policy file means in a state: its words stand for the threads, the endpoints and the regions of the policy.
-use Rattle.std.specs.Prelude.{◌≡◌, ℕ, ◌+◌, ◌++◌, ◌==◌, ◌||◌, Bool, true, not, List, [], ◌∷◌, length, map, Option, Some, None, option_map, position, string_bytes, String}
+use Rattle.std.specs.Prelude.{◌≡◌, ℕ, ◌+◌, ◌++◌, ◌==◌, ◌||◌, Bool, true, not, nat_lt, cond, List, [], ◌∷◌, length, map, Option, Some, None, option_and_then, option_map, position, string_bytes, String}
 use Rattle.std.specs.Str.{bytes_eq}
 use Rattle.std.specs.declared.alloc.Global.{Global}
 use Rattle.std.specs.List.{list_all, list_any, range_with_len}
@@ -14,12 +14,14 @@ use Rattle.setup_policy.specs.declared.policy.Allowance.{Allowance}
 use Rattle.setup_policy.specs.declared.policy.Member.{Member}
 use Rattle.setup_policy.specs.declared.policy.OwnRegion.{OwnRegion}
 use Rattle.setup_policy.specs.declared.policy.Policy.{Policy}
+use Rattle.setup_policy.specs.declared.policy.PolicyTake.{PolicyTake}
 use Rattle.setup_policy.specs.declared.policy.PolicyWay.{PolicyWay}
 use Rattle.setup_policy.specs.Entries.{allowances_of}
 use Rattle.setup_policy_file.specs.declared.file.Word.{Word}
 use Rattle.setup_policy_file.specs.declared.file.GroupEntry.{GroupEntry}
 use Rattle.setup_policy_file.specs.declared.file.WayEntry.{WayEntry}
 use Rattle.setup_policy_file.specs.declared.file.UseEntry.{UseEntry}
+use Rattle.setup_policy_file.specs.declared.file.TakeEntry.{TakeEntry}
 use Rattle.setup_policy_file.specs.declared.file.PolicyFile.{PolicyFile}
 use Rattle.setup_policy_file.specs.Values.{all_of, and_more}
 use Rattle.setup_policy_meaning.specs.Meant.{thread_meant, endpoint_meant, word_name}
@@ -101,6 +103,22 @@ use_by _ _ u = None
 abbrev pub use_meant : ProfileName → Names → Plan → Shown → List (String Global) → UseEntry → Option Allowance
 use_meant p names plan v actors u = use_by (actor_named actors (string_bytes u.group)) (endpoint_meant p names plan v u.of) u
 
+-- ---- takes
+
+-- the number of a group by its name, where there are so many groups; none of a trusted thread
+abbrev pub if_group : ℕ → ℕ → Option ℕ
+if_group count actor = cond (nat_lt actor count) (Some actor) None
+
+abbrev pub group_named : ℕ → List (String Global) → List ℕ → Option ℕ
+group_named count actors name = option_and_then (if_group count) (actor_named actors name)
+
+abbrev pub take_between : Option ℕ → Option ℕ → Option PolicyTake
+take_between (Some from) (Some to) = Some (record { from = from; to = to })
+take_between _ _ = None
+
+abbrev pub take_meant : ℕ → List (String Global) → TakeEntry → Option PolicyTake
+take_meant count actors t = take_between (group_named count actors (string_bytes t.from)) (group_named count actors (string_bytes t.to))
+
 -- ---- the policy
 
 -- a thread is among these
@@ -129,6 +147,7 @@ are_known c v = list_all (λ (d : Derived). names_known (is_known c.members.item
 
 -- the policy is what the file means in a state: each word of it stands for what it names there
 pub record IsPolicyMeant (p : ProfileName) (names : Names) (plan : Plan) (v : Shown) (file : PolicyFile) (c : Policy) : Type 0 where
+  pub version : c.version ≡ file.version
   pub actors : map string_bytes c.actors.items ≡ actor_names file
   pub groups : c.groups.items ≡ range_with_len 0 (length file.groups.items)
   pub silent : all_from (member_meant p names plan v) (length file.groups.items) file.silent.items ≡ Some c.silent.items
@@ -139,6 +158,7 @@ pub record IsPolicyMeant (p : ProfileName) (names : Names) (plan : Plan) (v : Sh
   pub known : are_known c v ≡ true
   pub ways : all_of (way_meant p names plan v c.actors.items) file.ways.items ≡ Some c.ways.items
   pub uses : all_of (use_meant p names plan v c.actors.items) file.uses.items ≡ Some c.uses.items
+  pub takes : all_of (take_meant (length file.groups.items) c.actors.items) file.takes.items ≡ Some c.takes.items
   pub allowances : c.allowances.items ≡ allowances_of c.ways.items c.uses.items
   pub grant : c.grant ≡ file.grant
   pub calls : c.calls ≡ file.calls

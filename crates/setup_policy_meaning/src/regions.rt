@@ -15,6 +15,7 @@ use crate::objects::{Kind, Meaning, Unmeant, text_of_word};
 use cap_core::{Cap, Profile};
 use ipc_core::Waiters;
 use kernel_core::BootPlan;
+use setup_policy::PolicyVersion;
 use setup_policy_file::Word;
 use setup_report::number_meant;
 use slot_core::{CapStore, Derivation};
@@ -239,28 +240,66 @@ impl<P: Profile, S: CapStore<P> + Drop, W: Waiters<P> + Drop> Meaning<'_, P, S, 
         }
     }
 
-    /// That a word means no region: none is there, or several of them, of which this is the largest.
+    /// The words for several regions at an address, of which the policy has to name one: each with its bits, the smallest first.
+    fn one_of_several(
+        &self,
+        word: &Word,
+        number: Option<u64>,
+        regions: &[(u64, u32)],
+    ) -> Result<String, AllocError> {
+        let alloc = self.objects.alloc;
+        let mut sizes = Vec::new(alloc);
+        for (_, bits) in regions {
+            sizes.push(*bits)?;
+        }
+        sizes.sort_unstable();
+        sizes.dedup();
+        let mut words = match (word, number) {
+            (Word::Name(name), Some(number)) => format!(in alloc;
+                "several regions begin at {name}, which is {number}: write "
+            )?,
+            _ => format!(in alloc; "several regions begin at {word}: write ")?,
+        };
+        for (i, bits) in sizes.as_slice().iter().enumerate() {
+            let behind = if i == 0 { "" } else { " or " };
+            let size = format!(in alloc; "{behind}\"{word}/{bits}\"")?;
+            words.push_str(size.as_str())?;
+        }
+        Ok(words)
+    }
+
+    /// That a word means no region: none is there, or several of them.
     fn no_region<T>(
         &self,
         word: &Word,
         number: Option<u64>,
-        largest: Option<u32>,
+        regions: &[(u64, u32)],
+        version: PolicyVersion,
     ) -> Result<T, Unmeant>
         ensures { IsErr result }
     {
-        match largest {
-            None => self.objects.unmeant(Kind::Region, word, number),
-            Some(bits) => {
+        match (largest(regions), version) {
+            (None, _) => self.objects.unmeant(Kind::Region, word, number),
+            (Some(bits), PolicyVersion::One) => {
                 let words = format!(in self.objects.alloc;
                     "{word}: several untyped regions begin there; write the bits of one behind a stroke, as \"{word}/{bits}\""
                 )?;
+                Err(Unmeant::Words(words))
+            }
+            (Some(_), PolicyVersion::Two) => {
+                let words = self.one_of_several(word, number, regions)?;
                 Err(Unmeant::Words(words))
             }
         }
     }
 
     /// The region that a word without a size means. An address at which regions of several sizes begin means none of them.
-    fn whole_region(&self, rows: &[Derivation], word: &Word) -> Result<(u64, u32), Unmeant>
+    fn whole_region(
+        &self,
+        rows: &[Derivation],
+        word: &Word,
+        version: PolicyVersion,
+    ) -> Result<(u64, u32), Unmeant>
         requires { map (derivation_view P.profile) rows.now ≡ state.slot_rows self.now.kernel.now }
         ensures { IfOk result (λ r. spec.whole_region P.profile (names_view self.now.objects.names.now) self.now.setup.now.plan self.now.kernel.now (word_text word.now) ≡ Some r) }
     {
@@ -269,7 +308,7 @@ impl<P: Profile, S: CapStore<P> + Drop, W: Waiters<P> + Drop> Meaning<'_, P, S, 
         let regions = self.regions_of(rows, number)?;
         match only_region(regions.as_slice()) {
             Some(region) => Ok(region),
-            None => self.no_region(word, number, largest(regions.as_slice())),
+            None => self.no_region(word, number, regions.as_slice(), version),
         }
     }
 
@@ -320,9 +359,14 @@ impl<P: Profile, S: CapStore<P> + Drop, W: Waiters<P> + Drop> Meaning<'_, P, S, 
     }
 
     /// The region that a word means, by its address and the bits of its size: the one that begins there, or of `NAME/BITS` its first
-    /// 2^BITS bytes.
+    /// 2^BITS bytes. The words of a fault are those of the policy's version.
     #[tactic(auto, using(crate::proofs::Called::by_part, crate::proofs::Called::by_whole))]
-    pub fn region(&self, rows: &[Derivation], word: &Word) -> Result<(u64, u32), Unmeant>
+    pub fn region(
+        &self,
+        rows: &[Derivation],
+        word: &Word,
+        version: PolicyVersion,
+    ) -> Result<(u64, u32), Unmeant>
         requires { map (derivation_view P.profile) rows.now ≡ state.slot_rows self.now.kernel.now }
         ensures { IfOk result (λ r. spec.region_meant P.profile (names_view self.now.objects.names.now) self.now.setup.now.plan self.now.kernel.now word.now ≡ Some r) }
     {
@@ -333,12 +377,12 @@ impl<P: Profile, S: CapStore<P> + Drop, W: Waiters<P> + Drop> Meaning<'_, P, S, 
                     Ok(region)
                 }
                 None => {
-                    let region = self.whole_region(rows, word)?;
+                    let region = self.whole_region(rows, word, version)?;
                     Ok(region)
                 }
             },
             Word::Number(_) => {
-                let region = self.whole_region(rows, word)?;
+                let region = self.whole_region(rows, word, version)?;
                 Ok(region)
             }
         }

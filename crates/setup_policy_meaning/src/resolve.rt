@@ -13,9 +13,10 @@ ghost use Rattle.setup_policy_meaning.specs.Policies as spec;
 use crate::objects::{Kind, Meaning, Object, Unmeant, object_of};
 use cap_core::{Cap, Profile, Rights};
 use ipc_core::Waiters;
-use setup_policy::{Allowance, Member, OwnRegion, Policy, PolicyWay, sender_entry};
+use setup_policy::{Allowance, Member, OwnRegion, Policy, PolicyTake, PolicyWay, sender_entry};
 use setup_policy_file::{
-    Fault, GroupEntry, Place, PolicyFile, Refusal, Spot, UseEntry, WayEntry, Word, did_you_mean,
+    Fault, GroupEntry, Place, PolicyFile, Refusal, Spot, TakeEntry, UseEntry, WayEntry, Word,
+    did_you_mean,
 };
 use slot_core::{CapStore, Derivation};
 use std::alloc::{AllocError, Global};
@@ -276,7 +277,7 @@ impl<P: Profile, S: CapStore<P> + Drop, W: Waiters<P> + Drop> Resolver<'_, P, S,
         requires { map (derivation_view P.profile) rows.now ≡ slot_rows self.now.meaning.kernel.now }
         ensures { IfOk result (λ r. spec.own_meant P.profile (names_view self.now.meaning.objects.names.now) self.now.meaning.setup.now.plan self.now.meaning.kernel.now group word.now ≡ Some r) }
     {
-        match self.meaning.region(rows, word) {
+        match self.meaning.region(rows, word, self.file.version) {
             Ok((base, bits)) => Ok(OwnRegion { group, base, bits }),
             Err(why) => self.refused(why, spot),
         }
@@ -396,11 +397,25 @@ impl<P: Profile, S: CapStore<P> + Drop, W: Waiters<P> + Drop> Resolver<'_, P, S,
         }
     }
 
-    /// What an entry of `way` means, which is the nth.
-    fn way(&self, names: &[String], way: &WayEntry, n: usize) -> Result<PolicyWay, Refusal>
+    /// The number of a group. No trusted thread takes from another, nor is anything taken from it.
+    fn group(&self, names: &[String], name: &str, spot: Spot<'_>) -> Result<u64, Refusal>
+        ensures { IfOk result (λ group. spec.group_named (length self.now.file.now.groups.items) names.now name.now ≡ Some group) }
+    {
+        let actor = self.actor(names, name, spot)?;
+        if actor < self.file.groups.len() as u64 {
+            return Ok(actor);
+        }
+        let words = format!(in self.alloc();
+            "{name} is a trusted thread; takes are between groups"
+        )?;
+        self.fault(Fault::NoSuch, spot, words)
+    }
+
+    /// What an entry of `way` means.
+    fn way(&self, names: &[String], way: &WayEntry) -> Result<PolicyWay, Refusal>
         ensures { IfOk result (λ w. spec.way_meant P.profile (names_view self.now.meaning.objects.names.now) self.now.meaning.setup.now.plan self.now.meaning.kernel.now names.now way.now ≡ Some w) }
     {
-        let place = Place::Way(n);
+        let place = way.place;
         Ok(PolicyWay {
             from: self.actor(names, way.from.as_str(), Spot::Key(place, "from"))?,
             to: self.actor(names, way.to.as_str(), Spot::Key(place, "to"))?,
@@ -414,20 +429,18 @@ impl<P: Profile, S: CapStore<P> + Drop, W: Waiters<P> + Drop> Resolver<'_, P, S,
         ensures { IfOk result (λ v. all_of (spec.way_meant P.profile (names_view self.now.meaning.objects.names.now) self.now.meaning.setup.now.plan self.now.meaning.kernel.now names.now) entries.now ≡ Some v.items) }
     {
         let mut ways = Vec::new(self.alloc());
-        let mut n = 0usize;
         for entry in entries {
-            n = n.saturating_add(1);
-            let way = self.way(names, entry, n)?;
+            let way = self.way(names, entry)?;
             ways.push(way)?;
         }
         Ok(ways)
     }
 
-    /// What an entry of `use` means, which is the nth.
-    fn allowed(&self, names: &[String], entry: &UseEntry, n: usize) -> Result<Allowance, Refusal>
+    /// What an entry of `use` means.
+    fn allowed(&self, names: &[String], entry: &UseEntry) -> Result<Allowance, Refusal>
         ensures { IfOk result (λ u. spec.use_meant P.profile (names_view self.now.meaning.objects.names.now) self.now.meaning.setup.now.plan self.now.meaning.kernel.now names.now entry.now ≡ Some u) }
     {
-        let place = Place::Use(n);
+        let place = entry.place;
         Ok(Allowance {
             actor: self.actor(names, entry.group.as_str(), Spot::Key(place, "group"))?,
             endpoint: self.endpoint(&entry.of, Spot::Key(place, "of"))?,
@@ -440,13 +453,32 @@ impl<P: Profile, S: CapStore<P> + Drop, W: Waiters<P> + Drop> Resolver<'_, P, S,
         ensures { IfOk result (λ v. all_of (spec.use_meant P.profile (names_view self.now.meaning.objects.names.now) self.now.meaning.setup.now.plan self.now.meaning.kernel.now names.now) entries.now ≡ Some v.items) }
     {
         let mut uses = Vec::new(self.alloc());
-        let mut n = 0usize;
         for entry in entries {
-            n = n.saturating_add(1);
-            let allowed = self.allowed(names, entry, n)?;
+            let allowed = self.allowed(names, entry)?;
             uses.push(allowed)?;
         }
         Ok(uses)
+    }
+
+    /// What an entry of `take` means.
+    fn take(&self, names: &[String], take: &TakeEntry) -> Result<PolicyTake, Refusal>
+        ensures { IfOk result (λ t. spec.take_meant (length self.now.file.now.groups.items) names.now take.now ≡ Some t) }
+    {
+        Ok(PolicyTake {
+            from: self.group(names, take.from.as_str(), Spot::Key(take.place, "from"))?,
+            to: self.group(names, take.to.as_str(), Spot::Key(take.place, "to"))?,
+        })
+    }
+
+    fn takes(&self, names: &[String], entries: &[TakeEntry]) -> Result<Vec<PolicyTake>, Refusal>
+        ensures { IfOk result (λ v. all_of (spec.take_meant (length self.now.file.now.groups.items) names.now) entries.now ≡ Some v.items) }
+    {
+        let mut takes = Vec::new(self.alloc());
+        for entry in entries {
+            let take = self.take(names, entry)?;
+            takes.push(take)?;
+        }
+        Ok(takes)
     }
 
     /// The policy, where each of its words means something. The rows are the full slots of the state.
@@ -475,8 +507,10 @@ impl<P: Profile, S: CapStore<P> + Drop, W: Waiters<P> + Drop> Resolver<'_, P, S,
         self.refuse_groupless(rows, actors, members.as_slice())?;
         let ways = self.ways(names.as_slice(), file.ways.as_slice())?;
         let uses = self.uses(names.as_slice(), file.uses.as_slice())?;
+        let takes = self.takes(names.as_slice(), file.takes.as_slice())?;
         let allowances = allowances(self.alloc(), ways.as_slice(), uses.as_slice())?;
         Ok(Policy {
+            version: file.version,
             actors: names,
             groups: group_numbers(self.alloc(), file.groups.len() as u64)?,
             members,
@@ -485,6 +519,7 @@ impl<P: Profile, S: CapStore<P> + Drop, W: Waiters<P> + Drop> Resolver<'_, P, S,
             regions,
             ways,
             uses,
+            takes,
             allowances,
             grant: file.grant,
             calls: file.calls,

@@ -18,4 +18,5 @@ returns c =
       told_are = c.in_ok-told.ensures;
       ways = c.in_ok-ways.ensures;
       uses = c.in_ok-uses.ensures;
+      takes = c.in_ok-takes.ensures;
     }

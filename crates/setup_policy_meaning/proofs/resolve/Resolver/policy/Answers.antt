@@ -9,11 +9,12 @@ use Rattle.setup_report.specs.State.{Derived}
 use Rattle.setup_policy.specs.declared.policy.Member.{Member}
 use Rattle.setup_policy_file.specs.Values.{all_of}
 use Rattle.setup_policy_file.specs.declared.file.WayEntry.{WayEntry}
+use Rattle.setup_policy_file.specs.declared.file.TakeEntry.{TakeEntry}
 use Rattle.setup_policy_file.specs.declared.file.UseEntry.{UseEntry}
 use Rattle.setup_policy_file.specs.declared.file.Word.{Word}
 use Rattle.setup_policy_file.specs.declared.file.GroupEntry.{GroupEntry}
 use Rattle.setup_policy_meaning.specs.Meant.{word_name}
-use Rattle.setup_policy_meaning.specs.Policies.{all_from, are_untrusted, group_name, is_known, member_meant, members_meant, names_known, regions_meant, use_meant, way_meant}
+use Rattle.setup_policy_meaning.specs.Policies.{all_from, are_untrusted, group_name, is_known, member_meant, members_meant, names_known, regions_meant, take_meant, use_meant, way_meant}
 use Rattle.setup_policy_meaning.proofs.Groups.{as_many, as_many_more, as_named}
 use Rattle.setup_policy_meaning.proofs.Rows.{all_rows}
 use Rattle.setup_policy_meaning.proofs.resolve.Resolver.policy.Goals as goal
@@ -46,6 +47,7 @@ returns g c =
     (subst (λ (xs : List Member). list_all (λ (d : Derivation). names_known (is_known c.as_slice-9.result.now c.as_slice-6.result.now xs) d.cap) rows ≡ true) c.as_slice-7.ensures.value
     c.in_ok-refuse_groupless.ensures)) in
     record {
+      version = search rules;
       actors = as_named first second third (map group_name file.groups.items) (map word_name file.silent.items) (map word_name file.messages.items) groups silent messages;
       groups = c.in_ok-group_numbers.ensures ∙ ap (range_with_len 0) count;
       silent = subst (λ (n : ℕ). all_from (member_meant p names m.setup.now.plan m.kernel.now) n file.silent.items ≡ Some c.in_ok-silent.silent.items) many
@@ -62,6 +64,8 @@ returns g c =
           (subst (λ (ws : List WayEntry). all_of (way_meant p names m.setup.now.plan m.kernel.now c.as_slice-10.result.now) ws ≡ Some c.in_ok-ways.ways.items) c.as_slice-11.ensures.value c.in_ok-ways.ensures);
       uses = subst (λ (ns : List (String Global)). all_of (use_meant p names m.setup.now.plan m.kernel.now ns) file.uses.items ≡ Some c.in_ok-uses.uses.items) c.as_slice-12.ensures.value
           (subst (λ (us : List UseEntry). all_of (use_meant p names m.setup.now.plan m.kernel.now c.as_slice-12.result.now) us ≡ Some c.in_ok-uses.uses.items) c.as_slice-13.ensures.value c.in_ok-uses.ensures);
+      takes = subst (λ (ns : List (String Global)). all_of (take_meant (length file.groups.items) ns) file.takes.items ≡ Some c.in_ok-takes.takes.items) c.as_slice-14.ensures.value
+          (subst (λ (ts : List TakeEntry). all_of (take_meant (length file.groups.items) c.as_slice-14.result.now) ts ≡ Some c.in_ok-takes.takes.items) c.as_slice-15.ensures.value c.in_ok-takes.ensures);
       allowances = search rules;
       grant = search rules;
       calls = search rules;
