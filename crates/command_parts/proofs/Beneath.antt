@@ -27,14 +27,15 @@ in_back : (n : ℕ) (k l : List ℕ) → is_in n l ≡ true → is_in n (k ++ l)
 in_back n k l h = list_any-append (λ a. n == a) k l ∙ true_right _ _ h
 
 module _ (memory : List PartMemory) (i j : ℕ) where
-  abbrev standing : Option Entry → Forest Entry → List PartSlot
+  -- the slots of a forest whose trees stand below one
+  abbrev pub standing : Option Entry → Forest Entry → List PartSlot
   standing above f = map (part_slot memory) (map (λ (e : Entry × Option Entry). (e.0, option_map slot_of e.1)) (parented above f))
 
-  abbrev one : Entry → Option Entry → PartSlot
+  abbrev pub one : Entry → Option Entry → PartSlot
   one a above = part_slot memory (a, option_map slot_of above)
 
   -- the slots that are of the part, or stand below one that is, behind a list
-  slots_after : List ℕ → List PartSlot → List ℕ
+  unfoldable pub slots_after : List ℕ → List PartSlot → List ℕ
   slots_after above [] = above
   slots_after above (s ∷ rest) = slots_after (with_slot i above s) rest
 
@@ -58,7 +59,7 @@ module _ (memory : List PartMemory) (i j : ℕ) where
       ∙ sym (append_assoc (part_below above s) (parts_below i (with_slot i above s) k) (parts_below i (slots_after (with_slot i above s) k) l))
 
   -- the walk over a tree: its top, what is below, and the other trees
-  walked : (above : List ℕ) (a : Entry) (top : Option Entry) (under others : Forest Entry) →
+  pub walked : (above : List ℕ) (a : Entry) (top : Option Entry) (under others : Forest Entry) →
       parts_below i above (standing top (tree a under others))
       ≡ part_below above (one a top) ++ (parts_below i (with_slot i above (one a top)) (standing (Some a) under)
       ++ parts_below i (slots_after (with_slot i above (one a top)) (standing (Some a) under)) (standing top others))

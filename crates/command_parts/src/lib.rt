@@ -19,7 +19,7 @@ pub use laws::{parts_of_messages_keep_to_their_uses, what_is_not_told_is_not_tak
 pub use messages::passes_alone;
 pub use parts::{BadgeText, is_of_part};
 pub use sets::{is_in, listed, rising};
-pub use takes::{PartSlot, Take, add_take_of, part_slots};
+pub use takes::{PartSlot, Take, add_take_of, part_slots, part_takes};
 pub use telling::{Home, PartNaming, PartTold};
 pub use text::{all_trusted, ever, parts_of_callers};
 pub use threads::{ObjectWords, Trust, absent_answer, named};

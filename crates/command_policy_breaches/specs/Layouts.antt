@@ -15,6 +15,7 @@ use Rattle.query_parts.specs.declared.listed.PartUse.{PartUse}
 use Rattle.query_parts.specs.Listed.{part_at}
 use Rattle.setup_report.specs.State.{Derived, rising, threads, slot_rows}
 use Rattle.command_parts.specs.Ever.{AreRightParts}
+use Rattle.command_parts.specs.Takes.{part_slots, takes}
 use Rattle.command_parts.specs.Text.{parts_of}
 use Rattle.command_policy_breaches.specs.declared.held.HeldRegion.{HeldRegion}
 use Rattle.command_policy_breaches.specs.declared.held.Home.{Home}
@@ -87,3 +88,4 @@ pub record IsLayoutOf (p : ProfileName) (c : Policy) (v : Shown) (l : Layout) : 
   pub homes_are : l.homes.items ≡ flat_map (homes_of l.memory.items c.members.items) c.groups.items
   pub waits_are : l.waits.items ≡ filter_map (waiting_of v) (threads p v)
   pub regions_are : l.regions.items ≡ filter_map (region_of l.memory.items) (slot_rows v)
+  pub takes_are : l.takes.items ≡ takes (part_slots l.memory.items v.derivations) l.parts.items

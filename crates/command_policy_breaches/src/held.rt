@@ -1,6 +1,7 @@
 //! What of a state is held to a policy, and questions about it that several modules ask.
 ghost use Rattle.std.specs.Prelude.{◌==◌};
 
+use command_parts::Take;
 use list_questions::{Asks, Makes};
 use query_parts::{PartMemory, PartUse};
 use setup_policy::{Member, Policy};
@@ -51,6 +52,8 @@ pub struct Layout {
     pub homes: Vec<Home>,
     pub waits: Vec<Waiting>,
     pub regions: Vec<HeldRegion>,
+    /// Which part can take slots from which by a revoke, before Grant joins any.
+    pub takes: Vec<Take>,
 }
 
 /// A policy, and the layout that is held to it.

@@ -13,7 +13,7 @@ ghost use Rattle.command_policy_breaches.specs.Layouts as spec;
 
 use crate::held::{EndpointOf, HeldRegion, Home, Layout, OfGroup, Waiting};
 use cap_core::{Cap, Profile};
-use command_parts::{listed, rising};
+use command_parts::{listed, part_slots, part_takes, rising};
 use ipc_core::{Offer, Waiters};
 use kernel_core::{Kernel, ThreadState};
 use list_questions::{Adds, Finds, Makes, add_all, all_found, each, those};
@@ -232,6 +232,8 @@ pub fn layout_of<P: Profile, S: DerivationStore<P> + Drop, W: Waiters<P> + Drop>
     let waits = waits::<P, S, W>(alloc, kernel, threads.as_slice())?;
     let endpoints = endpoints_to_check(alloc, uses.as_slice(), waits.as_slice())?;
     let regions = regions::<P>(alloc, memory.as_slice(), rows.slots.as_slice())?;
+    let slots = part_slots(alloc, memory.as_slice(), kernel)?;
+    let takes = part_takes(alloc, slots.as_slice(), numbers.as_slice())?;
     Ok(Layout {
         memory,
         uses,
@@ -241,5 +243,6 @@ pub fn layout_of<P: Profile, S: DerivationStore<P> + Drop, W: Waiters<P> + Drop>
         homes,
         waits,
         regions,
+        takes,
     })
 }

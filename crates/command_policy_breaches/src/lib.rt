@@ -6,6 +6,7 @@ mod held;
 mod joining;
 mod layout;
 mod sides;
+mod takes;
 mod unused;
 mod ways;
 
@@ -17,6 +18,7 @@ pub use held::{Block, HeldRegion, Home, Layout, Waiting};
 pub use joining::{Join, blocks, homes_joined, joins};
 pub use layout::{layout_of, trusted_threads};
 pub use sides::groups_at;
+pub use takes::{takes_amiss, unused_takes};
 pub use unused::{
     count_of_parts, is_idle, unused_regions, unused_uses, unused_ways, uses_with_idle_rights,
     ways_with_idle_rights,

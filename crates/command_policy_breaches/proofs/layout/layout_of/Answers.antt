@@ -21,4 +21,5 @@ returns g c =
       regions_are = rw c.as_slice-6.ensures.value at (rw c.as_slice-7.ensures.value at c.in_ok-regions.ensures)
           ∙ sym (found_as_shown (region_of memory) (derivation_view p) c.args.rows.now.slots.items)
           ∙ ap (λ l. filter_map (region_of memory) l) c.requires.slots;
+      takes_are = search rules;
     }
