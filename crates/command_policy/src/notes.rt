@@ -4,7 +4,7 @@ ghost use Rattle.std.specs.Prelude.{◌≤◌, length};
 
 use crate::judging::Judged;
 use command_core::{CallNote, PolicyNote, Verdict};
-use command_parts::BadgeText;
+use command_parts::{BadgeText, Take};
 use command_policy_breaches::{
     End, HeldRegion, Hold, Join, Passage, Waiting, groups_at, is_entry, is_way_between,
 };
@@ -14,7 +14,7 @@ use command_policy_text::{
 };
 use query_parts::{PartUse, part_at};
 use setup_format::Setup;
-use setup_policy::{Allowance, PolicyWay};
+use setup_policy::{Allowance, PolicyTake, PolicyWay};
 use setup_policy_file::{Place, PolicyFile, Refusal, Spot, line_and_column};
 use setup_policy_meaning::table_spot;
 use std::alloc::{AllocError, Global};
@@ -97,15 +97,30 @@ impl<'a> Teller<'a> {
         Ok(self.group_spot(groups.as_slice().first().copied()))
     }
 
+    /// Where a way stands, by its number from 0: the table of which it is one.
+    fn way_at(self, i: usize) -> Spot<'static> {
+        match self.file.ways.as_slice().get(i) {
+            Some(way) => Spot::Key(way.place, ""),
+            None => Spot::Threads,
+        }
+    }
+
+    fn use_at(self, i: usize) -> Spot<'static> {
+        match self.file.uses.as_slice().get(i) {
+            Some(used) => Spot::Key(used.place, ""),
+            None => Spot::Threads,
+        }
+    }
+
     /// Where an entry stands, by its place among those of ways and uses.
     fn entry_spot(self, place: usize) -> Spot<'static> {
         let ways = self.held.policy.ways.len();
         if place < ways {
-            return Spot::Key(Place::Way(place.saturating_add(1)), "");
+            return self.way_at(place);
         }
         match place.checked_sub(ways.saturating_mul(2)) {
-            Some(place) => Spot::Key(Place::Use(place.saturating_add(1)), ""),
-            None => Spot::Key(Place::Way(place.saturating_sub(ways).saturating_add(1)), ""),
+            Some(place) => self.use_at(place),
+            None => self.way_at(place.saturating_sub(ways)),
         }
     }
 
@@ -154,10 +169,12 @@ impl<'a> Teller<'a> {
             Told::Right(used) => Ok(self.entry_at(used, false)),
             Told::Way(passage) => self.way_spot(passage),
             Told::Waits(wait) => self.wait_spot(wait),
+            Told::Taken(take) => self.part_spot(take.by),
             Told::UnusedWay(way) | Told::IdleInWay(way) => Ok(self.idle_way_spot(way)),
             Told::UnusedUse(entry) | Told::IdleInUse(entry) => Ok(self.idle_use_spot(entry)),
             Told::UnusedRegion(own) => Ok(self.group_spot(Some(own.group))),
             Told::UnusedGroup(group) | Told::Group(group) => Ok(self.group_spot(Some(*group))),
+            Told::UnusedTake(take) => Ok(self.idle_take_spot(take)),
             Told::Silent(_) | Told::Messages(_) => Ok(Spot::Threads),
         }
     }
@@ -165,19 +182,29 @@ impl<'a> Teller<'a> {
     fn idle_way_spot(self, way: &PolicyWay) -> Spot<'static> {
         for (i, other) in self.held.policy.ways.as_slice().iter().enumerate() {
             if *other == *way {
-                return Spot::Key(Place::Way(i.saturating_add(1)), "");
+                return self.way_at(i);
             }
         }
-        Spot::Key(Place::Way(1), "")
+        Spot::Threads
     }
 
     fn idle_use_spot(self, entry: &Allowance) -> Spot<'static> {
         for (i, other) in self.held.policy.uses.as_slice().iter().enumerate() {
             if *other == *entry {
-                return Spot::Key(Place::Use(i.saturating_add(1)), "");
+                return self.use_at(i);
             }
         }
-        Spot::Key(Place::Use(1), "")
+        Spot::Threads
+    }
+
+    fn idle_take_spot(self, take: &PolicyTake) -> Spot<'static> {
+        let takes = self.held.policy.takes.as_slice();
+        for (other, entry) in takes.iter().zip(self.file.takes.as_slice()) {
+            if *other == *take {
+                return Spot::Key(entry.place, "");
+            }
+        }
+        Spot::Threads
     }
 
     /// The names of a part's groups, in order, with a word between two of them.
@@ -267,6 +294,14 @@ impl<'a> Teller<'a> {
         )
     }
 
+    fn take_words(self, take: &Take) -> Result<String, AllocError> {
+        let by = self.part(take.by)?;
+        let of = self.part(take.of)?;
+        format!(in self.alloc;
+            "{by} can empty slots of {of} by a revoke; no take of the policy lets it"
+        )
+    }
+
     /// What standard error says of a line.
     fn words(self, line: &str, told: &Told) -> Result<String, AllocError> {
         match told {
@@ -279,6 +314,7 @@ impl<'a> Teller<'a> {
             Told::Right(used) => self.right_words(*used),
             Told::Way(passage) => self.way_words(passage),
             Told::Waits(wait) => self.wait_words(wait),
+            Told::Taken(take) => self.take_words(take),
             _ => {
                 let line = line.strip_prefix("unused ").unwrap_or(line);
                 format!(in self.alloc; "unused: {line}")
@@ -358,6 +394,7 @@ impl<'a> Teller<'a> {
             kinds::rights(alloc, held)?,
             kinds::ways(alloc, held, self.judged.passages.as_slice())?,
             kinds::waits(alloc, held)?,
+            kinds::takes(alloc, held)?,
         ];
         for kind in &told {
             self.add_kind(&mut lines, kind.as_slice(), "error")?;
@@ -375,6 +412,7 @@ impl<'a> Teller<'a> {
             kinds::idle_rights(alloc, held)?,
             kinds::idle_regions(alloc, held)?,
             kinds::idle_groups(alloc, held)?,
+            kinds::idle_takes(alloc, held)?,
         ];
         for kind in &told {
             self.add_kind(&mut lines, kind.as_slice(), "warning")?;

@@ -16,11 +16,19 @@ three a b c start one two all h1 h2 h3 =
     ∙ ap (λ s. s ++ (all_lines_text b ++ all_lines_text c)) h1 ∙ append_assoc start (all_lines_text a) (all_lines_text b ++ all_lines_text c)
     ∙ ap (λ l. start ++ l) (sym (flat_map-append terminated a (b ++ c) ∙ ap (λ l. all_lines_text a ++ l) (flat_map-append terminated b c)))
 
--- a line, and two that end in a word
-pub two_words : (g s first second : List ℕ) → g ≡ first → s ≡ second →
-    codes "policy 1\nseL4_grant " ++ (g ++ (codes "\ncalls_succeed " ++ (s ++ codes "\n")))
-    ≡ all_lines_text (codes "policy 1" ∷ (codes "seL4_grant " ++ first) ∷ (codes "calls_succeed " ++ second) ∷ [])
-two_words g s first second is_first is_second =
-    ap₂ (λ x y. codes "policy 1\nseL4_grant " ++ (x ++ (codes "\ncalls_succeed " ++ (y ++ codes "\n")))) is_first is_second
-    ∙ sym (ap (λ l. codes "policy 1\nseL4_grant " ++ l) (append_assoc first (10 ∷ []) (codes "calls_succeed " ++ ((second ++ 10 ∷ []) ++ [])))
-    ∙ ap (λ l. codes "policy 1\nseL4_grant " ++ (first ++ (codes "\ncalls_succeed " ++ l))) (append_assoc second (10 ∷ []) []))
+pub four : (a b c d : List (List ℕ)) (start one two three_of all : List ℕ) → one ≡ start ++ all_lines_text a → two ≡ one ++ all_lines_text b →
+    three_of ≡ two ++ all_lines_text c → all ≡ three_of ++ all_lines_text d → all ≡ start ++ all_lines_text (a ++ (b ++ (c ++ d)))
+four a b c d start one two three_of all h1 h2 h3 h4 =
+    three a b (c ++ d) start one two all h1 h2
+    (h4 ∙ ap (λ s. s ++ all_lines_text d) h3 ∙ append_assoc two (all_lines_text c) (all_lines_text d) ∙ ap (λ l. two ++ l) (sym (flat_map-append terminated c d)))
+
+-- three lines, each of which ends in a word
+pub three_words : (v g s zeroth first second : List ℕ) → v ≡ zeroth → g ≡ first → s ≡ second →
+    codes "policy " ++ (v ++ (codes "\nseL4_grant " ++ (g ++ (codes "\ncalls_succeed " ++ (s ++ codes "\n")))))
+    ≡ all_lines_text ((codes "policy " ++ zeroth) ∷ (codes "seL4_grant " ++ first) ∷ (codes "calls_succeed " ++ second) ∷ [])
+three_words v g s zeroth first second is_zeroth is_first is_second =
+    ap (λ w. codes "policy " ++ (w ++ (codes "\nseL4_grant " ++ (g ++ (codes "\ncalls_succeed " ++ (s ++ codes "\n")))))) is_zeroth
+    ∙ ap₂ (λ x y. codes "policy " ++ (zeroth ++ (codes "\nseL4_grant " ++ (x ++ (codes "\ncalls_succeed " ++ (y ++ codes "\n")))))) is_first is_second
+    ∙ sym (ap (λ l. codes "policy " ++ l) (append_assoc zeroth (10 ∷ []) (codes "seL4_grant " ++ ((first ++ 10 ∷ []) ++ (codes "calls_succeed " ++ ((second ++ 10 ∷ []) ++ [])))))
+    ∙ ap (λ l. codes "policy " ++ (zeroth ++ (codes "\nseL4_grant " ++ l))) (append_assoc first (10 ∷ []) (codes "calls_succeed " ++ ((second ++ 10 ∷ []) ++ [])))
+    ∙ ap (λ l. codes "policy " ++ (zeroth ++ (codes "\nseL4_grant " ++ (first ++ (codes "\ncalls_succeed " ++ l))))) (append_assoc second (10 ∷ []) []))

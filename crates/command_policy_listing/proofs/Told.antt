@@ -24,13 +24,16 @@ use Rattle.setup_policy.specs.declared.policy.Labels.{Labels}
 use Rattle.setup_policy.specs.declared.policy.Member.{Member}
 use Rattle.setup_policy.specs.declared.policy.OwnRegion.{OwnRegion}
 use Rattle.setup_policy.specs.declared.policy.Policy.{Policy}
+use Rattle.setup_policy.specs.declared.policy.PolicyTake.{PolicyTake}
+use Rattle.setup_policy.specs.declared.policy.PolicyVersion.{PolicyVersion}
+use Rattle.setup_policy.specs.declared.policy.PolicyVersion.TheVariants.{One, Two}
 use Rattle.setup_policy.specs.declared.policy.PolicyWay.{PolicyWay}
 use Rattle.command_parts.specs.Text.{any_badge_text}
-use Rattle.command_policy_text.specs.Names.{actor_name, label_of, labelled, labelled_text, name_or_none}
+use Rattle.command_policy_text.specs.Names.{actor_name, label_of, labelled, labelled_text, name_or_none, version_text}
 use Rattle.command_policy_text.specs.Order.{in_order}
 use Rattle.command_policy_text.specs.Told.{group_text, labelled_endpoint, labelled_thread, word_behind}
-use Rattle.command_policy_listing.specs.Listing.{count_line, listing_head, listing_text, may_lines, messages_line, region_line, silent_line, switch_lines, switch_text, use_line, way_line, who_lines}
-use Rattle.command_policy_listing.specs.Told.{AreTold, CanBeListed, HaveTheSame, IsShortMember, IsShortRegion, IsShortUse, IsShortWay, IsWordly, ListingsTellPolicies, SayTheSame, TellApart, said_member, said_region, said_use, said_way}
+use Rattle.command_policy_listing.specs.Listing.{count_line, listing_head, listing_text, may_lines, messages_line, region_line, silent_line, switch_lines, switch_text, take_line, use_line, way_line, who_lines}
+use Rattle.command_policy_listing.specs.Told.{AreTold, CanBeListed, HaveTheSame, IsShortMember, IsShortRegion, IsShortUse, IsShortWay, IsWordly, ListingsTellPolicies, SayTheSame, TellApart, said_member, said_region, said_take, said_use, said_way}
 use Rattle.command_policy_listing.proofs.Ordered.{from_order, in_their_order}
 use Rattle.command_policy_listing.proofs.Words.{AreWords, IsLine, IsRow, IsWord, Row, badge_word, lines_apart, lines_joined, lines_text, no_end, number_word, rights_word, row_line, row_text, rows_apart, same_badge, same_rights, spaced, word_line}
 
@@ -102,10 +105,13 @@ way_row c n w =
 abbrev use_row : Policy → Labels → Allowance → Row
 use_row c n a = (codes "use", actor_name c a.actor ∷ labelled_endpoint n a.endpoint ∷ codes "badge" ∷ any_badge_text a.badge ∷ codes "rights" ∷ rights_text a.rights ∷ [])
 
+abbrev take_row : Policy → PolicyTake → Row
+take_row c t = (codes "take", actor_name c t.from ∷ codes "->" ∷ actor_name c t.to ∷ [])
+
 abbrev rows : Policy → Labels → List Row
 rows c n =
     map (silent_row n) c.silent.items ++ (map (messages_row n) c.messages.items ++ (map (group_row c n) c.groups.items
-    ++ (map (region_row c n) c.regions.items ++ (map (way_row c n) c.ways.items ++ (map (use_row c n) c.uses.items ++ [])))))
+    ++ (map (region_row c n) c.regions.items ++ (map (way_row c n) c.ways.items ++ (map (use_row c n) c.uses.items ++ (map (take_row c) c.takes.items ++ []))))))
 
 -- ---- a line has the words of its row
 
@@ -137,6 +143,9 @@ use_said : (c : Policy) (n : Labels) (a : Allowance) → use_line c n a ≡ row_
 use_said c n a =
     ap (λ t. codes "use " ++ (actor_name c a.actor ++ (codes " " ++ (labelled_endpoint n a.endpoint ++ (codes " badge " ++ (any_badge_text a.badge
     ++ (codes " rights " ++ t))))))) (sym (append-nil (rights_text a.rights)))
+
+take_said : (c : Policy) (t : PolicyTake) → take_line c t ≡ row_text (take_row c t)
+take_said c t = ap (λ l. codes "take " ++ (actor_name c t.from ++ (codes " -> " ++ l))) (sym (append-nil (actor_name c t.to)))
 
 -- lines in order are those of rows
 module _ {X : Type 0} (line : X → List ℕ) (row : X → Row) (said : (x : X) → line x ≡ row_text (row x)) where
@@ -172,22 +181,28 @@ module _ (c : Policy) (n : Labels) where
   abbrev u : List (List ℕ)
   u = in_order (map (use_line c n) c.uses.items)
 
+  abbrev taken : List (List ℕ)
+  taken = in_order (map (take_line c) c.takes.items)
+
   line_of : (r : Row) → In r (rows c n) → In (row_text r) (lines c n)
   line_of r there = elim (in_append r (map (silent_row n) c.silent.items) _ there) [
-    | inl here ↦ in_left (row_text r) (s ++ (m ++ g)) (k ++ (w ++ u)) (in_left (row_text r) s (m ++ g) (line_there (silent_line n) (silent_row n) (silent_said n) c.silent.items r here))
+    | inl here ↦ in_left (row_text r) (s ++ (m ++ g)) (k ++ (w ++ (u ++ taken))) (in_left (row_text r) s (m ++ g) (line_there (silent_line n) (silent_row n) (silent_said n) c.silent.items r here))
     | inr there ↦ elim (in_append r (map (messages_row n) c.messages.items) _ there) [
-      | inl here ↦ in_left (row_text r) (s ++ (m ++ g)) (k ++ (w ++ u)) (in_right (row_text r) s (m ++ g)
+      | inl here ↦ in_left (row_text r) (s ++ (m ++ g)) (k ++ (w ++ (u ++ taken))) (in_right (row_text r) s (m ++ g)
           (in_left (row_text r) m g (line_there (messages_line n) (messages_row n) (messages_said n) c.messages.items r here)))
       | inr there ↦ elim (in_append r (map (group_row c n) c.groups.items) _ there) [
-        | inl here ↦ in_left (row_text r) (s ++ (m ++ g)) (k ++ (w ++ u)) (in_right (row_text r) s (m ++ g)
+        | inl here ↦ in_left (row_text r) (s ++ (m ++ g)) (k ++ (w ++ (u ++ taken))) (in_right (row_text r) s (m ++ g)
             (in_right (row_text r) m g (line_there (group_text c n) (group_row c n) (group_said c n) c.groups.items r here)))
-        | inr there ↦ in_right (row_text r) (s ++ (m ++ g)) (k ++ (w ++ u)) (elim (in_append r (map (region_row c n) c.regions.items) _ there) [
-          | inl here ↦ in_left (row_text r) k (w ++ u) (line_there (region_line c n) (region_row c n) (region_said c n) c.regions.items r here)
-          | inr there ↦ in_right (row_text r) k (w ++ u) (elim (in_append r (map (way_row c n) c.ways.items) _ there) [
-            | inl here ↦ in_left (row_text r) w u (line_there (way_line c n) (way_row c n) (way_said c n) c.ways.items r here)
-            | inr there ↦ in_right (row_text r) w u (elim (in_append r (map (use_row c n) c.uses.items) [] there) [
-              | inl here ↦ line_there (use_line c n) (use_row c n) (use_said c n) c.uses.items r here
-              | inr none ↦ absurd none
+        | inr there ↦ in_right (row_text r) (s ++ (m ++ g)) (k ++ (w ++ (u ++ taken))) (elim (in_append r (map (region_row c n) c.regions.items) _ there) [
+          | inl here ↦ in_left (row_text r) k (w ++ (u ++ taken)) (line_there (region_line c n) (region_row c n) (region_said c n) c.regions.items r here)
+          | inr there ↦ in_right (row_text r) k (w ++ (u ++ taken)) (elim (in_append r (map (way_row c n) c.ways.items) _ there) [
+            | inl here ↦ in_left (row_text r) w (u ++ taken) (line_there (way_line c n) (way_row c n) (way_said c n) c.ways.items r here)
+            | inr there ↦ in_right (row_text r) w (u ++ taken) (elim (in_append r (map (use_row c n) c.uses.items) _ there) [
+              | inl here ↦ in_left (row_text r) u taken (line_there (use_line c n) (use_row c n) (use_said c n) c.uses.items r here)
+              | inr there ↦ in_right (row_text r) u taken (elim (in_append r (map (take_row c) c.takes.items) [] there) [
+                | inl here ↦ line_there (take_line c) (take_row c) (take_said c) c.takes.items r here
+                | inr none ↦ absurd none
+              ])
             ])
           ])
         ])
@@ -206,7 +221,7 @@ module _ (c : Policy) (n : Labels) where
   before front rest t is = (is.0, (in_left is.0 front rest is.1.0, is.1.1))
 
   row_of : (t : List ℕ) → In t (lines c n) → IsSaid t
-  row_of t there = elim (in_append t (s ++ (m ++ g)) (k ++ (w ++ u)) there) [
+  row_of t there = elim (in_append t (s ++ (m ++ g)) (k ++ (w ++ (u ++ taken))) there) [
     | inl there ↦ elim (in_append t s (m ++ g) there) [
       | inl here ↦ before (map (silent_row n) c.silent.items) _ t (row_there (silent_line n) (silent_row n) (silent_said n) c.silent.items t here)
       | inr there ↦ behind (map (silent_row n) c.silent.items) _ t (elim (in_append t m g there) [
@@ -216,12 +231,15 @@ module _ (c : Policy) (n : Labels) where
       ])
     ]
     | inr there ↦ behind (map (silent_row n) c.silent.items) _ t (behind (map (messages_row n) c.messages.items) _ t (behind (map (group_row c n) c.groups.items) _ t
-        (elim (in_append t k (w ++ u) there) [
+        (elim (in_append t k (w ++ (u ++ taken)) there) [
           | inl here ↦ before (map (region_row c n) c.regions.items) _ t (row_there (region_line c n) (region_row c n) (region_said c n) c.regions.items t here)
-          | inr there ↦ behind (map (region_row c n) c.regions.items) _ t (elim (in_append t w u there) [
+          | inr there ↦ behind (map (region_row c n) c.regions.items) _ t (elim (in_append t w (u ++ taken) there) [
             | inl here ↦ before (map (way_row c n) c.ways.items) _ t (row_there (way_line c n) (way_row c n) (way_said c n) c.ways.items t here)
-            | inr here ↦ behind (map (way_row c n) c.ways.items) _ t
-                (before (map (use_row c n) c.uses.items) [] t (row_there (use_line c n) (use_row c n) (use_said c n) c.uses.items t here))
+            | inr there ↦ behind (map (way_row c n) c.ways.items) _ t (elim (in_append t u taken there) [
+              | inl here ↦ before (map (use_row c n) c.uses.items) _ t (row_there (use_line c n) (use_row c n) (use_said c n) c.uses.items t here)
+              | inr here ↦ behind (map (use_row c n) c.uses.items) _ t
+                  (before (map (take_row c) c.takes.items) [] t (row_there (take_line c) (take_row c) (take_said c) c.takes.items t here))
+            ])
           ])
         ])))
   ]
@@ -233,55 +251,68 @@ module _ (c : Policy) (n : Labels) where
 
   is_silent : (r : Row) → first r ≡ 115 → In r (rows c n) → (x : Member) × (In x c.silent.items × (r ≡ silent_row n x))
   is_silent r kind there = found (silent_row n) c.silent.items _ r
-      (λ rest. skip (use_row c n) c.uses.items [] r (λ x e. differ r (use_row c n x) e (ap (λ b. b == 117) kind))
+      (λ rest. skip (take_row c) c.takes.items [] r (λ x e. differ r (take_row c x) e (ap (λ b. b == 116) kind))
+      (skip (use_row c n) c.uses.items _ r (λ x e. differ r (use_row c n x) e (ap (λ b. b == 117) kind))
       (skip (way_row c n) c.ways.items _ r (λ x e. differ r (way_row c n x) e (ap (λ b. b == 119) kind))
       (skip (region_row c n) c.regions.items _ r (λ x e. differ r (region_row c n x) e (ap (λ b. b == 114) kind))
       (skip (group_row c n) c.groups.items _ r (λ x e. differ r (group_row c n x) e (ap (λ b. b == 103) kind))
-      (skip (messages_row n) c.messages.items _ r (λ x e. differ r (messages_row n x) e (ap (λ b. b == 109) kind)) rest))))) there
+      (skip (messages_row n) c.messages.items _ r (λ x e. differ r (messages_row n x) e (ap (λ b. b == 109) kind)) rest)))))) there
 
   past_silent : (r : Row) → (first r == 115 ≡ false) → In r (rows c n) → In r (map (messages_row n) c.messages.items ++ (map (group_row c n) c.groups.items
-      ++ (map (region_row c n) c.regions.items ++ (map (way_row c n) c.ways.items ++ (map (use_row c n) c.uses.items ++ [])))))
+      ++ (map (region_row c n) c.regions.items ++ (map (way_row c n) c.ways.items ++ (map (use_row c n) c.uses.items ++ (map (take_row c) c.takes.items ++ []))))))
   past_silent r unlike there = skip (silent_row n) c.silent.items _ r (λ x e. differ r (silent_row n x) e unlike) there
 
   past_messages : (r : Row) → (first r == 115 ≡ false) → (first r == 109 ≡ false) → In r (rows c n) → In r (map (group_row c n) c.groups.items
-      ++ (map (region_row c n) c.regions.items ++ (map (way_row c n) c.ways.items ++ (map (use_row c n) c.uses.items ++ []))))
+      ++ (map (region_row c n) c.regions.items ++ (map (way_row c n) c.ways.items ++ (map (use_row c n) c.uses.items ++ (map (take_row c) c.takes.items ++ [])))))
   past_messages r first_no second_no there = skip (messages_row n) c.messages.items _ r (λ x e. differ r (messages_row n x) e second_no) (past_silent r first_no there)
 
   is_messages : (r : Row) → first r ≡ 109 → In r (rows c n) → (x : Member) × (In x c.messages.items × (r ≡ messages_row n x))
   is_messages r kind there = found (messages_row n) c.messages.items _ r
-      (λ rest. skip (use_row c n) c.uses.items [] r (λ x e. differ r (use_row c n x) e (ap (λ b. b == 117) kind))
+      (λ rest. skip (take_row c) c.takes.items [] r (λ x e. differ r (take_row c x) e (ap (λ b. b == 116) kind))
+      (skip (use_row c n) c.uses.items _ r (λ x e. differ r (use_row c n x) e (ap (λ b. b == 117) kind))
       (skip (way_row c n) c.ways.items _ r (λ x e. differ r (way_row c n x) e (ap (λ b. b == 119) kind))
       (skip (region_row c n) c.regions.items _ r (λ x e. differ r (region_row c n x) e (ap (λ b. b == 114) kind))
-      (skip (group_row c n) c.groups.items _ r (λ x e. differ r (group_row c n x) e (ap (λ b. b == 103) kind)) rest)))) (past_silent r (ap (λ b. b == 115) kind) there)
+      (skip (group_row c n) c.groups.items _ r (λ x e. differ r (group_row c n x) e (ap (λ b. b == 103) kind)) rest))))) (past_silent r (ap (λ b. b == 115) kind) there)
 
   is_group : (r : Row) → first r ≡ 103 → In r (rows c n) → (x : ℕ) × (In x c.groups.items × (r ≡ group_row c n x))
   is_group r kind there = found (group_row c n) c.groups.items _ r
-      (λ rest. skip (use_row c n) c.uses.items [] r (λ x e. differ r (use_row c n x) e (ap (λ b. b == 117) kind))
+      (λ rest. skip (take_row c) c.takes.items [] r (λ x e. differ r (take_row c x) e (ap (λ b. b == 116) kind))
+      (skip (use_row c n) c.uses.items _ r (λ x e. differ r (use_row c n x) e (ap (λ b. b == 117) kind))
       (skip (way_row c n) c.ways.items _ r (λ x e. differ r (way_row c n x) e (ap (λ b. b == 119) kind))
-      (skip (region_row c n) c.regions.items _ r (λ x e. differ r (region_row c n x) e (ap (λ b. b == 114) kind)) rest)))
+      (skip (region_row c n) c.regions.items _ r (λ x e. differ r (region_row c n x) e (ap (λ b. b == 114) kind)) rest))))
       (past_messages r (ap (λ b. b == 115) kind) (ap (λ b. b == 109) kind) there)
 
   past_groups : (r : Row) → (first r == 115 ≡ false) → (first r == 109 ≡ false) → (first r == 103 ≡ false) → In r (rows c n) → In r (map (region_row c n) c.regions.items
-      ++ (map (way_row c n) c.ways.items ++ (map (use_row c n) c.uses.items ++ [])))
+      ++ (map (way_row c n) c.ways.items ++ (map (use_row c n) c.uses.items ++ (map (take_row c) c.takes.items ++ []))))
   past_groups r first_no second_no third_no there = skip (group_row c n) c.groups.items _ r (λ x e. differ r (group_row c n x) e third_no) (past_messages r first_no second_no there)
 
   is_region : (r : Row) → first r ≡ 114 → In r (rows c n) → (x : OwnRegion) × (In x c.regions.items × (r ≡ region_row c n x))
   is_region r kind there = found (region_row c n) c.regions.items _ r
-      (λ rest. skip (use_row c n) c.uses.items [] r (λ x e. differ r (use_row c n x) e (ap (λ b. b == 117) kind))
-      (skip (way_row c n) c.ways.items _ r (λ x e. differ r (way_row c n x) e (ap (λ b. b == 119) kind)) rest))
+      (λ rest. skip (take_row c) c.takes.items [] r (λ x e. differ r (take_row c x) e (ap (λ b. b == 116) kind))
+      (skip (use_row c n) c.uses.items _ r (λ x e. differ r (use_row c n x) e (ap (λ b. b == 117) kind))
+      (skip (way_row c n) c.ways.items _ r (λ x e. differ r (way_row c n x) e (ap (λ b. b == 119) kind)) rest)))
       (past_groups r (ap (λ b. b == 115) kind) (ap (λ b. b == 109) kind) (ap (λ b. b == 103) kind) there)
 
   is_way : (r : Row) → first r ≡ 119 → In r (rows c n) → (x : PolicyWay) × (In x c.ways.items × (r ≡ way_row c n x))
   is_way r kind there = found (way_row c n) c.ways.items _ r
-      (λ rest. skip (use_row c n) c.uses.items [] r (λ x e. differ r (use_row c n x) e (ap (λ b. b == 117) kind)) rest)
+      (λ rest. skip (take_row c) c.takes.items [] r (λ x e. differ r (take_row c x) e (ap (λ b. b == 116) kind))
+      (skip (use_row c n) c.uses.items _ r (λ x e. differ r (use_row c n x) e (ap (λ b. b == 117) kind)) rest))
       (skip (region_row c n) c.regions.items _ r (λ x e. differ r (region_row c n x) e (ap (λ b. b == 114) kind))
       (past_groups r (ap (λ b. b == 115) kind) (ap (λ b. b == 109) kind) (ap (λ b. b == 103) kind) there))
 
   is_use : (r : Row) → first r ≡ 117 → In r (rows c n) → (x : Allowance) × (In x c.uses.items × (r ≡ use_row c n x))
-  is_use r kind there = found (use_row c n) c.uses.items [] r (none r)
+  is_use r kind there = found (use_row c n) c.uses.items _ r
+      (λ rest. skip (take_row c) c.takes.items [] r (λ x e. differ r (take_row c x) e (ap (λ b. b == 116) kind)) rest)
       (skip (way_row c n) c.ways.items _ r (λ x e. differ r (way_row c n x) e (ap (λ b. b == 119) kind))
       (skip (region_row c n) c.regions.items _ r (λ x e. differ r (region_row c n x) e (ap (λ b. b == 114) kind))
       (past_groups r (ap (λ b. b == 115) kind) (ap (λ b. b == 109) kind) (ap (λ b. b == 103) kind) there)))
+
+  is_take : (r : Row) → first r ≡ 116 → In r (rows c n) → (x : PolicyTake) × (In x c.takes.items × (r ≡ take_row c x))
+  is_take r kind there = found (take_row c) c.takes.items [] r (none r)
+      (skip (use_row c n) c.uses.items _ r (λ x e. differ r (use_row c n x) e (ap (λ b. b == 117) kind))
+      (skip (way_row c n) c.ways.items _ r (λ x e. differ r (way_row c n x) e (ap (λ b. b == 119) kind))
+      (skip (region_row c n) c.regions.items _ r (λ x e. differ r (region_row c n x) e (ap (λ b. b == 114) kind))
+      (past_groups r (ap (λ b. b == 115) kind) (ap (λ b. b == 109) kind) (ap (λ b. b == 103) kind) there))))
 
   in_silent : (x : Member) → In x c.silent.items → In (silent_row n x) (rows c n)
   in_silent x there = in_left _ (map (silent_row n) c.silent.items) _ (in_mapped (silent_row n) x c.silent.items there)
@@ -293,7 +324,7 @@ module _ (c : Policy) (n : Labels) where
   in_groups x there = in_right _ (map (silent_row n) c.silent.items) _ (in_right _ (map (messages_row n) c.messages.items) _
       (in_left _ (map (group_row c n) c.groups.items) _ (in_mapped (group_row c n) x c.groups.items there)))
 
-  past_three : (r : Row) → In r (map (region_row c n) c.regions.items ++ (map (way_row c n) c.ways.items ++ (map (use_row c n) c.uses.items ++ []))) → In r (rows c n)
+  past_three : (r : Row) → In r (map (region_row c n) c.regions.items ++ (map (way_row c n) c.ways.items ++ (map (use_row c n) c.uses.items ++ (map (take_row c) c.takes.items ++ [])))) → In r (rows c n)
   past_three r there = in_right r (map (silent_row n) c.silent.items) _ (in_right r (map (messages_row n) c.messages.items) _ (in_right r (map (group_row c n) c.groups.items) _ there))
 
   in_regions : (x : OwnRegion) → In x c.regions.items → In (region_row c n x) (rows c n)
@@ -304,7 +335,11 @@ module _ (c : Policy) (n : Labels) where
 
   in_uses : (x : Allowance) → In x c.uses.items → In (use_row c n x) (rows c n)
   in_uses x there = past_three _ (in_right _ (map (region_row c n) c.regions.items) _ (in_right _ (map (way_row c n) c.ways.items) _
-      (in_left _ (map (use_row c n) c.uses.items) [] (in_mapped (use_row c n) x c.uses.items there))))
+      (in_left _ (map (use_row c n) c.uses.items) _ (in_mapped (use_row c n) x c.uses.items there))))
+
+  in_takes : (x : PolicyTake) → In x c.takes.items → In (take_row c x) (rows c n)
+  in_takes x there = past_three _ (in_right _ (map (region_row c n) c.regions.items) _ (in_right _ (map (way_row c n) c.ways.items) _
+      (in_right _ (map (use_row c n) c.uses.items) _ (in_left _ (map (take_row c) c.takes.items) [] (in_mapped (take_row c) x c.takes.items there)))))
 
 -- ---- each row has words, and each line is one
 
@@ -335,6 +370,16 @@ switch_same false false same = refl
 switch_same true false same = let e : 4 ≡ 5 = ap length same in absurd (omega (arith, e))
 switch_same false true same = let e : 5 ≡ 4 = ap length same in absurd (omega (arith, e))
 
+version_same : (x y : PolicyVersion) → version_text x ≡ version_text y → x ≡ y
+version_same One One same = refl
+version_same Two Two same = refl
+version_same One Two same = let e : 49 ≡ 50 = ap (λ (w : List ℕ). first (w, [])) same in absurd (omega (arith, e))
+version_same Two One same = let e : 50 ≡ 49 = ap (λ (w : List ℕ). first (w, [])) same in absurd (omega (arith, e))
+
+version_line : (v : PolicyVersion) → IsLine (codes "policy " ++ version_text v)
+version_line One = all_pass no_end (codes "policy 1") refl
+version_line Two = all_pass no_end (codes "policy 2") refl
+
 grant_line : (b : Bool) → IsLine (codes "seL4_grant " ++ switch_text b)
 grant_line true = all_pass no_end (codes "seL4_grant true") refl
 grant_line false = all_pass no_end (codes "seL4_grant false") refl
@@ -347,13 +392,14 @@ abbrev count_row : Policy → Row
 count_row c = (
   codes "groups",
   decimal (length c.groups.items) ∷ codes "threads" ∷ decimal (length c.members.items) ∷ codes "regions" ∷ decimal (length c.regions.items)
-      ∷ codes "ways" ∷ decimal (length c.ways.items) ∷ codes "uses" ∷ decimal (length c.uses.items) ∷ [],
+      ∷ codes "ways" ∷ decimal (length c.ways.items) ∷ codes "uses" ∷ decimal (length c.uses.items) ∷ codes "takes" ∷ decimal (length c.takes.items) ∷ [],
 )
 
 count_said : (c : Policy) → count_line c ≡ row_text (count_row c)
 count_said c =
     ap (λ t. codes "groups " ++ (decimal (length c.groups.items) ++ (codes " threads " ++ (decimal (length c.members.items) ++ (codes " regions "
-    ++ (decimal (length c.regions.items) ++ (codes " ways " ++ (decimal (length c.ways.items) ++ (codes " uses " ++ t))))))))) (sym (append-nil (decimal (length c.uses.items))))
+    ++ (decimal (length c.regions.items) ++ (codes " ways " ++ (decimal (length c.ways.items) ++ (codes " uses "
+    ++ (decimal (length c.uses.items) ++ (codes " takes " ++ t))))))))))) (sym (append-nil (decimal (length c.takes.items))))
 
 count_is_row : (c : Policy) → IsRow (count_row c)
 count_is_row c = (
@@ -370,7 +416,13 @@ count_is_row c = (
             number_word (length c.regions.items),
             (
               all_pass (nat_lt 32) (codes "ways") refl,
-              (number_word (length c.ways.items), (all_pass (nat_lt 32) (codes "uses") refl, (number_word (length c.uses.items), tt))),
+              (
+                number_word (length c.ways.items),
+                (
+                  all_pass (nat_lt 32) (codes "uses") refl,
+                  (number_word (length c.uses.items), (all_pass (nat_lt 32) (codes "takes") refl, (number_word (length c.takes.items), tt))),
+                ),
+              ),
             ),
           ),
         ),
@@ -459,7 +511,7 @@ module _ (n : Labels) (apart : TellApart n) where
           ),
         ),
       ))
-      (λ rest. of_kind (use_row c n) c.uses.items [] r
+      (λ rest. of_kind (use_row c n) c.uses.items _ r
       (λ x. (
         all_pass (nat_lt 32) (codes "use") refl,
         (
@@ -473,7 +525,9 @@ module _ (n : Labels) (apart : TellApart n) where
           ),
         ),
       ))
-      (λ none. absurd none) rest) rest) rest) rest) rest) there
+      (λ rest. of_kind (take_row c) c.takes.items [] r
+      (λ x. (all_pass (nat_lt 32) (codes "take") refl, (name x.from, (all_pass (nat_lt 32) (codes "->") refl, (name x.to, tt)))))
+      (λ none. absurd none) rest) rest) rest) rest) rest) rest) there
     where
       name : (i : ℕ) → IsWord (actor_name c i)
       name i = name_word c.actors.items i can.names
@@ -487,7 +541,7 @@ module _ (n : Labels) (apart : TellApart n) where
 
   lines_are : (c : Policy) → CanBeListed c → Each IsLine (all_lines c n)
   lines_are c can = (
-    all_pass no_end (codes "policy 1") refl,
+    version_line c.version,
     (
       grant_line c.grant,
       (
@@ -585,12 +639,26 @@ module _ (n : Labels) (apart : TellApart n) where
         subst (Contains (map (said_use other) other.uses.items)) (sym (m.1.1 ∙ same))
         (in_contains (map (said_use other) other.uses.items) (said_use other y.0) (in_mapped (said_use other) y.0 other.uses.items y.1.0))
 
+    takes_into : (x : List ℕ × List ℕ) → Contains (map (said_take one) one.takes.items) x → Contains (map (said_take other) other.takes.items) x
+    takes_into x there =
+        let m = from_mapped (said_take one) one.takes.items x (contains_in (map (said_take one) one.takes.items) x there) in
+        let y = is_take other n (take_row one m.0) refl (into (take_row one m.0) (in_takes one n m.0 m.1.0)) in
+        let from : actor_name one m.0.from ≡ actor_name other y.0.from = ap word_1 y.1.1 in
+        let to : actor_name one m.0.to ≡ actor_name other y.0.to = ap word_3 y.1.1 in
+        let same : said_take one m.0 ≡ said_take other y.0 = λ i. (from i, to i) in
+        subst (Contains (map (said_take other) other.takes.items)) (sym (m.1.1 ∙ same))
+        (in_contains (map (said_take other) other.takes.items) (said_take other y.0) (in_mapped (said_take other) y.0 other.takes.items y.1.0))
+
   -- ---- all of it
 
   rows_into : (a b : Policy) → CanBeListed a → CanBeListed b → lines a n ≡ lines b n → (r : Row) → In r (rows a n) → In r (rows b n)
   rows_into a b can also same r there =
       let m = row_of b n (row_text r) (subst (In (row_text r)) same (line_of a n r there)) in
       subst (λ z. In z (rows b n)) (sym (rows_apart r m.0 (wordy a can r there) (wordy b also m.0 m.1.0) m.1.1)) m.1.0
+
+abbrev top : List (List ℕ) → List ℕ
+top (x ∷ r) = x
+top [] = []
 
 abbrev second : List (List ℕ) → List ℕ
 second (x ∷ y ∷ r) = y
@@ -613,6 +681,7 @@ listings_tell a b n setup made apart can also same =
     let to = rows_into n apart a b can also both in
     let back = rows_into n apart b a also can (sym both) in
     record {
+      version = version_same a.version b.version (append_cancel_left (codes "policy ") (version_text a.version) (version_text b.version) (ap top all));
       grant = switch_same a.grant b.grant (append_cancel_left (codes "seL4_grant ") (switch_text a.grant) (switch_text b.grant) (ap second all));
       calls = switch_same a.calls b.calls (append_cancel_left (codes "calls_succeed ") (switch_text a.calls) (switch_text b.calls) (ap third all));
       silent = λ x. (silent_into n apart a b can also to x, silent_into n apart b a also can back x);
@@ -622,4 +691,5 @@ listings_tell a b n setup made apart can also same =
       regions = λ x. (regions_into n apart a b can also to x, regions_into n apart b a also can back x);
       ways = λ x. (ways_into n apart a b can also to x, ways_into n apart b a also can back x);
       uses = λ x. (uses_into n apart a b can also to x, uses_into n apart b a also can back x);
+      takes = λ x. (takes_into n apart a b can also to x, takes_into n apart b a also can back x);
     }

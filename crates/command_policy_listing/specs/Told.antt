@@ -11,6 +11,7 @@ use Rattle.setup_policy.specs.declared.policy.Labels.{Labels}
 use Rattle.setup_policy.specs.declared.policy.Member.{Member}
 use Rattle.setup_policy.specs.declared.policy.OwnRegion.{OwnRegion}
 use Rattle.setup_policy.specs.declared.policy.Policy.{Policy}
+use Rattle.setup_policy.specs.declared.policy.PolicyTake.{PolicyTake}
 use Rattle.setup_policy.specs.declared.policy.PolicyWay.{PolicyWay}
 use Rattle.command_policy_text.specs.Names.{actor_name, labelled_text}
 use Rattle.command_policy_listing.specs.Listing.{listing_text}
@@ -29,6 +30,9 @@ said_way c w = (actor_name c w.from, w.endpoint, w.badge, w.rights, actor_name c
 abbrev pub said_use : Policy → Allowance → List ℕ × ℕ × ℕ × Rights
 said_use c a = (actor_name c a.actor, a.endpoint, a.badge, a.rights)
 
+abbrev pub said_take : Policy → PolicyTake → List ℕ × List ℕ
+said_take c t = (actor_name c t.from, actor_name c t.to)
+
 -- ---- two policies say the same
 
 -- each element of the one list is one of the other, and the other way round
@@ -36,6 +40,7 @@ abbrev pub HaveTheSame : {X : Type 0} → List X → List X → Type 0
 HaveTheSame {X} xs ys = (x : X) → (Contains xs x → Contains ys x) × (Contains ys x → Contains xs x)
 
 pub record SayTheSame (a b : Policy) : Type 0 where
+  pub version : a.version ≡ b.version
   pub grant : a.grant ≡ b.grant
   pub calls : a.calls ≡ b.calls
   pub silent : HaveTheSame (map (λ (m : Member). m.thread) a.silent.items) (map (λ (m : Member). m.thread) b.silent.items)
@@ -45,6 +50,7 @@ pub record SayTheSame (a b : Policy) : Type 0 where
   pub regions : HaveTheSame (map (said_region a) a.regions.items) (map (said_region b) b.regions.items)
   pub ways : HaveTheSame (map (said_way a) a.ways.items) (map (said_way b) b.ways.items)
   pub uses : HaveTheSame (map (said_use a) a.uses.items) (map (said_use b) b.uses.items)
+  pub takes : HaveTheSame (map (said_take a) a.takes.items) (map (said_take b) b.takes.items)
 
 -- ---- what can be listed
 

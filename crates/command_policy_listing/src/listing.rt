@@ -7,9 +7,9 @@ ghost use Rattle.command_policy_text.specs.Texts.{all_lines_text};
 ghost use Rattle.command_policy_listing.specs.Listing as spec;
 
 use command_parts::BadgeText;
-use command_policy_text::{Held, Told, label, object, told_text};
+use command_policy_text::{Held, Told, label, object, told_text, version_text};
 use setup_format::Setup;
-use setup_policy::{Allowance, Member, OwnRegion, Policy, PolicyWay};
+use setup_policy::{Allowance, Member, OwnRegion, Policy, PolicyTake, PolicyWay};
 use setup_report::RightsText;
 use setup_values::profile_text;
 use std::alloc::{AllocError, Global};
@@ -157,6 +157,20 @@ impl Tells<Allowance> for UseLine<'_> {
     }
 }
 
+/// That a group may empty slots of another.
+#[derive(Clone, Copy)]
+struct TakeLine<'a>(Held<'a>);
+
+impl Tells<PolicyTake> for TakeLine<'_> {
+    ghost told = { λ l take. spec.take_line l.0.policy.now take };
+
+    fn tell(&self, alloc: Global, take: &PolicyTake) -> Result<String, AllocError> {
+        let from = name(alloc, self.0.policy, take.from)?;
+        let to = name(alloc, self.0.policy, take.to)?;
+        format!(in alloc; "take {from} -> {to}")
+    }
+}
+
 /// Adds who is trusted, and which groups there are.
 fn add_who(alloc: Global, out: &mut String, held: Held<'_>) -> Result<(), AllocError>
     ensures { OnOk result (string_bytes out.new ≡ string_bytes out.old ++ all_lines_text (spec.who_lines held.entry.policy.now held.entry.labels.now)) }
@@ -167,14 +181,15 @@ fn add_who(alloc: Global, out: &mut String, held: Held<'_>) -> Result<(), AllocE
     add_kind(alloc, out, policy.groups.as_slice(), &GroupLine(held))
 }
 
-/// Adds what groups may hold and send.
+/// Adds what groups may hold and send, and whose slots they may empty.
 fn add_may(alloc: Global, out: &mut String, held: Held<'_>) -> Result<(), AllocError>
     ensures { OnOk result (string_bytes out.new ≡ string_bytes out.old ++ all_lines_text (spec.may_lines held.entry.policy.now held.entry.labels.now)) }
 {
     let policy = held.policy;
     add_kind(alloc, out, policy.regions.as_slice(), &RegionLine(held))?;
     add_kind(alloc, out, policy.ways.as_slice(), &WayLine(held))?;
-    add_kind(alloc, out, policy.uses.as_slice(), &UseLine(held))
+    add_kind(alloc, out, policy.uses.as_slice(), &UseLine(held))?;
+    add_kind(alloc, out, policy.takes.as_slice(), &TakeLine(held))
 }
 
 fn switch_text(set: bool) -> &'static str
@@ -195,13 +210,17 @@ fn add_head(out: &mut String, setup: &Setup, made: usize) -> Result<(), AllocErr
     )
 }
 
-/// Adds the version of the form, and both switches.
+/// Adds the version of the policy, and both switches.
 fn add_switches(out: &mut String, policy: &Policy) -> Result<(), AllocError>
     ensures { OnOk result (string_bytes out.new ≡ string_bytes out.old ++ all_lines_text (spec.switch_lines policy.now)) }
 {
+    let version = version_text(policy.version);
     let grant = switch_text(policy.grant);
     let succeed = switch_text(policy.calls);
-    writeln!(out, "policy 1\nseL4_grant {grant}\ncalls_succeed {succeed}")
+    writeln!(
+        out,
+        "policy {version}\nseL4_grant {grant}\ncalls_succeed {succeed}"
+    )
 }
 
 fn add_counts(out: &mut String, policy: &Policy) -> Result<(), AllocError>
@@ -212,9 +231,10 @@ fn add_counts(out: &mut String, policy: &Policy) -> Result<(), AllocError>
     let regions = policy.regions.len();
     let ways = policy.ways.len();
     let uses = policy.uses.len();
+    let takes = policy.takes.len();
     writeln!(
         out,
-        "groups {groups} threads {threads} regions {regions} ways {ways} uses {uses}"
+        "groups {groups} threads {threads} regions {regions} ways {ways} uses {uses} takes {takes}"
     )
 }
 

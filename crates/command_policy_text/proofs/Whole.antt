@@ -38,16 +38,16 @@ six a b c d e f s1 s2 s3 s4 s5 s6 h1 h2 h3 h4 h5 h6 =
 
 -- numbers that are those of the last line, in its place
 pub counted : (c : Policy) (l : Layout) (n : Labels) (hs : List Home) (js : List Join) (ws : List Passage) (setup : SetupView) (replies : List Reply)
-    (groups parts ways text_and_verdict others idle : ℕ) → groups ≡ length c.groups.items → parts ≡ length l.parts.items → ways ≡ count_by is_between_parts ws →
-    text_and_verdict ≡ length (calls_breached c setup replies) → others ≡ length (breaches c l n hs js ws) → idle ≡ length (unused c l n hs) →
-    ◌≡◌ {A = Counts} (record { groups = groups; parts = parts; ways = ways; breaches = text_and_verdict + others; unused = idle }) (counts c l n hs js ws setup replies)
-counted c l n hs js ws setup replies groups parts ways text_and_verdict others idle g p w t o i = cc
+    (groups parts ways taken text_and_verdict others idle : ℕ) → groups ≡ length c.groups.items → parts ≡ length l.parts.items → ways ≡ count_by is_between_parts ws →
+    taken ≡ length l.takes.items → text_and_verdict ≡ length (calls_breached c setup replies) → others ≡ length (breaches c l n hs js ws) → idle ≡ length (unused c l n hs) →
+    ◌≡◌ {A = Counts} (record { groups = groups; parts = parts; ways = ways; takes = taken; breaches = text_and_verdict + others; unused = idle }) (counts c l n hs js ws setup replies)
+counted c l n hs js ws setup replies groups parts ways taken text_and_verdict others idle g p w k t o i = cc
 
 -- the pieces of the text, and the verdict, are what is told
 pub all_told : (c : Policy) (l : Layout) (n : Labels) (hs : List Home) (js : List Join) (ws : List Passage) (setup : SetupView) (replies : List Reply)
     (made : List ℕ) (verdict : Verdict) →
-    made ≡ policy_head_line setup (length replies) ++ (all_lines_text (first_lines c l n hs) ++ (all_lines_text (calls_breached c setup replies)
-    ++ (all_lines_text (breaches c l n hs js ws) ++ (all_lines_text (unused c l n hs) ++ last_line (counts c l n hs js ws setup replies))))) →
+    made ≡ policy_head_line c.version setup (length replies) ++ (all_lines_text (first_lines c l n hs) ++ (all_lines_text (calls_breached c setup replies)
+    ++ (all_lines_text (breaches c l n hs js ws) ++ (all_lines_text (unused c l n hs) ++ last_line c.version (counts c l n hs js ws setup replies))))) →
     verdict ≡ verdict_by_count (breach_count c l n hs js ws setup replies) →
     ◌≡◌ {A = List ℕ × Verdict} (made, verdict) (text_and_verdict c l n hs js ws setup replies)
 unfolding text text_and_verdict

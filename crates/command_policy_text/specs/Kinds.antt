@@ -2,6 +2,7 @@
 use Rattle.std.specs.Prelude.{ℕ, nat_lt, not, List, ◌++◌, map, filter}
 use Rattle.std.specs.List.{filter_map}
 use Rattle.query_parts.specs.declared.listed.PartUse.{PartUse}
+use Rattle.command_parts.specs.declared.takes.Take.{Take}
 use Rattle.command_policy_breaches.specs.declared.breaches.Hold.{Hold}
 use Rattle.command_policy_breaches.specs.declared.joining.Join.{Join}
 use Rattle.setup_policy.specs.declared.policy.Allowance.{Allowance}
@@ -11,13 +12,15 @@ use Rattle.command_policy_breaches.specs.declared.held.Layout.{Layout}
 use Rattle.setup_policy.specs.declared.policy.Member.{Member}
 use Rattle.setup_policy.specs.declared.policy.OwnRegion.{OwnRegion}
 use Rattle.setup_policy.specs.declared.policy.Policy.{Policy}
+use Rattle.setup_policy.specs.declared.policy.PolicyTake.{PolicyTake}
 use Rattle.setup_policy.specs.declared.policy.PolicyWay.{PolicyWay}
 use Rattle.command_policy_breaches.specs.declared.held.Waiting.{Waiting}
 use Rattle.command_policy_text.specs.declared.told.Told.{Told}
-use Rattle.command_policy_text.specs.declared.told.Told.TheVariants.{Silent, Messages, Group, Joined, Grant, Thread, Region, Use, Badge, Right, Way, Waits, UnusedWay, UnusedUse, IdleInWay, IdleInUse, UnusedRegion, UnusedGroup}
+use Rattle.command_policy_text.specs.declared.told.Told.TheVariants.{Silent, Messages, Group, Joined, Grant, Thread, Region, Use, Badge, Right, Way, Waits, Taken, UnusedWay, UnusedUse, IdleInWay, IdleInUse, UnusedRegion, UnusedGroup, UnusedTake}
 use Rattle.command_policy_breaches.specs.declared.ways.Passage.{Passage}
 use Rattle.command_policy_breaches.specs.Breaches.{has_other_badge, has_right_too_much, hold_of, is_region_amiss, is_unlisted, is_wait_amiss}
 use Rattle.command_policy_breaches.specs.Joins.{have_one_group, have_two_groups}
+use Rattle.command_policy_breaches.specs.Takes.{is_take_used, takes_amiss}
 use Rattle.command_policy_breaches.specs.Unused.{count_of_parts, has_use_idle_right, has_way_idle_right, is_entry_used, is_region_used, is_way_used}
 use Rattle.command_policy_breaches.specs.Ways.{is_passage_amiss}
 
@@ -83,6 +86,10 @@ passage_breaches c l hs ws = map (λ (w : Passage). Way w) (untold_passages c l 
 abbrev pub waiting_breaches : Policy → Layout → List Told
 waiting_breaches c l = map (λ (w : Waiting). Waits w) (waits_told c l)
 
+-- what parts take from others, and no entry lets them
+abbrev pub take_breaches : Policy → Layout → List Told
+take_breaches c l = map (λ (t : Take). Taken t) (takes_amiss c l)
+
 -- ---- what is allowed and not there
 
 -- the ways that are not used
@@ -110,3 +117,7 @@ idle_regions c l = map (λ (r : OwnRegion). UnusedRegion r) (filter (λ (r : Own
 -- the groups whose threads are several parts
 abbrev pub idle_groups : Policy → List Home → List Told
 idle_groups c hs = map (λ (g : ℕ). UnusedGroup g) (filter (λ g. nat_lt 1 (count_of_parts hs g)) c.groups.items)
+
+-- the takes that are not used
+abbrev pub idle_takes : Policy → Layout → List Told
+idle_takes c l = map (λ (t : PolicyTake). UnusedTake t) (filter (λ (t : PolicyTake). not (is_take_used l t)) c.takes.items)

@@ -7,6 +7,8 @@ use Rattle.command_policy_text.specs.declared.names.Letters.{Letters}
 use Rattle.setup_policy.specs.declared.policy.Label.{Label}
 use Rattle.command_policy_breaches.specs.declared.held.Layout.{Layout}
 use Rattle.setup_policy.specs.declared.policy.Policy.{Policy}
+use Rattle.setup_policy.specs.declared.policy.PolicyVersion.{PolicyVersion}
+use Rattle.setup_policy.specs.declared.policy.PolicyVersion.TheVariants.{One, Two}
 use Rattle.command_policy_breaches.specs.Sides.{groups_at}
 
 -- an object by its name, behind a `@`, or by its address
@@ -56,3 +58,8 @@ right_letter is_there text = cond is_there text (codes "-")
 -- four rights as letters, a `-` for each that is not there
 abbrev pub letters_text : Letters → List ℕ
 letters_text l = right_letter l.write (codes "w") ++ (right_letter l.read (codes "r") ++ (right_letter l.grant (codes "g") ++ right_letter l.grant_reply (codes "p")))
+
+-- the number of the version that a policy is of
+abbrev pub version_text : PolicyVersion → List ℕ
+version_text One = codes "1"
+version_text Two = codes "2"

@@ -13,11 +13,14 @@ use Rattle.command_policy_breaches.specs.declared.held.Home.{Home}
 use Rattle.setup_policy.specs.declared.policy.Labels.{Labels}
 use Rattle.command_policy_breaches.specs.declared.held.Layout.{Layout}
 use Rattle.setup_policy.specs.declared.policy.Policy.{Policy}
+use Rattle.setup_policy.specs.declared.policy.PolicyVersion.{PolicyVersion}
+use Rattle.setup_policy.specs.declared.policy.PolicyVersion.TheVariants.{One, Two}
 use Rattle.command_policy_text.specs.declared.text.Counts.{Counts}
 use Rattle.command_policy_text.specs.declared.told.Told.{Told}
 use Rattle.command_policy_breaches.specs.declared.ways.Passage.{Passage}
 use Rattle.command_policy_text.specs.Calls.{call_breaches}
 use Rattle.command_policy_text.specs.Kinds as kind
+use Rattle.command_policy_text.specs.Names.{version_text}
 use Rattle.command_policy_text.specs.Order.{in_order}
 use Rattle.command_policy_text.specs.Told.{line_told}
 use Rattle.command_policy_breaches.specs.Ways.{is_between_parts}
@@ -42,8 +45,11 @@ use_breaches c l n hs = lines_of_kind c l n hs (kind.uses c l) ++ (lines_of_kind
 abbrev pub way_breaches : Policy → Layout → Labels → List Home → List Passage → List (List ℕ)
 way_breaches c l n hs ws = lines_of_kind c l n hs (kind.passage_breaches c l hs ws) ++ lines_of_kind c l n hs (kind.waiting_breaches c l)
 
+abbrev pub take_breaches : Policy → Layout → Labels → List Home → List (List ℕ)
+take_breaches c l n hs = lines_of_kind c l n hs (kind.take_breaches c l)
+
 unfoldable pub breaches : Policy → Layout → Labels → List Home → List Join → List Passage → List (List ℕ)
-breaches c l n hs js ws = part_breaches c l n hs js ++ (use_breaches c l n hs ++ way_breaches c l n hs ws)
+breaches c l n hs js ws = part_breaches c l n hs js ++ (use_breaches c l n hs ++ (way_breaches c l n hs ws ++ take_breaches c l n hs))
 
 abbrev pub calls_breached : Policy → SetupView → List Reply → List (List ℕ)
 calls_breached c setup replies = cond c.calls (call_breaches 1 setup.calls replies) []
@@ -61,25 +67,35 @@ unused_entries c l n hs =
 abbrev pub unused_groups : Policy → Layout → Labels → List Home → List (List ℕ)
 unused_groups c l n hs = lines_of_kind c l n hs (kind.idle_regions c l) ++ lines_of_kind c l n hs (kind.idle_groups c hs)
 
+abbrev pub unused_takes : Policy → Layout → Labels → List Home → List (List ℕ)
+unused_takes c l n hs = lines_of_kind c l n hs (kind.idle_takes c l)
+
 unfoldable pub unused : Policy → Layout → Labels → List Home → List (List ℕ)
-unused c l n hs = unused_entries c l n hs ++ unused_groups c l n hs
+unused c l n hs = unused_entries c l n hs ++ (unused_groups c l n hs ++ unused_takes c l n hs)
 
 -- ---- all of it
 
 abbrev pub policy_calls_text : ℕ → ℕ → List ℕ
 policy_calls_text calls made = codes " calls " ++ (decimal calls ++ (codes " after " ++ decimal made))
 
-abbrev pub policy_head_line : SetupView → ℕ → List ℕ
-policy_head_line setup made =
-    terminated (codes "policy 1 " ++ (profile_text setup.profile ++ (codes " memory_bits " ++ (decimal setup.plan.memory_bits ++ policy_calls_text (length setup.calls) made))))
+-- the version of the policy, the set-up, and how many of its calls are made
+abbrev pub policy_head_line : PolicyVersion → SetupView → ℕ → List ℕ
+policy_head_line version setup made =
+    terminated (codes "policy " ++ (version_text version ++ (codes " " ++ (profile_text setup.profile ++ (codes " memory_bits "
+    ++ (decimal setup.plan.memory_bits ++ policy_calls_text (length setup.calls) made))))))
 
 abbrev pub kept_or_broken : ℕ → List ℕ
 kept_or_broken breaches = cond (breaches == 0) (codes "kept") (codes "broken")
 
-abbrev pub last_line : Counts → List ℕ
-last_line k =
+-- how many takes there are, of which version 1 says nothing
+abbrev pub takes_text : PolicyVersion → ℕ → List ℕ
+takes_text One takes = []
+takes_text Two takes = codes " takes " ++ decimal takes
+
+abbrev pub last_line : PolicyVersion → Counts → List ℕ
+last_line version k =
     terminated (kept_or_broken k.breaches ++ (codes " groups " ++ (decimal k.groups ++ (codes " parts " ++ (decimal k.parts ++ (codes " ways " ++ (decimal k.ways
-    ++ (codes " breaches " ++ (decimal k.breaches ++ (codes " unused " ++ decimal k.unused))))))))))
+    ++ (takes_text version k.takes ++ (codes " breaches " ++ (decimal k.breaches ++ (codes " unused " ++ decimal k.unused)))))))))))
 
 -- how many lines tell of breaches
 abbrev pub breach_count : Policy → Layout → Labels → List Home → List Join → List Passage → SetupView → List Reply → ℕ
@@ -90,6 +106,7 @@ counts c l n hs js ws setup replies = record {
   groups = length c.groups.items;
   parts = length l.parts.items;
   ways = count_by is_between_parts ws;
+  takes = length l.takes.items;
   breaches = breach_count c l n hs js ws setup replies;
   unused = length (unused c l n hs);
 }
@@ -103,8 +120,8 @@ all_lines_text lines = flat_map terminated lines
 
 unfoldable pub text : Policy → Layout → Labels → List Home → List Join → List Passage → SetupView → List Reply → List ℕ
 text c l n hs js ws setup replies =
-    policy_head_line setup (length replies) ++ (all_lines_text (first_lines c l n hs) ++ (all_lines_text (calls_breached c setup replies)
-    ++ (all_lines_text (breaches c l n hs js ws) ++ (all_lines_text (unused c l n hs) ++ last_line (counts c l n hs js ws setup replies)))))
+    policy_head_line c.version setup (length replies) ++ (all_lines_text (first_lines c l n hs) ++ (all_lines_text (calls_breached c setup replies)
+    ++ (all_lines_text (breaches c l n hs js ws) ++ (all_lines_text (unused c l n hs) ++ last_line c.version (counts c l n hs js ws setup replies)))))
 
 -- the text of a layout that is held to a policy, and the verdict: `AllMet` exactly where no line tells of a breach
 unfoldable pub text_and_verdict : Policy → Layout → Labels → List Home → List Join → List Passage → SetupView → List Reply → List ℕ × Verdict

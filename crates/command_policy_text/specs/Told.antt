@@ -7,6 +7,7 @@ use Rattle.kernel_abstract.specs.Decode.{has_right}
 use Rattle.query_parts.specs.declared.listed.PartUse.{PartUse}
 use Rattle.setup_report.specs.State.{rising}
 use Rattle.setup_report.specs.Text.{rights_text}
+use Rattle.command_parts.specs.declared.takes.Take.{Take}
 use Rattle.command_parts.specs.Text.{any_badge_text as badge_told}
 use Rattle.command_policy_breaches.specs.declared.breaches.Hold.{Hold}
 use Rattle.command_policy_breaches.specs.declared.joining.Join.{Join}
@@ -19,10 +20,11 @@ use Rattle.command_policy_breaches.specs.declared.held.Layout.{Layout}
 use Rattle.setup_policy.specs.declared.policy.Member.{Member}
 use Rattle.setup_policy.specs.declared.policy.OwnRegion.{OwnRegion}
 use Rattle.setup_policy.specs.declared.policy.Policy.{Policy}
+use Rattle.setup_policy.specs.declared.policy.PolicyTake.{PolicyTake}
 use Rattle.setup_policy.specs.declared.policy.PolicyWay.{PolicyWay}
 use Rattle.command_policy_breaches.specs.declared.held.Waiting.{Waiting}
 use Rattle.command_policy_text.specs.declared.told.Told.{Told}
-use Rattle.command_policy_text.specs.declared.told.Told.TheVariants.{Silent, Messages, Group, Joined, Grant, Thread, Region, Use, Badge, Right, Way, Waits, UnusedWay, UnusedUse, IdleInWay, IdleInUse, UnusedRegion, UnusedGroup}
+use Rattle.command_policy_text.specs.declared.told.Told.TheVariants.{Silent, Messages, Group, Joined, Grant, Thread, Region, Use, Badge, Right, Way, Waits, Taken, UnusedWay, UnusedUse, IdleInWay, IdleInUse, UnusedRegion, UnusedGroup, UnusedTake}
 use Rattle.command_policy_breaches.specs.declared.ways.End.{End}
 use Rattle.command_policy_breaches.specs.declared.ways.Passage.{Passage}
 use Rattle.command_policy_breaches.specs.Breaches.{is_entry, lets_ever, is_stray_right}
@@ -119,6 +121,10 @@ wait_text n w =
     (codes "breach waiting " ++ (labelled_thread n w.thread ++ (codes " -> " ++ (labelled_endpoint n w.endpoint ++ (codes " badge " ++ decimal w.badge)))))
     (codes "breach waiting " ++ (labelled_endpoint n w.endpoint ++ (codes " -> " ++ labelled_thread n w.thread)))
 
+-- a part, and another from which it takes
+abbrev pub take_text : Policy → Layout → Take → List ℕ
+take_text c l t = codes "breach take " ++ (part_label c l t.by ++ (codes " -> " ++ part_label c l t.of))
+
 -- ---- what is allowed and not there
 
 abbrev pub way_text : Policy → Labels → PolicyWay → List ℕ
@@ -157,6 +163,9 @@ abbrev pub unused_group_text : Policy → List Home → ℕ → List ℕ
 unused_group_text c hs group =
     codes "unused group " ++ (actor_name c group ++ (codes " is " ++ (decimal (count_of_parts hs group) ++ codes " parts")))
 
+abbrev pub unused_take_text : Policy → PolicyTake → List ℕ
+unused_take_text c t = codes "unused take " ++ (actor_name c t.from ++ (codes " -> " ++ actor_name c t.to))
+
 -- ---- a line, without its end
 
 -- the line of what is told
@@ -173,9 +182,11 @@ line_told c l n hs (Badge used) = badge_breach_text c l n used
 line_told c l n hs (Right used) = right_breach_text c l n used
 line_told c l n hs (Way passage) = passage_text c n hs passage
 line_told c l n hs (Waits wait) = wait_text n wait
+line_told c l n hs (Taken take) = take_text c l take
 line_told c l n hs (UnusedWay way) = codes "unused " ++ way_text c n way
 line_told c l n hs (UnusedUse entry) = codes "unused " ++ unused_entry_text c n entry
 line_told c l n hs (IdleInWay way) = idle_way_text c l n way
 line_told c l n hs (IdleInUse entry) = idle_use_text c l n entry
 line_told c l n hs (UnusedRegion own) = unused_region_text c n own
 line_told c l n hs (UnusedGroup group) = unused_group_text c hs group
+line_told c l n hs (UnusedTake take) = unused_take_text c take

@@ -4,15 +4,16 @@ ghost use Rattle.command_policy_breaches.specs.Unused.{count_of_parts as count_o
 ghost use Rattle.command_policy_text.specs.Kinds as spec;
 
 use crate::told::{Held, Told};
+use command_parts::Take;
 use command_policy_breaches::{
     HeldRegion, Hold, Home, Join, Passage, Waiting, badges_amiss, count_of_parts, holds,
-    joins_amiss, parts_of_several, passages_amiss, regions_amiss, rights_amiss, unlisted,
-    unused_regions, unused_uses, unused_ways, uses_with_idle_rights, waits_amiss,
-    ways_with_idle_rights,
+    joins_amiss, parts_of_several, passages_amiss, regions_amiss, rights_amiss, takes_amiss,
+    unlisted, unused_regions, unused_takes, unused_uses, unused_ways, uses_with_idle_rights,
+    waits_amiss, ways_with_idle_rights,
 };
 use list_questions::{Asks, Makes, each, those};
 use query_parts::PartUse;
-use setup_policy::{Allowance, Member, OwnRegion, Policy, PolicyWay};
+use setup_policy::{Allowance, Member, OwnRegion, Policy, PolicyTake, PolicyWay};
 use std::alloc::{AllocError, Global};
 
 #[derive(Clone, Copy)]
@@ -172,6 +173,19 @@ impl Makes<Waiting, Told> for AsWaits {
 }
 
 #[derive(Clone, Copy)]
+struct AsTaken;
+
+impl Makes<Take, Told> for AsTaken {
+    ghost use Rattle.command_policy_text.specs.declared.told.Told.TheVariants.{Taken};
+
+    ghost made = { λ m take. Taken take };
+
+    fn make(&self, take: &Take) -> Told {
+        Told::Taken(*take)
+    }
+}
+
+#[derive(Clone, Copy)]
 struct AsUnusedWay;
 
 impl Makes<PolicyWay, Told> for AsUnusedWay {
@@ -246,6 +260,19 @@ impl Makes<u64, Told> for AsUnusedGroup {
 
     fn make(&self, group: &u64) -> Told {
         Told::UnusedGroup(*group)
+    }
+}
+
+#[derive(Clone, Copy)]
+struct AsUnusedTake;
+
+impl Makes<PolicyTake, Told> for AsUnusedTake {
+    ghost use Rattle.command_policy_text.specs.declared.told.Told.TheVariants.{UnusedTake};
+
+    ghost made = { λ m take. UnusedTake take };
+
+    fn make(&self, take: &PolicyTake) -> Told {
+        Told::UnusedTake(*take)
     }
 }
 
@@ -381,6 +408,15 @@ pub fn waits(alloc: Global, held: Held<'_>) -> Result<Vec<Told>, AllocError>
     each(alloc, waits, &AsWaits)
 }
 
+/// What parts take from others, and no entry lets them.
+pub fn takes(alloc: Global, held: Held<'_>) -> Result<Vec<Told>, AllocError>
+    ensures { IfOk result (λ v. v.items ≡ spec.take_breaches held.entry.policy.now held.entry.layout.now) }
+{
+    let takes = takes_amiss(alloc, held.policy, held.layout)?;
+    let takes = takes.as_slice();
+    each(alloc, takes, &AsTaken)
+}
+
 /// The ways of which nothing is there.
 pub fn idle_ways(alloc: Global, held: Held<'_>) -> Result<Vec<Told>, AllocError>
     ensures { IfOk result (λ v. v.items ≡ spec.idle_ways held.entry.policy.now held.entry.layout.now) }
@@ -453,4 +489,13 @@ pub fn idle_groups(alloc: Global, held: Held<'_>) -> Result<Vec<Told>, AllocErro
     let groups = held.policy.groups.as_slice();
     let several = those(alloc, groups, &OfSeveralParts(held.homes))?;
     each(alloc, several.as_slice(), &AsUnusedGroup)
+}
+
+/// The takes of which nothing is there.
+pub fn idle_takes(alloc: Global, held: Held<'_>) -> Result<Vec<Told>, AllocError>
+    ensures { IfOk result (λ v. v.items ≡ spec.idle_takes held.entry.policy.now held.entry.layout.now) }
+{
+    let takes = unused_takes(alloc, held.policy, held.layout)?;
+    let takes = takes.as_slice();
+    each(alloc, takes, &AsUnusedTake)
 }

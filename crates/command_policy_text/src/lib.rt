@@ -8,7 +8,7 @@ mod text;
 mod told;
 
 pub use calls::call_breaches;
-pub use names::{Letters, label, numbers_text, object, part_label};
+pub use names::{Letters, label, numbers_text, object, part_label, version_text};
 pub use text::{breach_lines, policy_text};
 pub use told::{
     Held, Told, allowed_badges, allowed_rights, capability_text, end_label, is_other_badge,

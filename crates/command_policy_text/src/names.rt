@@ -4,7 +4,7 @@ ghost use Rattle.command_policy_text.specs.Names as spec;
 
 use command_policy_breaches::{Layout, groups_at};
 use list_questions::{Asks, Line, add_each, first};
-use setup_policy::{Label, Policy};
+use setup_policy::{Label, Policy, PolicyVersion};
 use std::alloc::{AllocError, Global};
 use std::fmt;
 use std::fmt::Write;
@@ -65,6 +65,16 @@ pub fn actor_name(policy: &Policy, actor: u64) -> &str
     match policy.actors.as_slice().get(actor as usize) {
         None => "",
         Some(name) => name.as_str(),
+    }
+}
+
+/// The number of the version that a policy is of.
+pub fn version_text(version: PolicyVersion) -> &'static str
+    ensures { result.now ≡ spec.version_text version }
+{
+    match version {
+        PolicyVersion::One => "1",
+        PolicyVersion::Two => "2",
     }
 }
 

@@ -9,12 +9,14 @@ ghost use Rattle.command_policy_text.specs.Texts as spec;
 
 use crate::calls::call_breaches;
 use crate::kinds;
+use crate::names::version_text;
 use crate::told::{Held, Told, told_text};
 use command_core::Verdict;
 use command_policy_breaches::{Join, Passage, count_between_parts};
 use kernel_core::Reply;
 use list_questions::{Line, add_each};
 use setup_format::Setup;
+use setup_policy::PolicyVersion;
 use setup_values::profile_text;
 use std::alloc::{AllocError, Global};
 use std::collections::BTreeSet;
@@ -131,9 +133,11 @@ fn add_breaches(
     ensures { OnOk result (map string_bytes lines.new.items ≡ map string_bytes lines.old.items
         ++ spec.breaches held.entry.policy.now held.entry.layout.now held.entry.labels.now held.entry.homes.now joins.now passages.now) }
 {
+    let takes = kinds::takes(alloc, held)?;
     add_part_breaches(alloc, lines, held, joins)?;
     add_use_breaches(alloc, lines, held)?;
-    add_way_breaches(alloc, lines, held, passages)
+    add_way_breaches(alloc, lines, held, passages)?;
+    add_kind(alloc, lines, held, takes.as_slice())
 }
 
 fn breaches(
@@ -184,9 +188,11 @@ fn add_unused_groups(
 fn unused(alloc: Global, held: Held<'_>) -> Result<Vec<String>, AllocError>
     ensures { IfOk result (λ v. map string_bytes v.items ≡ spec.unused held.entry.policy.now held.entry.layout.now held.entry.labels.now held.entry.homes.now) }
 {
+    let takes = kinds::idle_takes(alloc, held)?;
     let mut lines = Vec::new(alloc);
     add_unused_entries(alloc, &mut lines, held)?;
     add_unused_groups(alloc, &mut lines, held)?;
+    add_kind(alloc, &mut lines, held, takes.as_slice())?;
     Ok(lines)
 }
 
@@ -254,16 +260,25 @@ impl fmt::Display for CallsText {
     }
 }
 
-fn add_head(out: &mut String, setup: &Setup, made: usize) -> Result<(), AllocError>
-    ensures { OnOk result (string_bytes out.new ≡ string_bytes out.old ++ spec.policy_head_line setup.now made) }
+fn add_head(
+    out: &mut String,
+    version: PolicyVersion,
+    setup: &Setup,
+    made: usize,
+) -> Result<(), AllocError>
+    ensures { OnOk result (string_bytes out.new ≡ string_bytes out.old ++ spec.policy_head_line version setup.now made) }
 {
+    let version = version_text(version);
     let profile = profile_text(setup.profile());
     let memory_bits = setup.plan().memory_bits();
     let calls = CallsText {
         calls: setup.calls().len(),
         made,
     };
-    writeln!(out, "policy 1 {profile} memory_bits {memory_bits}{calls}")
+    writeln!(
+        out,
+        "policy {version} {profile} memory_bits {memory_bits}{calls}"
+    )
 }
 
 /// The numbers of the last line.
@@ -272,8 +287,28 @@ pub struct Counts {
     pub groups: usize,
     pub parts: usize,
     pub ways: usize,
+    pub takes: usize,
     pub breaches: usize,
     pub unused: usize,
+}
+
+/// How many takes there are, of which version 1 says nothing.
+#[derive(Clone, Copy)]
+struct TakesText {
+    version: PolicyVersion,
+    takes: usize,
+}
+
+impl fmt::Display for TakesText {
+    ghost output = { λ t. Some (spec.takes_text t.version t.takes) };
+
+    fn fmt<W: fmt::Write>(&self, f: &mut fmt::Formatter<W>) -> fmt::Result {
+        let takes = self.takes;
+        match self.version {
+            PolicyVersion::One => Ok(()),
+            PolicyVersion::Two => write!(f, " takes {takes}"),
+        }
+    }
 }
 
 fn word(breaches: usize) -> &'static str
@@ -282,20 +317,22 @@ fn word(breaches: usize) -> &'static str
     if breaches == 0 { "kept" } else { "broken" }
 }
 
-fn add_counts(out: &mut String, counts: Counts) -> Result<(), AllocError>
-    ensures { OnOk result (string_bytes out.new ≡ string_bytes out.old ++ spec.last_line counts) }
+fn add_counts(out: &mut String, version: PolicyVersion, counts: Counts) -> Result<(), AllocError>
+    ensures { OnOk result (string_bytes out.new ≡ string_bytes out.old ++ spec.last_line version counts) }
 {
     let Counts {
         groups,
         parts,
         ways,
+        takes,
         breaches,
         unused,
     } = counts;
+    let takes = TakesText { version, takes };
     let word = word(breaches);
     writeln!(
         out,
-        "{word} groups {groups} parts {parts} ways {ways} breaches {breaches} unused {unused}"
+        "{word} groups {groups} parts {parts} ways {ways}{takes} breaches {breaches} unused {unused}"
     )
 }
 
@@ -332,15 +369,17 @@ pub fn policy_text(
         groups: held.policy.groups.len(),
         parts: held.layout.parts.len(),
         ways: count_between_parts(passages),
+        takes: held.layout.takes.len(),
         breaches,
         unused: unused.len(),
     };
+    let version = held.policy.version;
     let mut out = String::new(alloc);
-    add_head(&mut out, setup, replies.len())?;
+    add_head(&mut out, version, setup, replies.len())?;
     add_each(&mut out, first.as_slice(), &TextLine)?;
     add_each(&mut out, calls.as_slice(), &TextLine)?;
     add_each(&mut out, others.as_slice(), &TextLine)?;
     add_each(&mut out, unused.as_slice(), &TextLine)?;
-    add_counts(&mut out, counts)?;
+    add_counts(&mut out, version, counts)?;
     Ok((out.into_bytes(), verdict_of(breaches)))
 }

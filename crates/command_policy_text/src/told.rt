@@ -8,14 +8,16 @@ ghost use Rattle.command_policy_text.specs.Order.{in_order};
 use crate::names::{Letters, actor_name, label, numbers_text, object, part_label};
 use bitflags::Flags;
 use cap_core::Rights;
-use command_parts::{BadgeText, rising};
+use command_parts::{BadgeText, Take, rising};
 use command_policy_breaches::{
     End, HeldRegion, Hold, Home, Join, Layout, Passage, Waiting, count_of_parts, groups_at,
     is_entry, is_idle, lets_ever, strays,
 };
 use list_questions::{Asks, Makes, each, those};
 use query_parts::PartUse;
-use setup_policy::{Allowance, Labels, Member, OwnRegion, Policy, PolicyWay, sender_entry};
+use setup_policy::{
+    Allowance, Labels, Member, OwnRegion, Policy, PolicyTake, PolicyWay, sender_entry,
+};
 use setup_report::RightsText;
 use std::alloc::{AllocError, Global};
 use std::collections::BTreeSet;
@@ -57,6 +59,8 @@ pub enum Told {
     Way(Passage),
     /// No entry lets a thread wait on an endpoint.
     Waits(Waiting),
+    /// A part takes from another, and no entry lets it.
+    Taken(Take),
     /// Nothing of a way is there.
     UnusedWay(PolicyWay),
     /// Nothing of a use is there.
@@ -69,6 +73,8 @@ pub enum Told {
     UnusedRegion(OwnRegion),
     /// A group's threads are several parts.
     UnusedGroup(u64),
+    /// Nothing of a take is there.
+    UnusedTake(PolicyTake),
 }
 
 /// Texts, each once, in the order of their bytes.
@@ -348,6 +354,14 @@ fn wait_text(alloc: Global, held: Held<'_>, wait: Waiting) -> Result<String, All
     }
 }
 
+fn take_text(alloc: Global, held: Held<'_>, take: Take) -> Result<String, AllocError>
+    ensures { IfOk result (λ s. string_bytes s ≡ spec.take_text held.entry.policy.now held.entry.layout.now take) }
+{
+    let by = part_label(alloc, held.policy, held.layout, take.by)?;
+    let of = part_label(alloc, held.policy, held.layout, take.of)?;
+    format!(in alloc; "breach take {by} -> {of}")
+}
+
 fn way_text(alloc: Global, held: Held<'_>, way: PolicyWay) -> Result<String, AllocError>
     ensures { IfOk result (λ s. string_bytes s ≡ spec.way_text held.entry.policy.now held.entry.labels.now way) }
 {
@@ -438,6 +452,14 @@ fn unused_group_text(alloc: Global, held: Held<'_>, group: u64) -> Result<String
     format!(in alloc; "unused group {group} is {parts} parts")
 }
 
+fn unused_take_text(alloc: Global, held: Held<'_>, take: PolicyTake) -> Result<String, AllocError>
+    ensures { IfOk result (λ s. string_bytes s ≡ spec.unused_take_text held.entry.policy.now take) }
+{
+    let from = actor_name(held.policy, take.from);
+    let to = actor_name(held.policy, take.to);
+    format!(in alloc; "unused take {from} -> {to}")
+}
+
 /// The text of a line, without its end.
 pub fn told_text(alloc: Global, held: Held<'_>, told: Told) -> Result<String, AllocError>
     ensures { IfOk result (λ s. string_bytes s ≡ spec.line_told held.entry.policy.now held.entry.layout.now held.entry.labels.now held.entry.homes.now told) }
@@ -455,11 +477,13 @@ pub fn told_text(alloc: Global, held: Held<'_>, told: Told) -> Result<String, Al
         Told::Right(used) => right_text(alloc, held, used),
         Told::Way(passage) => passage_text(alloc, held, passage),
         Told::Waits(wait) => wait_text(alloc, held, wait),
+        Told::Taken(take) => take_text(alloc, held, take),
         Told::UnusedWay(way) => unused_way_text(alloc, held, way),
         Told::UnusedUse(entry) => unused_use_text(alloc, held, entry),
         Told::IdleInWay(way) => idle_way_text(alloc, held, way),
         Told::IdleInUse(entry) => idle_use_text(alloc, held, entry),
         Told::UnusedRegion(own) => unused_region_text(alloc, held, own),
         Told::UnusedGroup(group) => unused_group_text(alloc, held, group),
+        Told::UnusedTake(take) => unused_take_text(alloc, held, take),
     }
 }

@@ -19,16 +19,17 @@ returns c =
     let replies = c.args.replies.now in
     let told_long : c.len.result ≡ length c.in_ok-calls.calls.items = search rules in
     let others_long : c.len-2.result ≡ length c.in_ok-others.others.items = search rules in
-    let idle_long : c.len-5.result ≡ length c.in_ok-unused.unused.items = search rules in
+    let idle_long : c.len-6.result ≡ length c.in_ok-unused.unused.items = search rules in
     let groups : c.len-3.result ≡ length p.groups.items = search rules in
     let parts : c.len-4.result ≡ length l.parts.items = search rules in
+    let taken : c.len-5.result ≡ length l.takes.items = search rules in
     let told : c.len.result ≡ length (calls_breached p setup replies) = told_long ∙ as_many c.in_ok-calls.calls.items _ c.in_ok-calls.ensures in
     let others : c.len-2.result ≡ length (breaches p l n hs js ws) = others_long ∙ as_many c.in_ok-others.others.items _ c.in_ok-others.ensures in
-    let idle : c.len-5.result ≡ length (unused p l n hs) = idle_long ∙ as_many c.in_ok-unused.unused.items _ c.in_ok-unused.ensures in
-    let numbers = counted p l n hs js ws setup replies c.len-3.result c.len-4.result c.count_between_parts.result c.len.result c.len-2.result c.len-5.result
-    groups parts c.count_between_parts.ensures told others idle in
+    let idle : c.len-6.result ≡ length (unused p l n hs) = idle_long ∙ as_many c.in_ok-unused.unused.items _ c.in_ok-unused.ensures in
+    let numbers = counted p l n hs js ws setup replies c.len-3.result c.len-4.result c.count_between_parts.result c.len-5.result c.len.result c.len-2.result c.len-6.result
+    groups parts c.count_between_parts.ensures taken told others idle in
     let written : c.into_bytes.result.items ≡ string_bytes c.add_counts.new.out = search rules in
-    let head : string_bytes c.add_head.new.out ≡ policy_head_line setup (length replies) = search rules in
+    let head : string_bytes c.add_head.new.out ≡ policy_head_line p.version setup (length replies) = search rules in
     let verdict : c.verdict_of.result ≡ verdict_by_count (breach_count p l n hs js ws setup replies) =
     c.verdict_of.ensures ∙ ap (λ (k : Counts). verdict_by_count k.breaches) numbers in
     all_told p l n hs js ws setup replies _ _
@@ -37,5 +38,5 @@ returns c =
     (lines_behind c.in_ok-calls.calls.items _ _ _ c.in_ok-calls.ensures (rw c.as_slice-2.ensures.value at c.in_ok-add_each-2.ensures))
     (lines_behind c.in_ok-others.others.items _ _ _ c.in_ok-others.ensures (rw c.as_slice-3.ensures.value at c.in_ok-add_each-3.ensures))
     (lines_behind c.in_ok-unused.unused.items _ _ _ c.in_ok-unused.ensures (rw c.as_slice-4.ensures.value at c.in_ok-add_each-4.ensures))
-    (c.in_ok-add_counts.ensures ∙ ap (λ k. string_bytes c.add_each-4.new.out ++ last_line k) numbers))
+    (c.in_ok-add_counts.ensures ∙ ap (λ k. string_bytes c.add_each-4.new.out ++ last_line p.version k) numbers))
     verdict
