@@ -1,26 +1,33 @@
 -- What is told of the least parts is broken by all parts that are closed around the same threads.
 use Rattle.std.proofs.Common.{◌≡◌, ◌≢◌, ◌⊎◌, inl, inr, ℕ, Bool, true, false, not, ◌==◌, ◌&&◌, ◌||◌, List, [], map, Option, Some, refl, sym, ap, subst, ◌∙◌, eq-eqb}
-use Rattle.std.specs.List.{filter, filter_map, list_any, Contains}
+use Rattle.std.specs.List.{filter, filter_map, flat_map, list_any, Contains}
 use Rattle.std.proofs.lemmas.Bool.{eqb-true}
 use Rattle.cap_core.specs.declared.profile.ProfileName.{ProfileName}
 use Rattle.cap_core.specs.declared.capability.Cap.TheVariants.{Endpoint}
 use Rattle.cap_core.specs.Rights.{write_bit, read_bit, grant_bit, grant_reply_bit}
+use Rattle.kernel_forest.specs.Forest.{descendants, Forest}
+use Rattle.kernel_forest.specs.Entries.{Entry, is_at}
 use Rattle.kernel_delete.specs.Members.{In}
 use Rattle.kernel_delete.proofs.Clearable.{contains_in, in_contains}
 use Rattle.kernel_delete.proofs.Members.{both_true, either_true, any_in, any_of, filter_in, in_filter, eqb_self}
 use Rattle.kernel_abstract.specs.Decode.{has_right}
 use Rattle.kernel_abstract.specs.State.{State, shown}
 use Rattle.kernel_abstract.specs.Reached.{IsReached}
+use Rattle.kernel_abstract.proofs.Reached.Simulation.{reached_is}
 use Rattle.query_parts.specs.declared.listed.PartUse.{PartUse}
 use Rattle.query_parts.specs.Least.{AreClosedAround}
 use Rattle.query_parts.specs.Parts.{IsWithin, Parts}
 use Rattle.query_parts.specs.Listed.{part_at, parts_listed, use_of}
+use Rattle.query_parts.proofs.Closed.{shown_derivations}
 use Rattle.query_parts.proofs.Lists.{in_mapped, from_mapped}
-use Rattle.setup_report.specs.State.{rising}
+use Rattle.setup_report.specs.State.{is_in, rising}
+use Rattle.command_parts.specs.declared.takes.Take.{Take}
+use Rattle.command_parts.specs.Takes.{part_slots, taken_by, taking}
 use Rattle.command_parts.specs.Threads.{callers}
 use Rattle.setup_policy.specs.declared.policy.Allowance.{Allowance}
 use Rattle.setup_policy.specs.declared.policy.Member.{Member}
 use Rattle.setup_policy.specs.declared.policy.Policy.{Policy}
+use Rattle.setup_policy.specs.declared.policy.PolicyTake.{PolicyTake}
 use Rattle.setup_policy.specs.declared.policy.PolicyWay.{PolicyWay}
 use Rattle.command_policy_breaches.specs.declared.held.Home.{Home}
 use Rattle.command_policy_breaches.specs.declared.held.Layout.{Layout}
@@ -30,12 +37,14 @@ use Rattle.command_policy_breaches.specs.Breaches.{exceeds, has_entry, has_no_ri
 use Rattle.command_policy_breaches.specs.Joins.{block_of_part, blocks, has_another, have_two_groups, homes_joined, homes_joined_of, is_in_either, number_at}
 use Rattle.command_policy_breaches.specs.Layouts.{IsLayoutOf, home, homes_of, part_of_member, trusted_threads}
 use Rattle.command_policy_breaches.specs.Sides.{is_at_home, is_found_home}
+use Rattle.command_policy_breaches.specs.Takes.{have_group_in_common, is_home_in_both, is_take_amiss, is_take_let, is_take_of}
 use Rattle.command_policy_breaches.specs.Ways.{have_one_in_common, is_home_of_both, is_let, is_passage_amiss, is_way_between}
-use Rattle.command_policy_laws.specs.Broken.{IsOfGroup, IsPassageOf, IsUseOf, NamesGroups, is_use_told, passage_by, WhatIsToldIsBroken}
+use Rattle.command_policy_laws.specs.Broken.{IsOfGroup, IsPassageOf, IsTakeOf, IsUseOf, NamesGroups, NoPartsStand, is_use_told, passage_by, WhatIsToldIsBroken}
 use Rattle.command_policy_laws.specs.Keeps.{KeepPolicy}
-use Rattle.command_policy_laws.specs.Unbroken.{allows_right, any_endpoint, entries_allow, has_entry_with, is_entry_of, is_in_region, is_in_their_region, is_their_own, is_way_of, may_group_pass, may_hold}
+use Rattle.command_policy_laws.specs.Unbroken.{allows_right, any_endpoint, entries_allow, has_entry_with, is_entry_of, is_in_region, is_in_their_region, is_their_own, is_way_of, may_group_pass, may_hold, may_take}
 use Rattle.command_policy_laws.proofs.Groups.{from_flat, from_found, from_rising, home_at, in_flat, in_found, in_rising}
 use Rattle.command_policy_laws.proofs.Keeps.{least_keep_most}
+use Rattle.command_policy_laws.proofs.Standing.{StandsBelow, taken_stands}
 
 clash : (b : Bool) → b ≡ true → not b ≡ true → ⊥
 clash true h k = cc
@@ -113,8 +122,8 @@ module _ (p : ProfileName) (c : Policy) (l : Layout) (A : State) (reached : IsRe
       (keep : KeepPolicy p group_of any_endpoint (may_hold c l) (may_group_pass c) (shown A) others) where
     kept : KeepPolicy p group_of any_endpoint (may_hold c l) (may_group_pass c) (shown A) (parts_listed l.memory.items l.uses.items)
     kept =
-        least_keep_most p (callers p (shown A) (trusted_threads c)) l.memory.items l.uses.items (shown A) group_of any_endpoint (may_hold c l) (may_group_pass c)
-        is.right.least A reached refl others closed keep
+        (least_keep_most p (callers p (shown A) (trusted_threads c)) l.memory.items l.uses.items (shown A) group_of any_endpoint (may_hold c l) (may_group_pass c)
+        (may_take c) is.right.least A reached refl others closed).0 keep
 
     -- ---- threads of two groups in one part
 
@@ -314,9 +323,63 @@ module _ (p : ProfileName) (c : Policy) (l : Layout) (A : State) (reached : IsRe
           let two = both_true (not (is_let c hs w)) _ one.1 in
           clash (is_let c hs w) (let_so (passes (λ same. clash (have_one_in_common hs w) (both_there same) one.0))) two.0
 
+  -- ---- a take
+
+  module _ (t : Take) (m n : Member) (of : IsTakeOf c l t m n) (amiss : is_take_amiss c l t ≡ true) where
+    unlet : (not (have_group_in_common l t) ≡ true) × (not (is_take_let c l t) ≡ true)
+    unlet = both_true (not (have_group_in_common l t)) (not (is_take_let c l t)) amiss
+
+    at_one : is_at_home l.homes.items t.by m.actor ≡ true
+    at_one = at m t.by of.from of.here
+
+    at_other : is_at_home l.homes.items t.of n.actor ≡ true
+    at_other = at n t.of of.to of.there
+
+    listed_take : (f : Forest Entry) → l.takes.items ≡ flat_map (λ i. map (taking i) (taken_by (part_slots l.memory.items f) i)) l.parts.items →
+        is_in t.of (taken_by (part_slots l.memory.items f) t.by) ≡ true
+    listed_take f takes_are =
+        let slots = part_slots l.memory.items f in
+        let i = from_flat (λ k. map (taking k) (taken_by slots k)) l.parts.items t (subst (In t) takes_are (contains_in l.takes.items t of.taken)) in
+        let j = from_mapped (taking i.0) (taken_by slots i.0) t i.1.1 in
+        subst (λ k. is_in t.of (taken_by slots k) ≡ true) (sym (ap (λ (x : Take). x.by) j.1.1))
+        (subst (λ k. is_in k (taken_by slots i.0) ≡ true) (sym (ap (λ (x : Take). x.of) j.1.1))
+        (any_in (λ a. j.0 == a) (taken_by slots i.0) j.0 j.1.0 (eqb_self j.0)))
+
+    -- a slot of the one part stands below one of the other
+    stands : StandsBelow l.memory.items t.by t.of A.derivations
+    stands =
+        taken_stands l.memory.items t.by t.of A.derivations (reached_is p A reached).store.slots_distinct
+        (subst (λ f. is_in t.of (taken_by (part_slots l.memory.items f) t.by) ≡ true) (shown_derivations A) (listed_take (shown A).derivations is.takes_are))
+
+    two_groups : m.actor ≢ n.actor
+    two_groups same =
+        clash (have_group_in_common l t)
+        (any_in (is_home_in_both l t) l.homes.items (home m.actor t.by) (home_in m t.by of.from of.here)
+        (both_are (t.by == t.by) (is_at_home l.homes.items t.of m.actor) (eqb_self t.by) (subst (λ k. is_at_home l.homes.items t.of k ≡ true) (sym same) at_other)))
+        unlet.0
+
+    not_let : may_take c m.actor n.actor ≡ true → ⊥
+    not_let lets =
+        let w = any_of (λ (x : PolicyTake). x.from == m.actor && x.to == n.actor) c.takes.items lets in
+        let both = both_true (w.0.from == m.actor) (w.0.to == n.actor) w.1.1 in
+        clash (is_take_let c l t)
+        (any_in (is_take_of l t) c.takes.items w.0 w.1.0
+        (both_are (is_at_home l.homes.items t.by w.0.from) (is_at_home l.homes.items t.of w.0.to)
+        (subst (λ k. is_at_home l.homes.items t.by k ≡ true) (sym (eqb-true w.0.from m.actor both.0)) at_one)
+        (subst (λ k. is_at_home l.homes.items t.of k ≡ true) (sym (eqb-true w.0.to n.actor both.1)) at_other)))
+        unlet.1
+
+    none_stand : NoPartsStand p c l A
+    none_stand group_of names others closed keep =
+        let below = (least_keep_most p (callers p (shown A) (trusted_threads c)) l.memory.items l.uses.items (shown A) group_of any_endpoint (may_hold c l) (may_group_pass c)
+        (may_take c) is.right.least A reached refl others closed).1 keep in
+        not_let (below m.thread n.thread t.by t.of m.actor n.actor stands.slot stands.under of.here of.there (names m of.from) (names n of.to) two_groups stands.mine
+        (in_contains (descendants (is_at stands.slot) A.derivations) stands.under stands.below) stands.theirs)
+
 pub told_is_broken : (p : ProfileName) (c : Policy) (l : Layout) (A : State) → WhatIsToldIsBroken p c l A
 told_is_broken p c l A reached is = (
   λ u m of told group_of names others closed keep. untold p c l A reached is group_of names others closed keep u m of told,
   λ part two group_of names others closed keep. joined p c l A reached is group_of names others closed keep part two,
   λ u r m n us ws of told group_of names others closed keep. passed p c l A reached is group_of names others closed keep u r m n of us ws told,
+  λ t m n of amiss. none_stand p c l A reached is t m n of amiss,
 )

@@ -7,7 +7,8 @@ use Rattle.cap_core.specs.declared.capability.Cap.TheVariants.{Null, Untyped, En
 use Rattle.cap_core.specs.declared.message.Message.{Message}
 use Rattle.cap_core.specs.declared.rights.Rights.{Rights}
 use Rattle.cap_core.specs.Rights.{write_bit, read_bit}
-use Rattle.kernel_forest.specs.Entries.{cap_at}
+use Rattle.kernel_forest.specs.Forest.{Forest}
+use Rattle.kernel_forest.specs.Entries.{Entry, cap_at}
 use Rattle.kernel_forest.proofs.Trees.Forests.{each-weaker}
 use Rattle.kernel_abstract.specs.declared.call.Reply.{Reply}
 use Rattle.kernel_abstract.specs.declared.call.Reply.TheVariants.{Done, Delivered, Waiting, Dropped, Empty, Refused}
@@ -22,6 +23,7 @@ use Rattle.query_parts.proofs.Delivered.{tell_within}
 use Rattle.query_parts.specs.Delivered.{WaitsOrMaySend, WaitsOrMayReceive, TellsOnlyOfThose}
 use Rattle.query_parts.specs.Least.{LieIn}
 use Rattle.command_policy_laws.specs.Larger.{HoldsNoLess}
+use Rattle.command_policy_laws.specs.Takes.{StandBelowOnly}
 use Rattle.command_policy_laws.specs.Keeps.{WaitsOrPartSends, WaitsOrPartHears, KeepPolicy, LeastKeepMost, IsHeld, TellsPassed, WhatIsKeptIsHeld}
 use Rattle.command_policy_laws.proofs.Larger.{hold_no_less}
 use Rattle.command_never.proofs.Kept.{now_closed}
@@ -57,9 +59,15 @@ module _ (p : ProfileName) (v : Shown) (parts others : Parts) (lie : LieIn p par
           keep.passes t u g h endpoint badge message own other differ (sends_there endpoint t badge message sends) (receives_there endpoint u receives);
     }
 
+  below_by_less : (group_of : ℕ → Option ℕ) (may_take : ℕ → ℕ → Bool) (f : Forest Entry) → StandBelowOnly group_of may_take f others → StandBelowOnly group_of may_take f parts
+  below_by_less group_of may_take f keep t u i j g h slot e at to own other differ mine under theirs =
+      keep t u (larger i) (larger j) g h slot e (there t i at) (there u j to) own other differ (there slot i mine) under (there e.slot j theirs)
+
 pub least_keep_most : (p : ProfileName) (threads : List ℕ) (memory : List PartMemory) (uses : List PartUse) (v : Shown) → LeastKeepMost p threads memory uses v
-least_keep_most p threads memory uses v group_of is_live may_hold may_pass least A reached is others closed keep =
-    kept_by_less p v (parts_listed memory uses) others (least A reached is others closed) group_of is_live may_hold may_pass keep
+least_keep_most p threads memory uses v group_of is_live may_hold may_pass may_take least A reached is others closed = (
+  kept_by_less p v (parts_listed memory uses) others (least A reached is others closed) group_of is_live may_hold may_pass,
+  below_by_less p v (parts_listed memory uses) others (least A reached is others closed) group_of may_take A.derivations,
+)
 
 -- ---- what is kept is held
 

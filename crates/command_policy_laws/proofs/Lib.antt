@@ -11,6 +11,8 @@ pub mod Waiting
 pub mod Unbroken
 pub mod Regions
 pub mod Theirs
+pub mod Takes
+pub mod Standing
 pub mod Broken
 pub mod Status
 pub mod Audits

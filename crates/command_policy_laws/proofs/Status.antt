@@ -3,7 +3,7 @@ use Rattle.std.proofs.Common.{◌≡◌, ℕ, ◌+◌, Bool, true, false, cond, 
 use Rattle.std.proofs.lemmas.Bool.{eqb-true}
 use Rattle.cap_core.specs.declared.profile.ProfileName.{ProfileName}
 use Rattle.kernel_abstract.specs.declared.call.Reply.{Reply}
-use Rattle.kernel_abstract.specs.State.{shown}
+use Rattle.kernel_abstract.specs.State.{State, shown}
 use Rattle.kernel_abstract.specs.Step.{state_after}
 use Rattle.setup_format.specs.Views.{SetupView}
 use Rattle.command_core.specs.declared.fault.Verdict.{Verdict}
@@ -17,10 +17,11 @@ use Rattle.command_policy_breaches.specs.declared.ways.Passage.{Passage}
 use Rattle.command_policy_breaches.specs.Joins.{blocks, homes_joined, joins}
 use Rattle.command_policy_breaches.specs.Ways.{passages}
 use Rattle.command_policy_text.specs.Texts.{breaches, breach_count, calls_breached, text_and_verdict, verdict_by_count}
-use Rattle.command_policy_laws.specs.Unbroken.{any_endpoint, group_of, IsPromised, may_hold, may_group_pass}
+use Rattle.command_policy_laws.specs.Unbroken.{any_endpoint, group_of, IsPromised, may_hold, may_group_pass, WhatIsNotToldIsNotTaken}
 use Rattle.command_policy_laws.proofs.Grants.{handed_out}
 use Rattle.command_policy_laws.proofs.Keeps.{kept_held}
 use Rattle.command_policy_laws.proofs.Regions.{regions_theirs}
+use Rattle.command_policy_laws.proofs.Takes.{takes_held}
 use Rattle.command_policy_laws.proofs.Theirs.{names_theirs, objects_theirs}
 use Rattle.command_policy_laws.proofs.Unbroken.{kept_where_untold}
 use Rattle.command_policy_laws.proofs.Untold.{unbroken}
@@ -44,6 +45,11 @@ module _ (c : Policy) (l : Layout) (n : Labels) (homes : List Home) (js : List J
       (no_more (length (calls_breached c setup replies)) (length (breaches c l n homes js ws))
       (eqb-true (breach_count c l n homes js ws setup replies) 0 (met_where (breach_count c l n homes js ws setup replies == 0) (ap (λ (made : List ℕ × Verdict). made.1) is))))
 
+pub not_taken : (p : ProfileName) (c : Policy) (l : Layout) (n : Labels) (A : State) → WhatIsNotToldIsNotTaken p c l n A
+not_taken p c l n A reached is two none =
+    let untold = unbroken c l n (homes_joined c l (blocks c l)) (joins c l) (passages c l (blocks c l)) none in
+    takes_held p c l A reached is untold.joined untold.grants two untold.takes
+
 pub promised : (p : ProfileName) (c : Policy) (l : Layout) (n : Labels) (setup : SetupView) (replies : List Reply) (text : List ℕ) → IsPromised p c l n setup replies text
 promised p c l n setup replies text A reached is told =
     let none = none_told c l n (homes_joined c l (blocks c l)) (joins c l) (passages c l (blocks c l)) setup replies text told in
@@ -57,5 +63,6 @@ promised p c l n setup replies text A reached is told =
             objects_theirs p l (state_after p A calls).derivations closed,
             names_theirs p l (state_after p A calls).derivations closed,
             handed_out p c l A reached is untold.joined untold.grants calls of,
+            λ two. takes_held p c l A reached is untold.joined untold.grants two untold.takes calls of,
           ),
     )

@@ -8,6 +8,7 @@ use Rattle.std.specs.BTreeSet.{insert_key}
 use Rattle.kernel_delete.specs.Members.{In}
 use Rattle.kernel_delete.proofs.Members.{filter_in, tells}
 use Rattle.query_parts.specs.declared.listed.PartUse.{PartUse}
+use Rattle.command_parts.specs.declared.takes.Take.{Take}
 use Rattle.command_policy_breaches.specs.declared.joining.Join.{Join}
 use Rattle.command_policy_breaches.specs.declared.held.HeldRegion.{HeldRegion}
 use Rattle.command_policy_breaches.specs.declared.held.Home.{Home}
@@ -18,12 +19,13 @@ use Rattle.command_policy_breaches.specs.declared.held.Waiting.{Waiting}
 use Rattle.command_policy_breaches.specs.declared.ways.Passage.{Passage}
 use Rattle.command_policy_breaches.specs.Breaches.{has_other_badge, has_right_too_much, is_region_amiss, is_unlisted, is_wait_amiss}
 use Rattle.command_policy_breaches.specs.Joins.{have_one_group, have_two_groups}
+use Rattle.command_policy_breaches.specs.Takes.{takes_amiss}
 use Rattle.command_policy_breaches.specs.Ways.{is_passage_amiss}
 use Rattle.command_policy_text.specs.declared.told.Told.{Told}
-use Rattle.command_policy_text.specs.declared.told.Told.TheVariants.{Joined, Grant, Region, Use, Badge, Right, Way, Waits}
+use Rattle.command_policy_text.specs.declared.told.Told.TheVariants.{Joined, Grant, Region, Use, Badge, Right, Way, Waits, Taken}
 use Rattle.command_policy_text.specs.Kinds as kind
 use Rattle.command_policy_text.specs.Order.{text_cmp, put_all, in_order}
-use Rattle.command_policy_text.specs.Texts.{breaches, part_breaches, use_breaches, way_breaches}
+use Rattle.command_policy_text.specs.Texts.{breaches, part_breaches, take_breaches, use_breaches, way_breaches}
 use Rattle.command_policy_text.specs.Told.{line_told}
 
 -- ---- lists
@@ -73,6 +75,7 @@ pub record IsUnbroken (c : Policy) (l : Layout) (homes : List Home) (js : List J
   pub badges : filter (has_other_badge c l) l.uses.items ≡ []
   pub rights : filter (has_right_too_much c l) l.uses.items ≡ []
   pub ways : filter (is_passage_amiss c l homes [] []) ws ≡ []
+  pub takes : takes_amiss c l ≡ []
 
 module _ (c : Policy) (l : Layout) (n : Labels) (homes : List Home) (js : List Join) (ws : List Passage) where
   no_kind : (told : List Told) → in_order (map (line_told c l n homes) told) ≡ [] → told ≡ []
@@ -86,8 +89,9 @@ module _ (c : Policy) (l : Layout) (n : Labels) (homes : List Home) (js : List J
       ∙ ap (λ (waiting : List Waiting). filter (is_passage_amiss c l homes (kind.uses_told c l) waiting) ws) (sym waits)
       ∙ h
 
-  of_three : part_breaches c l n homes js ≡ [] → use_breaches c l n homes ≡ [] → way_breaches c l n homes ws ≡ [] → IsUnbroken c l homes js ws
-  of_three parts uses ways =
+  of_four : part_breaches c l n homes js ≡ [] → use_breaches c l n homes ≡ [] → way_breaches c l n homes ws ≡ [] → take_breaches c l n homes ≡ [] →
+      IsUnbroken c l homes js ws
+  of_four parts uses ways takes =
       let joined = no_append _ _ parts in
       let grants = no_append _ _ joined.1 in
       let regions = (no_append _ _ grants.1).1 in
@@ -105,11 +109,13 @@ module _ (c : Policy) (l : Layout) (n : Labels) (homes : List Home) (js : List J
         rights = rights;
         ways = untold_ways badges rights (no_map (λ (w : Waiting). Waits w) _ (no_kind (kind.waiting_breaches c l) way.1))
             (no_map (λ (w : Passage). Way w) _ (no_kind (kind.passage_breaches c l homes ws) way.0));
+        takes = no_map (λ (t : Take). Taken t) _ (no_kind (kind.take_breaches c l) takes);
       }
 
   pub unbroken : breaches c l n homes js ws ≡ [] → IsUnbroken c l homes js ws
   unfolding breaches
   unbroken h =
-      let first = no_append (part_breaches c l n homes js) (use_breaches c l n homes ++ way_breaches c l n homes ws) h in
-      let second = no_append (use_breaches c l n homes) (way_breaches c l n homes ws) first.1 in
-      of_three first.0 second.0 second.1
+      let first = no_append (part_breaches c l n homes js) (use_breaches c l n homes ++ (way_breaches c l n homes ws ++ take_breaches c l n homes)) h in
+      let second = no_append (use_breaches c l n homes) (way_breaches c l n homes ws ++ take_breaches c l n homes) first.1 in
+      let third = no_append (way_breaches c l n homes ws) (take_breaches c l n homes) second.1 in
+      of_four first.0 second.0 third.0 third.1

@@ -11,6 +11,7 @@ use Rattle.query_parts.specs.Parts.{Parts}
 use Rattle.query_parts.specs.Listed.{part_at}
 use Rattle.query_parts.specs.Least.{AreClosedAround}
 use Rattle.command_parts.specs.Threads.{callers}
+use Rattle.command_parts.specs.declared.takes.Take.{Take}
 use Rattle.setup_policy.specs.declared.policy.Member.{Member}
 use Rattle.setup_policy.specs.declared.policy.Policy.{Policy}
 use Rattle.command_policy_breaches.specs.declared.held.Layout.{Layout}
@@ -20,9 +21,11 @@ use Rattle.command_policy_breaches.specs.Breaches.{has_other_badge, has_right_to
 use Rattle.command_policy_breaches.specs.Joins.{block_of_part, blocks, have_two_groups, homes_joined}
 use Rattle.command_policy_breaches.specs.Layouts.{IsLayoutOf, trusted_threads}
 use Rattle.command_policy_breaches.specs.Sides.{is_found_home}
+use Rattle.command_policy_breaches.specs.Takes.{is_take_amiss}
 use Rattle.command_policy_breaches.specs.Ways.{is_passage_amiss, part_end, passage, sending}
 use Rattle.command_policy_laws.specs.Keeps.{KeepPolicy}
-use Rattle.command_policy_laws.specs.Unbroken.{any_endpoint, may_group_pass, may_hold}
+use Rattle.command_policy_laws.specs.Takes.{StandBelowOnly}
+use Rattle.command_policy_laws.specs.Unbroken.{any_endpoint, may_group_pass, may_hold, may_take}
 
 -- a thread of a group
 pub record IsOfGroup (c : Policy) (m : Member) : Type 0 where
@@ -67,7 +70,23 @@ pub record IsPassageOf (c : Policy) (l : Layout) (u r : PartUse) (m n : Member) 
   pub here : part_at l.memory.items m.thread ≡ Some u.part
   pub there : part_at l.memory.items n.thread ≡ Some r.part
 
--- where a line is told of such a use, of a part with threads of two groups, or of such a passage, the policy is broken by all parts
+-- the part of one thread of a group takes from that of another one
+pub record IsTakeOf (c : Policy) (l : Layout) (t : Take) (m n : Member) : Type 0 where
+  pub taken : Contains l.takes.items t
+  pub from : IsOfGroup c m
+  pub to : IsOfGroup c n
+  pub here : part_at l.memory.items m.thread ≡ Some t.by
+  pub there : part_at l.memory.items n.thread ≡ Some t.of
+
+-- whatever else is a thread's group, in all parts that are closed around these threads a slot stands below one of a group that may not take
+-- from its own
+abbrev pub NoPartsStand : ProfileName → Policy → Layout → State → Type 0
+NoPartsStand p c l A =
+    (group_of : ℕ → Option ℕ) → NamesGroups c group_of → (others : Parts) → AreClosedAround p (callers p (shown A) (trusted_threads c)) A others →
+    StandBelowOnly group_of (may_take c) A.derivations others → ⊥
+
+-- where a line is told of such a use, of a part with threads of two groups, or of such a passage, the policy is broken by all parts; and
+-- so it is where one is told of a take
 abbrev pub WhatIsToldIsBroken : ProfileName → Policy → Layout → State → Type 0
 WhatIsToldIsBroken p c l A =
     IsReached p A → IsLayoutOf p c (shown A) l →
@@ -75,3 +94,4 @@ WhatIsToldIsBroken p c l A =
     × ((part : ℕ) → have_two_groups l.homes.items part part ≡ true → NoPartsKeep p c l A)
     × ((u r : PartUse) (m n : Member) (us : List PartUse) (ws : List Waiting) → IsPassageOf c l u r m n →
     is_passage_amiss c l (homes_joined c l (blocks c l)) us ws (passage_by c l u r) ≡ true → NoPartsKeep p c l A)
+    × ((t : Take) (m n : Member) → IsTakeOf c l t m n → is_take_amiss c l t ≡ true → NoPartsStand p c l A)

@@ -24,6 +24,7 @@ use Rattle.query_parts.specs.Listed.{part_at, parts_listed}
 use Rattle.query_parts.specs.Laws.{IsAllowed, MayUse}
 use Rattle.query_parts.specs.Ever.{AreConfinedEver}
 use Rattle.query_parts.specs.Least.{AreClosedAround, AreLeast}
+use Rattle.command_policy_laws.specs.Takes.{StandBelowOnly}
 
 -- the threads of a part have one group
 abbrev pub HaveOneGroup : (ℕ → Option ℕ) → Parts → Type 0
@@ -60,12 +61,15 @@ pub record KeepPolicy (p : ProfileName) (group_of : ℕ → Option ℕ) (is_live
   pub holds : HoldOnly p group_of is_live may_hold parts
   pub passes : PassOnly p group_of may_pass v parts
 
--- where some parts that are closed around the threads keep to a policy, the least parts do: what is written of these is so of all
+-- where some parts that are closed around the threads keep to a policy, the least parts do: what is written of these is so of all; and
+-- where in these no slot stands below one of a group that may not take from its own, none does in the least
 abbrev pub LeastKeepMost : ProfileName → List ℕ → List PartMemory → List PartUse → Shown → Type 0
 LeastKeepMost p threads memory uses v =
-    (group_of : ℕ → Option ℕ) (is_live : ℕ → Bool) (may_hold : ℕ → ℕ → Badge → Rights → Bool) (may_pass : ℕ → ℕ → Badge → ℕ → Bool) →
+    (group_of : ℕ → Option ℕ) (is_live : ℕ → Bool) (may_hold : ℕ → ℕ → Badge → Rights → Bool) (may_pass : ℕ → ℕ → Badge → ℕ → Bool)
+    (may_take : ℕ → ℕ → Bool) →
     AreLeast p threads memory uses v → (A : State) → IsReached p A → v ≡ shown A → (others : Parts) → AreClosedAround p threads A others →
-    KeepPolicy p group_of is_live may_hold may_pass v others → KeepPolicy p group_of is_live may_hold may_pass v (parts_listed memory uses)
+    (KeepPolicy p group_of is_live may_hold may_pass v others → KeepPolicy p group_of is_live may_hold may_pass v (parts_listed memory uses))
+    × (StandBelowOnly group_of may_take A.derivations others → StandBelowOnly group_of may_take A.derivations (parts_listed memory uses))
 
 -- a capability to a live endpoint is one that the group may hold
 abbrev pub IsHeld : (ℕ → Bool) → (ℕ → ℕ → Badge → Rights → Bool) → ℕ → Cap → Type 0

@@ -28,6 +28,8 @@ use Rattle.command_policy_breaches.specs.declared.held.Layout.{Layout}
 use Rattle.setup_policy.specs.declared.policy.Member.{Member}
 use Rattle.setup_policy.specs.declared.policy.OwnRegion.{OwnRegion}
 use Rattle.setup_policy.specs.declared.policy.Policy.{Policy}
+use Rattle.setup_policy.specs.declared.policy.PolicyTake.{PolicyTake}
+use Rattle.setup_policy.specs.declared.policy.PolicyVersion.TheVariants.{Two}
 use Rattle.setup_policy.specs.declared.policy.PolicyWay.{PolicyWay}
 use Rattle.command_policy_breaches.specs.Breaches.{range_lies_within, meets}
 use Rattle.command_policy_breaches.specs.Joins.{blocks, homes_joined, joins}
@@ -37,6 +39,7 @@ use Rattle.command_policy_breaches.specs.Ways.{passages}
 use Rattle.command_policy_text.specs.Texts.{breaches, text_and_verdict}
 use Rattle.command_policy_laws.specs.Grants.{HandsNothing}
 use Rattle.command_policy_laws.specs.Keeps.{AreSlotsHeld, KeepPolicy}
+use Rattle.command_policy_laws.specs.Takes.{TakesOnly}
 
 -- ---- whose an address is
 
@@ -104,6 +107,16 @@ is_way_of from endpoint badge to way = way.from == from && (way.endpoint == endp
 abbrev pub may_group_pass : Policy → ℕ → ℕ → Badge → ℕ → Bool
 may_group_pass c from endpoint badge to = list_any (is_way_of from endpoint badge.0 to) c.ways.items
 
+-- ---- who may take from whom
+
+-- an entry lets the one group take from the other
+abbrev pub may_take : Policy → ℕ → ℕ → Bool
+may_take c from to = list_any (λ (w : PolicyTake). w.from == from && w.to == to) c.takes.items
+
+-- whatever call a thread of a group makes: it leaves each slot of another group as it is, unless an entry lets the one take from the other
+abbrev pub AreTakesHeld : ProfileName → Policy → Layout → State → Type 0
+AreTakesHeld p c l A = (call : Call) → TakesOnly p l.memory.items (group_of l) (may_take c) A call
+
 -- every endpoint counts, also one that is made later
 abbrev pub any_endpoint : ℕ → Bool
 any_endpoint endpoint = true
@@ -121,6 +134,13 @@ abbrev pub WhatIsNotToldIsKept : ProfileName → Policy → Layout → Labels �
 WhatIsNotToldIsKept p c l n A =
     IsLayoutOf p c (shown A) l → breaches c l n (homes_joined c l (blocks c l)) (joins c l) (passages c l (blocks c l)) ≡ [] →
     AreNamed c l × KeepPolicy p (group_of l) any_endpoint (may_hold c l) (may_group_pass c) (shown A) (parts_listed l.memory.items l.uses.items)
+
+-- where no line of version 2 tells of a breach, groups take only from those from which an entry lets them, whatever is called before
+abbrev pub WhatIsNotToldIsNotTaken : ProfileName → Policy → Layout → Labels → State → Type 0
+WhatIsNotToldIsNotTaken p c l n A =
+    IsReached p A → IsLayoutOf p c (shown A) l → c.version ≡ Two →
+    breaches c l n (homes_joined c l (blocks c l)) (joins c l) (passages c l (blocks c l)) ≡ [] →
+    (calls : List Call) → Each (IsAllowed (parts_listed l.memory.items l.uses.items)) calls → AreTakesHeld p c l (state_after p A calls)
 
 -- each address of the object that a capability names, but of an endpoint, is of the group
 abbrev pub AreAddressesTheirs : ProfileName → Layout → ℕ → Cap → Type 0
@@ -148,8 +168,8 @@ HandNothingOut c l f =
     (slot thread j g h : ℕ) → group_of l slot ≡ Some g → group_of l thread ≡ Some h → part_at l.memory.items thread ≡ Some j → g ≢ h →
     HandsNothing l j (cap_at f slot)
 
--- what is so after some calls: what groups hold and what passes, their untyped regions, their objects, what their threads name, and what
--- they can hand over
+-- what is so after some calls: what groups hold and what passes, their untyped regions, their objects, what their threads name, what
+-- they can hand over, and, in version 2, whom they can take from
 abbrev pub AreKept : ProfileName → Policy → Layout → State → List Call → Type 0
 AreKept p c l A calls =
     AreSlotsHeld p (group_of l) any_endpoint (may_hold c l) (may_group_pass c) l.memory.items A calls
@@ -157,10 +177,11 @@ AreKept p c l A calls =
     × AreObjectsTheirs p l (state_after p A calls).derivations
     × AreNamesTheirs p l (state_after p A calls).derivations
     × HandNothingOut c l (state_after p A calls).derivations
+    × (c.version ≡ Two → AreTakesHeld p c l (state_after p A calls))
 
 -- what is promised where the verdict on a layout is `AllMet`, which is status 0: the threads that the policy names are of the groups that
 -- name them, and, whatever calls the threads of the parts make, and whatever messages other threads send and receive, the layout is held
--- to the policy, and objects and names of a group stay its own
+-- to the policy, and objects and names of a group stay its own; in version 2 each group takes only from those from which it may
 abbrev pub IsPromised : ProfileName → Policy → Layout → Labels → SetupView → List Reply → List ℕ → Type 0
 IsPromised p c l n setup replies text =
     (A : State) → IsReached p A → IsLayoutOf p c (shown A) l →

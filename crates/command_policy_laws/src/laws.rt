@@ -22,7 +22,7 @@ ghost use Rattle.command_policy_laws.specs.GrantsMet.{are_answered, are_given, A
 ghost use Rattle.command_policy_laws.specs.Held.{are_passages_let, AreWaysHeldEver};
 ghost use Rattle.command_policy_laws.specs.Keeps.{LeastKeepMost, WhatIsKeptIsHeld};
 ghost use Rattle.command_policy_laws.specs.Larger.{HoldNoLess};
-ghost use Rattle.command_policy_laws.specs.Unbroken.{IsPromised, WhatIsNotToldIsKept};
+ghost use Rattle.command_policy_laws.specs.Unbroken.{IsPromised, WhatIsNotToldIsKept, WhatIsNotToldIsNotTaken};
 
 /// Where parts are confined, and ways let pass all that the one part may send and the other receive, then, whatever calls the threads
 /// of the parts make, and whatever messages other threads send and receive: each message of a thread of the one that is delivered
@@ -63,7 +63,8 @@ pub fn larger_parts_hold_no_less()
 {}
 
 /// Where some parts that are closed around the threads keep to a policy, the least parts do. So a breach that is told of the least
-/// parts is one of every such family, and no smaller bound of this kind tells less.
+/// parts is one of every such family, and no smaller bound of this kind tells less. Where no slot of such parts stands below one of a
+/// group that may not take from its own, none of the least parts does.
 pub fn least_parts_keep_what_larger_keep()
     ensures { (p : ProfileName) (threads : List ℕ) (memory : List PartMemory) (uses : List PartUse) (v : Shown) →
         LeastKeepMost p threads memory uses v }
@@ -72,7 +73,7 @@ pub fn least_parts_keep_what_larger_keep()
 /// What is told as a breach is one of all parts that are closed around the threads which the policy does not trust, and no smaller bound
 /// of this kind is without it: where a line tells of a use in the part of a group's thread, of an endpoint in no part of this group, of
 /// threads of two groups in one part, or of a way by a use to send and a use to receive, no such parts keep the policy, whatever groups
-/// other threads have.
+/// other threads have. Where one tells of a take, in all such parts a slot stands below one of a group that may not take from its own.
 pub fn what_is_told_is_broken()
     ensures { (p : ProfileName) (c : Policy) (l : Layout) (A : State) → WhatIsToldIsBroken p c l A }
 {}
@@ -90,13 +91,21 @@ pub fn what_is_not_told_is_kept()
     ensures { (p : ProfileName) (c : Policy) (l : Layout) (n : Labels) (A : State) → WhatIsNotToldIsKept p c l n A }
 {}
 
+/// Where no line of the text tells of a breach of a policy of version 2, then, whatever calls the threads of the parts made before, and
+/// whatever messages other threads sent and received: no call of a thread of a group changes what a slot of another group holds, unless
+/// an entry of `take` is from the one to the other.
+pub fn what_is_not_told_is_not_taken_by_a_group()
+    ensures { (p : ProfileName) (c : Policy) (l : Layout) (n : Labels) (A : State) → WhatIsNotToldIsNotTaken p c l n A }
+{}
+
 /// Status 0 of `policy`. Where the verdict on a layout and a policy is `AllMet`, then, whatever calls the threads of the parts
 /// make, and whatever messages other threads send and receive: each capability to an endpoint in a slot of a group's part is one that
 /// the group's entries allow, with its badge and all its rights, or is to an endpoint in a region of the group or in its part's memory;
 /// each message that is delivered between threads of two groups passes by an endpoint and with a badge that a way allows; and each
 /// untyped region in a slot of a group's part lies in one of the group's regions. The threads that the policy names are of the groups that
 /// name them; threads, CNodes and regions in a group's slots are its own, and its threads name no slot of another group. Where Grant
-/// hands over capabilities, by no slot of a group's part can one be handed to the part of a thread of another group.
+/// hands over capabilities, by no slot of a group's part can one be handed to the part of a thread of another group. In version 2 no call
+/// of a thread of a group changes what a slot of another group holds, unless an entry of `take` is from the one to the other.
 pub fn what_status_0_promises()
     ensures { (p : ProfileName) (c : Policy) (l : Layout) (n : Labels) (setup : SetupView) (replies : List Reply) (text : List ℕ) →
         IsPromised p c l n setup replies text }
