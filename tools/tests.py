@@ -33,7 +33,7 @@ NOT_TRIED = "not tried: "
 # So many set-ups have all their orders made one by one, each by a run of the program.
 FEW_ORDERS = "16"
 # The rows that take longest begin first.
-LONG = ("orders_one_by_one", "hostile_texts", "commands.py", "drafts", "random_policies")
+LONG = ("orders_one_by_one", "hostile_texts", "commands.py", "drafts", "random_policies", "random_takes", "imports.py")
 
 
 def ran(words, **how):
