@@ -14,7 +14,7 @@ abbrev pub IsTextOfTable : Option Members → List ℕ → Verdict → Type 0
 IsTextOfTable (Some table) text verdict = (document_of text ≡ Ok table) × (verdict ≡ AllMet)
 IsTextOfTable None text verdict = (text ≡ []) × (verdict ≡ Absent)
 
--- of the set-up that makes the calls of a witness, or of none where no order is known for it
+-- of the set-up that makes the calls of a witness, or of none if no order is known for it
 abbrev pub IsExploreWitness : ℕ → ℕ → Witness → ProfileName → ReadView → List ℕ → Verdict → Type 0
 IsExploreWitness first states witness p read text verdict =
     IsTextOfTable (witness_of p read.setup first states witness read.table) text verdict

@@ -32,7 +32,7 @@ pub record ComesTo (layout : Layout) (text : List ℕ) : Type 0 where
 abbrev pub IsSetUpOf : Layout → List ℕ → Type 0
 IsSetUpOf layout text = ComesTo layout text × ((rest : List ℕ) × (text ≡ listing_lines (codes "# ") layout ++ rest))
 
--- such a text of some layout that is read as it is asked for; or, where that is asked for, the listing of one
+-- such a text of some layout that is read as it is asked for; or, if that is asked for, the listing of one
 abbrev pub IsImportText : Reading → Bool → List ℕ → Type 0
 IsImportText reading false text = (layout : Layout) × (IsReadAs reading layout × IsSetUpOf layout text)
 IsImportText reading true text = (layout : Layout) × (IsReadAs reading layout × (text ≡ listing_lines [] layout))
@@ -49,7 +49,7 @@ IsImported reading listing text NotMet = ⊥
 IsImported reading listing text Refused = IsRefusal text
 IsImported reading listing text Absent = text ≡ []
 
--- what is written where the capDL text of an input is asked for: capDL text as it is; and only its line, if the layout has faults
+-- what is written if the capDL text of an input is asked for: capDL text as it is; and only its line, if the layout has faults
 abbrev pub IsLayoutText : List ℕ → List ℕ → Verdict → Type 0
 IsLayoutText input text AllMet = language_of input ≡ Capdl → text ≡ input
 IsLayoutText input text NotMet = ⊥

@@ -198,7 +198,7 @@ abbrev pub job_of : Option (Text × List Row) → Option Job
 job_of None = Some Check
 job_of (Some met) = job_named met.0
 
--- the file of the command's own matches, or that of the subcommand's, which goes first where it has one
+-- the file of the command's own matches, or that of the subcommand's, which goes first if it has one
 abbrev pub file_of : List Row → Option (Text × List Row) → Option Text
 file_of above None = first_of (codes "FILE") above
 file_of above (Some met) = option_or (first_of (codes "FILE") met.1) (first_of (codes "FILE") above)

@@ -15,16 +15,16 @@ use Rattle.command_marks.specs.Answers.{answers_verdict, asked_count, right_coun
 use Rattle.command_marks.specs.Differences.{differs_text}
 use Rattle.command_marks.specs.Marks.{mark_of, marks_of, numbers_of}
 
--- the marks of a set-up are those that its report shows: right where it says that an expectation is met
+-- the marks of a set-up are those that its report shows: right if it says that an expectation is met
 pub record AreThoseOfTheReport : Type 0 where
-  -- a call is right exactly where the report says ` [met]` of it
+  -- a call is right exactly if the report says ` [met]` of it
   pub right : (expected reply : List ℕ) → (mark_of (Some expected) reply ≡ Right) ↔ (expectation_text (Some expected) reply ≡ codes " [met]")
   -- as many are right as the report counts
   pub count : (calls : List CallView) (replies : List Reply) → length (numbers_of Right 1 (marks_of calls replies)) ≡ met_count calls replies
   -- of a reply a mark tells nothing but whether it is as expected
   pub blind : (expected one other : List ℕ) → begins_as one expected ≡ begins_as other expected → mark_of (Some expected) one ≡ mark_of (Some expected) other
 
--- by an exercise an answer is right exactly where the report says ` [met]` of it and it says as much as is asked for
+-- by an exercise an answer is right exactly if the report says ` [met]` of it and it says as much as is asked for
 abbrev pub AreThoseOfTheExercise : Type 0
 AreThoseOfTheExercise =
     (question answer : List ℕ) (reply : Reply) → (mark_by_question (Some question) (Some answer) reply ≡ Right)
@@ -49,7 +49,7 @@ pub record IsAllRight (exercise : List ℕ) (contents : Option (List ℕ)) : Typ
   pub same : is_same asked.setup given.setup ≡ true
   pub right : right_count (marks_between asked given) ≡ asked_count (marks_between asked given)
 
--- `marks --of` ends with status 0 exactly where each file is such a one
+-- `marks --of` ends with status 0 exactly if each file is such a one
 abbrev pub EndsByTheMarks : Type 0
 EndsByTheMarks =
     (exercise : List ℕ) (files : List (Option (List ℕ)))

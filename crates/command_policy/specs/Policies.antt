@@ -77,7 +77,7 @@ pub record IsPolicyMeantBehind (p : ProfileName) (names : Names) (setup : SetupV
   pub labels : AreLabels p names setup.plan (shown (state_behind p setup made)) j.labels
 
 -- the text and the verdict of the policy that a text is, held to the state behind the first calls: as many as are asked for on the command line,
--- or else as the policy says, where it says how many
+-- or else as the policy says, if it says how many
 pub record IsHeldText (policy : List ℕ) (p : ProfileName) (read : ReadView) (after : Option ℕ) (text : List ℕ) (verdict : Verdict) : Type 0 where
   pub file : PolicyFile
   pub says : IsPolicyText policy file

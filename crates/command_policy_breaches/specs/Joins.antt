@@ -39,7 +39,7 @@ joins_from l endpoint from = map (join_from from endpoint) (filter (is_joined_by
 abbrev pub joins_on : Layout → ℕ → List Join
 joins_on l endpoint = flat_map (joins_from l endpoint) l.parts.items
 
--- the joins of all parts, by all endpoints; none where Grant hands over nothing
+-- the joins of all parts, by all endpoints; none if Grant hands over nothing
 abbrev pub joins : Policy → Layout → List Join
 joins c l = cond c.grant (flat_map (joins_on l) l.endpoints.items) []
 

@@ -31,7 +31,7 @@ pub record IsAuditKept (policy : List ℕ) (after : Option ℕ) (p : ProfileName
   pub kept : (calls : List Call) → Each (IsAllowed (parts_listed judged.layout.memory.items judged.layout.uses.items)) calls
       → AreKept p judged.policy judged.layout (state_behind p read.setup made) calls
 
--- where a set-up has a plan and `policy` ends with status 0, the policy is kept, whatever is called
+-- if a set-up has a plan and `policy` ends with status 0, the policy is kept, whatever is called
 abbrev pub WhatAuditPolicyPromises : List ℕ → Option ℕ → ProfileName → ReadView → List ℕ → Type 0
 WhatAuditPolicyPromises policy after p read text =
     IsPlan p read.setup.plan → IsPolicyOf policy after p read text AllMet → IsAuditKept policy after p read

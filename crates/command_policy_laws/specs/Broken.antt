@@ -85,7 +85,7 @@ NoPartsStand p c l A =
     (group_of : ℕ → Option ℕ) → NamesGroups c group_of → (others : Parts) → AreClosedAround p (callers p (shown A) (trusted_threads c)) A others →
     StandBelowOnly group_of (may_take c) A.derivations others → ⊥
 
--- where a line is told of such a use, of a part with threads of two groups, or of such a passage, the policy is broken by all parts; and
+-- if a line is told of such a use, of a part with threads of two groups, or of such a passage, the policy is broken by all parts; and
 -- so it is where one is told of a take
 abbrev pub WhatIsToldIsBroken : ProfileName → Policy → Layout → State → Type 0
 WhatIsToldIsBroken p c l A =

@@ -44,7 +44,7 @@ HandNothingEver p l v i j =
     (A : State) → IsReached p A → v ≡ shown A → (calls : List Call) → Each (IsAllowed (parts_listed l.memory.items l.uses.items)) calls →
     (slot : ℕ) → part_at l.memory.items slot ≡ Some i → HandsNothing l j (cap_at (state_after p A calls).derivations slot)
 
--- where Grant hands over capabilities: what is joined is closed, and no part ever hands one to a part with another number
+-- if Grant hands over capabilities: what is joined is closed, and no part ever hands one to a part with another number
 abbrev pub WhatIsJoinedIsClosed : ProfileName → Policy → Layout → Shown → Type 0
 WhatIsJoinedIsClosed p c l v =
     IsLayoutOf p c v l → c.grant ≡ true →

@@ -61,8 +61,8 @@ pub record KeepPolicy (p : ProfileName) (group_of : ℕ → Option ℕ) (is_live
   pub holds : HoldOnly p group_of is_live may_hold parts
   pub passes : PassOnly p group_of may_pass v parts
 
--- where some parts that are closed around the threads keep to a policy, the least parts do: what is written of these is so of all; and
--- where in these no slot stands below one of a group that may not take from its own, none does in the least
+-- if some parts that are closed around the threads keep to a policy, the least parts do: what is written of these is so of all; and
+-- if in these no slot stands below one of a group that may not take from its own, none does in the least
 abbrev pub LeastKeepMost : ProfileName → List ℕ → List PartMemory → List PartUse → Shown → Type 0
 LeastKeepMost p threads memory uses v =
     (group_of : ℕ → Option ℕ) (is_live : ℕ → Bool) (may_hold : ℕ → ℕ → Badge → Rights → Bool) (may_pass : ℕ → ℕ → Badge → ℕ → Bool)

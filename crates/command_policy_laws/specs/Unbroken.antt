@@ -1,4 +1,4 @@
--- What a policy lets groups hold and send, and that it is so ever where no line tells of a breach.
+-- What a policy lets groups hold and send, and that it is so ever if no line tells of a breach.
 use Rattle.std.specs.Prelude.{◌≡◌, ◌≢◌, ◌≤◌, ◌<◌, ⊤, ℕ, ◌==◌, ◌&&◌, ◌||◌, Bool, true, not, List, [], Option, Some, None, option_map, find}
 use Rattle.std.specs.List.{list_any, Contains, AllByRecursion as Each}
 use Rattle.cap_core.specs.declared.profile.ProfileName.{ProfileName}
@@ -129,13 +129,13 @@ AreNamed c l =
     (m : Member) (part : ℕ) → Contains c.members.items m → Contains c.groups.items m.actor → part_at l.memory.items m.thread ≡ Some part →
     group_of l m.thread ≡ Some m.actor
 
--- where no line tells of a breach, threads are of the groups that name them, and the parts keep the policy
+-- if no line tells of a breach, threads are of the groups that name them, and the parts keep the policy
 abbrev pub WhatIsNotToldIsKept : ProfileName → Policy → Layout → Labels → State → Type 0
 WhatIsNotToldIsKept p c l n A =
     IsLayoutOf p c (shown A) l → breaches c l n (homes_joined c l (blocks c l)) (joins c l) (passages c l (blocks c l)) ≡ [] →
     AreNamed c l × KeepPolicy p (group_of l) any_endpoint (may_hold c l) (may_group_pass c) (shown A) (parts_listed l.memory.items l.uses.items)
 
--- where no line of version 2 tells of a breach, groups take only from those from which an entry lets them, whatever is called before
+-- if no line of version 2 tells of a breach, groups take only from those from which an entry lets them, whatever is called before
 abbrev pub WhatIsNotToldIsNotTaken : ProfileName → Policy → Layout → Labels → State → Type 0
 WhatIsNotToldIsNotTaken p c l n A =
     IsReached p A → IsLayoutOf p c (shown A) l → c.version ≡ Two →
@@ -161,7 +161,7 @@ AreObjectsTheirs p l f = (slot group : ℕ) → group_of l slot ≡ Some group �
 abbrev pub AreNamesTheirs : ProfileName → Layout → Forest Entry → Type 0
 AreNamesTheirs p l f = (thread slot group : ℕ) → group_of l thread ≡ Some group → Names p f thread slot → group_of l slot ≡ Some group
 
--- where Grant hands over capabilities: by nothing in a slot of a group's part can one be handed to the part of a thread of another group
+-- if Grant hands over capabilities: by nothing in a slot of a group's part can one be handed to the part of a thread of another group
 abbrev pub HandNothingOut : Policy → Layout → Forest Entry → Type 0
 HandNothingOut c l f =
     c.grant ≡ true →
@@ -179,7 +179,7 @@ AreKept p c l A calls =
     × HandNothingOut c l (state_after p A calls).derivations
     × (c.version ≡ Two → AreTakesHeld p c l (state_after p A calls))
 
--- what is promised where the verdict on a layout is `AllMet`, which is status 0: the threads that the policy names are of the groups that
+-- what is promised if the verdict on a layout is `AllMet`, which is status 0: the threads that the policy names are of the groups that
 -- name them, and, whatever calls the threads of the parts make, and whatever messages other threads send and receive, the layout is held
 -- to the policy, and objects and names of a group stay its own; in version 2 each group takes only from those from which it may
 abbrev pub IsPromised : ProfileName → Policy → Layout → Labels → SetupView → List Reply → List ℕ → Type 0

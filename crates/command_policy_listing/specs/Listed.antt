@@ -13,7 +13,7 @@ use Rattle.command_policy.specs.Policies.{IsPast, IsPolicyMeantBehind, IsPolicyR
 use Rattle.command_policy_listing.specs.Listing.{listing_text}
 
 -- the listing is of the policy that the text means in the state behind the first calls: as many as are asked for on the command line, or
--- else as the policy says, where it says how many
+-- else as the policy says, if it says how many
 pub record IsListed (policy : List ℕ) (p : ProfileName) (read : ReadView) (after : Option ℕ) (text : List ℕ) (verdict : Verdict) : Type 0 where
   pub file : PolicyFile
   pub says : IsPolicyText policy file

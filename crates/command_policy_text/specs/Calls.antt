@@ -1,4 +1,4 @@
--- The calls that were refused where nothing was expected, or answered otherwise than expected.
+-- The calls that were refused if nothing was expected, or answered otherwise than expected.
 use Rattle.std.specs.Prelude.{codes, ℕ, ◌+◌, Bool, true, false, cond, List, [], ◌∷◌, ◌++◌, Option, Some, None}
 use Rattle.std.specs.Fmt.{decimal}
 use Rattle.kernel_abstract.specs.declared.call.Call.{Call}
@@ -35,7 +35,7 @@ abbrev pub call_breach : ℕ → Call → Option (List ℕ) → Reply → List (
 call_breach number call None reply = refused number call reply
 call_breach number call (Some expected) reply = unmet number call expected reply
 
--- a line for each call, from one number on, that was refused where nothing was expected, or answered otherwise than expected
+-- a line for each call, from one number on, that was refused if nothing was expected, or answered otherwise than expected
 abbrev pub call_breaches : ℕ → List CallView → List Reply → List (List ℕ)
 call_breaches number [] replies = []
 call_breaches number (call ∷ calls) [] = []

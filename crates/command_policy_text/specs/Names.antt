@@ -16,7 +16,7 @@ abbrev pub labelled : ℕ → Option (List ℕ) → List ℕ
 labelled base None = decimal base
 labelled base (Some label) = codes "@" ++ label
 
--- the name of the object at an address, where it has one
+-- the name of the object at an address, if it has one
 abbrev pub label_of : List Label → ℕ → Option (List ℕ)
 label_of labels base = option_map (λ (l : Label). string_bytes l.text) (find (λ (l : Label). l.base == base) labels)
 

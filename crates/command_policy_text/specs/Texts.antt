@@ -111,7 +111,7 @@ counts c l n hs js ws setup replies = record {
   unused = length (unused c l n hs);
 }
 
--- the policy is kept where nothing is told of a breach
+-- the policy is kept if nothing is told of a breach
 abbrev pub verdict_by_count : ℕ → Verdict
 verdict_by_count breaches = cond (breaches == 0) AllMet NotMet
 
@@ -123,7 +123,7 @@ text c l n hs js ws setup replies =
     policy_head_line c.version setup (length replies) ++ (all_lines_text (first_lines c l n hs) ++ (all_lines_text (calls_breached c setup replies)
     ++ (all_lines_text (breaches c l n hs js ws) ++ (all_lines_text (unused c l n hs) ++ last_line c.version (counts c l n hs js ws setup replies)))))
 
--- the text of a layout that is held to a policy, and the verdict: `AllMet` exactly where no line tells of a breach
+-- the text of a layout that is held to a policy, and the verdict: `AllMet` exactly if no line tells of a breach
 unfoldable pub text_and_verdict : Policy → Layout → Labels → List Home → List Join → List Passage → SetupView → List Reply → List ℕ × Verdict
 text_and_verdict c l n hs js ws setup replies =
     (text c l n hs js ws setup replies, verdict_by_count (breach_count c l n hs js ws setup replies))

@@ -20,7 +20,7 @@ report_lines texts number (call ∷ calls) [] = []
 report_lines texts number (call ∷ calls) (reply ∷ replies) =
     terminated (call_text texts number call.call reply call.expect) ∷ report_lines texts (number + 1) calls replies
 
--- what a trace says of each call below that line: its words, their ways where these are asked for, why it is refused, and what it changed
+-- what a trace says of each call below that line: its words, their ways if these are asked for, why it is refused, and what it changed
 abbrev pub call_details : Bool → Texts → ProfileName → Members → ℕ → State → Call → List ℕ
 call_details ways texts p table i A call =
     words_line call.op ++ (ways_asked ways texts p (shown A) call ++ (why_text (why_at texts p table i A call) ++ told_changes (told_lines texts p (shown A)) (told_lines texts p (shown (step p A call).state))))

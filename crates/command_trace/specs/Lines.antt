@@ -21,7 +21,7 @@ use Rattle.setup_report.specs.Report.{endpoint_text, first_sends, threads_at}
 abbrev pub Lines : Type 0
 Lines = List (ℕ × List ℕ)
 
--- the line of an address, where it has one
+-- the line of an address, if it has one
 abbrev pub address_line : ℕ → Option (List ℕ) → Lines
 address_line address None = []
 address_line address (Some text) = (address, text) ∷ []

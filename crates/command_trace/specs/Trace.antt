@@ -1,5 +1,5 @@
 -- A trace: what the boot gives and what each call changes, told by how the states before and after differ, and why a call
--- is refused; where it is asked for, also the way of each word of a call. Objects and slots stand as `texts` tells them, the same in the whole of it.
+-- is refused; if it is asked for, also the way of each word of a call. Objects and slots stand as `texts` tells them, the same in the whole of it.
 use Rattle.std.specs.Prelude.{codes, ℕ, ◌+◌, Bool, List, [], ◌∷◌, ◌++◌, length, Option, None, Some}
 use Rattle.std.specs.Fmt.{decimal}
 use Rattle.toml.specs.Data.{Members}
@@ -51,7 +51,7 @@ traced_call_lines texts number call reply ways why old new =
 abbrev pub why_at : Texts → ProfileName → Members → ℕ → State → Call → Option (List ℕ)
 why_at texts p table i A call = reason_lines_of texts p (shown A) (record { call = call; table = call_table table i })
 
--- the calls of a set-up that its table spells, from the place `i` and from a state on, with the ways of their words where these are asked for
+-- the calls of a set-up that its table spells, from the place `i` and from a state on, with the ways of their words if these are asked for
 unfoldable pub traced_calls_lines : Bool → Texts → ProfileName → Members → ℕ → State → List CallView → List ℕ
 traced_calls_lines ways texts p table i A [] = []
 traced_calls_lines ways texts p table i A (call ∷ calls) =

@@ -23,7 +23,7 @@ pub record IsSeenAlike (p : ProfileName) (own lone : List (List Call)) (has : �
   pub ends : (order : List ℕ) → filter (λ (a : Answered). has a.client) (end_answers own v order) ≡ filter (λ (a : Answered). has a.client) (end_answers lone u order)
   pub left : filter (λ (c : LeftCall). has c.client) (left_calls own v.made (shown v.kernel)) ≡ filter (λ (c : LeftCall). has c.client) (left_calls lone u.made (shown u.kernel))
 
--- the first calls come to the same where of the other clients no more calls are kept than these
+-- the first calls come to the same if of the other clients no more calls are kept than these
 abbrev pub BeginsAlike : ProfileName → List (List Call) → State → List ℕ → (ℕ → Bool) → Type 0
 BeginsAlike p own A first has =
     let w = world_after p own (start own A) first in
@@ -65,7 +65,7 @@ pub record IsLeft (p : ProfileName) (own : List (List Call)) (A : State) (first 
   pub ends : is_end own (world_after p own (start own A) order) ≡ true
   pub left_are : left_calls own (world_after p own (start own A) order).made (shown (world_after p own (start own A) order).kernel) ≡ left
 
--- the first calls tell the same where of the other clients no more calls are kept than these
+-- the first calls tell the same if of the other clients no more calls are kept than these
 abbrev pub FirstTellTheSame : ProfileName → List (List Call) → State → List ℕ → (ℕ → Bool) → Type 0
 FirstTellTheSame p own A first has =
     let lone = alone own (world_after p own (start own A) first).made has in

@@ -30,7 +30,7 @@ calls_of_orders p own w (client ∷ order) = made_by client (next_client_call ow
 abbrev pub calls_of : ℕ → List (ℕ × Call) → List Call
 calls_of client calls = map (λ (call : ℕ × Call). call.1) (filter (λ (call : ℕ × Call). call.0 == client) calls)
 
--- where no calls are left, those of each client are its own
+-- if no calls are left, those of each client are its own
 abbrev pub IsShuffle : ProfileName → List (List Call) → State → List ℕ → Type 0
 IsShuffle p own A order =
     has_calls_left own (world_after p own (start own A) order) ≡ false →

@@ -12,6 +12,6 @@ pub record IsSameState (v w : World) : Type 0 where
   pub waits : v.waits ≡ w.waits
   pub shows : shown v.kernel ≡ shown w.kernel
 
--- two orders are taken together where they lead to the same state, and nowhere else
+-- two orders are taken together if they lead to the same state, and nowhere else
 abbrev pub AreTakenTogether : ProfileName → List (List Call) → World → List ℕ → List ℕ → Type 0
 AreTakenTogether p own w order order' = (lead_alike p own w order order' ≡ true) ↔ IsSameState (world_after p own w order) (world_after p own w order')

@@ -37,7 +37,7 @@ is_ready (Some Inactive) = false
 is_ready (Some (Sending endpoint)) = false
 is_ready (Some (Receiving endpoint)) = false
 
--- a client can make its next call where it has one and that call's thread is ready
+-- a client can make its next call if it has one and that call's thread is ready
 abbrev pub can_be_made : Shown → Option Call → Bool
 can_be_made v None = false
 can_be_made v (Some call) = is_ready (state_at v call.thread)

@@ -38,6 +38,6 @@ counts_all Capdl = false
 counts_all SystemFile = true
 counts_all CapdlJson = false
 
--- how a layout with these bytes is read: each object counts where that is asked for, and in a `.system` file, if not the contrary is
+-- how a layout with these bytes is read: each object counts if that is asked for, and in a `.system` file, if not the contrary is
 abbrev pub reading_of : Reading → List ℕ → Reading
 reading_of reading bytes = record reading { flows = reading.flows || (counts_all (language_of bytes) && not reading.plain) }
