@@ -311,7 +311,7 @@ abbrev pub is_rights : Option Text → Bool
 is_rights None = true
 is_rights (Some text) = bytes_eq text (codes "all") || bytes_eq text (codes "least")
 
--- the least rights are asked for, where a `.system` file says none
+-- the least rights are asked for, if a `.system` file says none
 abbrev pub takes_least : Options → Bool
 takes_least options = says_least (option_map (λ s. s.now) options.rights)
 

@@ -129,6 +129,6 @@ is_region_of l own r = range_lies_within r.base r.bits own.base own.bits && is_i
 abbrev pub is_region_used : Layout → OwnRegion → Bool
 is_region_used l own = list_any (is_region_of l own) l.regions.items
 
--- how many parts the threads of a group are, where those that Grant joins count as one; `homes` are those of the joined parts
+-- how many parts the threads of a group are, if those that Grant joins count as one; `homes` are those of the joined parts
 abbrev pub count_of_parts : List Home → ℕ → ℕ
 count_of_parts homes group = count_by (λ (h : Home). h.group == group) homes

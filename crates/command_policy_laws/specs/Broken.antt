@@ -86,7 +86,7 @@ NoPartsStand p c l A =
     StandBelowOnly group_of (may_take c) A.derivations others → ⊥
 
 -- if a line is told of such a use, of a part with threads of two groups, or of such a passage, the policy is broken by all parts; and
--- so it is where one is told of a take
+-- so it is if one is told of a take
 abbrev pub WhatIsToldIsBroken : ProfileName → Policy → Layout → State → Type 0
 WhatIsToldIsBroken p c l A =
     IsReached p A → IsLayoutOf p c (shown A) l →

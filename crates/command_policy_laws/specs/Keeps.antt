@@ -90,7 +90,7 @@ pub record AreSlotsHeld (p : ProfileName) (group_of : ℕ → Option ℕ) (is_li
       IsHeld is_live may_hold g (cap_at (state_after p A calls).derivations slot)
   pub deliveries : Each (TellsPassed memory group_of may_pass) (replies_of p A calls)
 
--- where confined parts keep to a policy, it is held to, whatever calls the threads of the parts make
+-- if confined parts keep to a policy, it is held to, whatever calls the threads of the parts make
 abbrev pub WhatIsKeptIsHeld : ProfileName → List PartMemory → List PartUse → Shown → Type 0
 WhatIsKeptIsHeld p memory uses v =
     (group_of : ℕ → Option ℕ) (is_live : ℕ → Bool) (may_hold : ℕ → ℕ → Badge → Rights → Bool) (may_pass : ℕ → ℕ → Badge → ℕ → Bool) →
