@@ -98,7 +98,7 @@ def read(source):
     """Returns the bytes of a file of the repository, or of the module that the page has in it."""
     with open(os.path.join(TOP, PAGE if source == MODULE else source), "rb") as file:
         text = file.read()
-    return gzip.decompress(base64.b64decode(re.search(rb'"module": "([^"]*)"', text)[1])) if source == MODULE else text
+    return gzip.decompress(base64.b64decode(re.search(rb'<script type="text/plain" id="module">([^<]*)</script>', text)[1])) if source == MODULE else text
 
 
 def page_commit():

@@ -2,7 +2,8 @@
 """build.py [--check | --draft FILE]: writes web/site/sel4sim.html, the proved program as a page of one file.
 
 The page has in it the program's WebAssembly module (module.py), the page of a trace (web/page/join.py), the editor
-CodeMirror as Debian packs it, the worked set-ups, and the modules in source/, joined as the page of a trace is. It
+CodeMirror as Debian packs it, the worked set-ups, and the modules in source/, joined as the page of a trace is. The
+scripts stand in it as they are; the WebAssembly module is packed, and so are all texts that the scripts read. It
 tells the last commit of what it is made of, and the toolchain's line; where these files are not as committed, it says
 so. The same commit gives the same bytes.
 
@@ -167,7 +168,7 @@ def taken():
     """Returns the same two as the page has them that was made last."""
     made = SITE.read_text()
     toolchain = re.search(r'<meta name="sel4sim-toolchain" content="([^"]*)">', made)[1]
-    return re.search(r'"module": "([^"]*)"', made)[1], toolchain
+    return re.search(r'<script type="text/plain" id="module">([^<]*)</script>', made)[1], toolchain
 
 
 def taken_editor():
@@ -177,11 +178,10 @@ def taken_editor():
     return style, re.search(r"<script>(.*?)</script>", made, re.S)[1]
 
 
-def data(module):
-    """Returns what the page's script reads, as JSON that ends no element of a page."""
-    told = {"module": module, "worker": (SOURCE / "worker.mjs").read_text(), "viewer": packed(join.viewer().encode()), "rules": RULES.read_text(),
-            "topics": topics()}
-    return json.dumps(told, ensure_ascii=False).replace("<", "\\u003c")
+def data():
+    """Returns what the page's script reads, but for the module: JSON, packed."""
+    told = {"worker": (SOURCE / "worker.mjs").read_text(), "viewer": join.viewer(), "rules": RULES.read_text(), "topics": topics()}
+    return packed(json.dumps(told, ensure_ascii=False).encode())
 
 
 def policy(style, *scripts):
@@ -200,7 +200,7 @@ def page(made_of, module, toolchain, editor_style, codemirror):
     style = "\n" + "".join([*((join.SOURCE / it).read_text() for it in before), editor_style, *((SOURCE / it).read_text() for it in behind)])
     style, codemirror, script = join.harmless(style, codemirror, join.joined(SOURCE / "page.mjs", apart=("worker.mjs",)))
     return join.filled((SOURCE / "page.html").read_text(), policy=policy(style, codemirror, script), style=style,
-                       version=newest_version(TOP), commit=made_of, toolchain=toolchain, data=data(module), codemirror=codemirror, script=script)
+                       version=newest_version(TOP), commit=made_of, toolchain=toolchain, module=module, data=data(), codemirror=codemirror, script=script)
 
 
 def draft():

@@ -8,7 +8,7 @@ import { Exercise } from "./exercise.mjs";
 import { Lecture } from "./lecture.mjs";
 import { Options } from "./options.mjs";
 import { PageKeys } from "./page_keys.mjs";
-import { Program, STOPPED, unpacked } from "./program.mjs";
+import { Program, STOPPED, compiled, unpacked } from "./program.mjs";
 import { Steps } from "./steps.mjs";
 import { POLICY, REPORT, STEPS, TABS } from "./tabs.mjs";
 import { Policy, isPolicy } from "./policy.mjs";
@@ -41,7 +41,7 @@ class Page {
   constructor(data) {
     this.data = data;
     this.markup = (text) => URLS.createHTML(text);
-    this.viewer = unpacked(data.viewer).then((bytes) => this.markup(decoded(bytes)));
+    this.viewer = this.markup(data.viewer);
     this.keys = new PageKeys(this);
     this.runs = new Runs(this);
     this.answers = new Answers(this);
@@ -485,8 +485,10 @@ class Page {
   }
 }
 
-function start() {
-  const page = new Page(JSON.parse(byId("data").textContent));
+/** Begins once what the page has packed is unpacked; until then the program's module is compiled already. */
+async function start() {
+  const module = compiled(byId("module").textContent);
+  const page = new Page({ module, ...JSON.parse(await unpacked(byId("data").textContent)) });
   for (const name of ["version", "commit", "toolchain"]) {
     byId(name).textContent = document.querySelector(`meta[name="sel4sim-${name}"]`).content;
   }

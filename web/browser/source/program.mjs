@@ -11,17 +11,24 @@ const WAYS = "--ways";
 /** What a run that was stopped gives in place of an answer. */
 export const STOPPED = Symbol("stopped");
 
-/** The bytes of a text that was packed by gzip and base64. */
-export async function unpacked(text) {
-  const packed = Uint8Array.from(atob(text), (letter) => letter.charCodeAt(0));
-  const stream = new Blob([packed]).stream().pipeThrough(new DecompressionStream("gzip"));
-  return new Uint8Array(await new Response(stream).arrayBuffer());
+/** What a text has in it that was packed by gzip and base64, as a stream. */
+function streamOf(text) {
+  const letters = atob(text);
+  const packed = new Uint8Array(letters.length);
+  for (let at = 0; at < letters.length; at += 1) packed[at] = letters.charCodeAt(at);
+  return new Blob([packed]).stream().pipeThrough(new DecompressionStream("gzip"));
 }
 
-/** Runs the module `packed` by the worker's script `script`; `urls` makes addresses that the page's policy lets pass. */
+/** The text that was packed so. */
+export const unpacked = (text) => new Response(streamOf(text)).text();
+
+/** The module that was packed so: it is compiled while it is unpacked. */
+export const compiled = (text) => WebAssembly.compileStreaming(new Response(streamOf(text), { headers: { "Content-Type": "application/wasm" } }));
+
+/** Runs a module, which may still be on its way, by the worker's script `script`; `urls` makes addresses that the page's policy lets pass. */
 export class Program {
-  constructor(packed, script, urls) {
-    this.module = unpacked(packed).then((bytes) => WebAssembly.compile(bytes));
+  constructor(module, script, urls) {
+    this.module = module;
     this.address = urls.createScriptURL(URL.createObjectURL(new Blob([script], { type: "text/javascript" })));
     this.worker = null;
     this.give = null;

@@ -2,21 +2,17 @@
 import { element } from "../../page/source/element.mjs";
 
 export class Steps {
-  /** `viewer` gives the page of the trace, once it is unpacked. `listen` is told the frame when its page is there, and `shown` the number of
+  /** `viewer` is the page of the trace. `listen` is told the frame when its page is there, and `shown` the number of
       each call that it shows. Where there is `asked`, a call can be asked for there: it is told what is to be done with it. */
   constructor({ viewer, title, listen, shown, asked }) {
     this.frame = element("iframe", { title });
+    this.frame.srcdoc = viewer;
     this.told = null;
     this.loaded = null;
     this.frame.addEventListener("load", () => {
-      // Before its page is unpacked an empty one is loaded.
-      if (!this.frame.srcdoc) return;
       this.loaded = this.frame.contentWindow;
       listen(this.frame);
       this.tell(this.told);
-    });
-    viewer.then((page) => {
-      this.frame.srcdoc = page;
     });
     window.addEventListener("message", ({ source, data }) => {
       if (source !== this.frame.contentWindow) return;

@@ -241,10 +241,7 @@ def typing(test, _):
     kept = browser.value("sel4sim.page.editor.text")
     test.open()
     test.wanted(browser.value("sel4sim.page.editor.text") == kept, "a reload does not keep the set-up")
-    browser.value("document.getElementById('share').click()")
-    time.sleep(0.3)
-    address = browser.value("document.getElementById('address').value")
-    browser.value("document.getElementById('shared').close()")
+    address = nothing_lost.address_of(test)
     browser.value("sel4sim.page.openExample('examples', 'two_clients_by_badge')")
     test.settle()
     test.open("#" + address.split("#")[1])
@@ -634,9 +631,8 @@ def in_firefox(program, folder, stored):
                 test.compare(f"firefox, {name}", words, name, text, {key: it for key, it in answer.items() if it is not None})
         browser.value("document.getElementById('tab-steps').click()")
         test.settle()
-        time.sleep(0.5)
-        inside = "document.querySelector('#panel-steps iframe').contentDocument"
-        test.wanted("2 calls" in browser.value(f"{inside}.getElementById('position').textContent"), "firefox: no steps")
+        inside = "document.querySelector('#panel-steps iframe')?.contentDocument"
+        test.until(f"{inside}?.getElementById('position')?.textContent.includes('2 calls')", "firefox: no steps")
         browser.value("sel4sim.page.editor.text = 'format = 2\\nlable = 1\\n'")
         test.settle()
         test.wanted(browser.value("document.querySelectorAll('.faulty').length") == 1, "firefox: a fault is not marked")

@@ -1,12 +1,35 @@
-"""The first minute on the page: what it is for, where to begin, and what is not given away."""
+"""The first minute on the page: how soon it is there, what it is for, where to begin, and what is not given away."""
 import json
+import os
 
 import sheets
 from nothing_lost import FRAME, INSIDE
-from tester import pick
+from tester import FORGET, pick
 
 FOUND = "[...document.querySelectorAll('#found h3')].map((it) => it.textContent)"
 GROUPS = "[...document.querySelectorAll('#examples optgroup')].map((it) => it.label)"
+
+
+MOST_BYTES = 2_600_000
+LOADS = 5
+# When the first call is drawn, in milliseconds since the page was asked for.
+FIRST_DRAWN = f"""(async () => {{
+  const isDrawn = () => {FRAME}?.contentDocument?.getElementById('position')?.textContent === 'call 1 of 2' && {INSIDE}.querySelector('#forest .node') !== null;
+  while (!isDrawn()) await new Promise(requestAnimationFrame);
+  return performance.now();
+}})()"""
+
+
+def soon_there(test, _):
+    """The page is no longer than it may be. How soon the first call is drawn is told and not judged: that depends on the machine's load."""
+    size, times = test.site.stat().st_size, []
+    test.wanted(size <= MOST_BYTES, f"the page has {size:,} bytes, and may have {MOST_BYTES:,}")
+    for _ in range(LOADS):
+        test.browser.value(FORGET)
+        test.browser.open(test.site.as_uri())
+        times.append(test.browser.value(FIRST_DRAWN))
+        test.settle()
+    print(f"{size:,} bytes; the first call is drawn after {min(times):.0f} ms, the shortest of {LOADS}, at a load of {os.getloadavg()[0]:.1f}", flush=True)
 
 
 def welcomed(test, _):
@@ -160,4 +183,4 @@ def rare_ones_behind_more(test, _):
     test.settle()
 
 
-CHECKS = (welcomed, one_row, told_words, ordered, searched, said_in_words, rare_ones_behind_more)
+CHECKS = (soon_there, welcomed, one_row, told_words, ordered, searched, said_in_words, rare_ones_behind_more)

@@ -80,10 +80,10 @@ class Tester:
         self.open()
 
     def settle(self, still=0.4):
-        """Waits until what was typed has been run; what is typed is run after it stands still for a while."""
+        """Waits until the page has begun and what was typed has been run; what is typed is run after it stands still for a while."""
         until = time.time() + SECONDS
         time.sleep(still)
-        while not self.browser.value("sel4sim.page.isAtRest"):
+        while not self.browser.value("Boolean(window.sel4sim?.page.isAtRest)"):
             if time.time() > until:
                 self.say("a run does not end")
                 return
@@ -94,9 +94,9 @@ class Tester:
             self.say(what)
 
     def until(self, holds, what):
-        """Waits until an expression holds in the page."""
+        """Waits until the page has begun and an expression holds in it."""
         until = time.time() + SECONDS
-        while not self.browser.value(f"Boolean({holds})"):
+        while not self.browser.value(f"Boolean(window.sel4sim && ({holds}))"):
             if time.time() > until:
                 self.say(what)
                 return
