@@ -4,6 +4,7 @@ import { callsOf } from "./report.mjs";
 import { decoded, link } from "./basics.mjs";
 import { element } from "../../page/source/element.mjs";
 import { lineOfFault, placesOf, wordsTold } from "./places.mjs";
+import { toldOf } from "./policy.mjs";
 import { wordsOf } from "./answer.mjs";
 
 const byId = (id) => document.getElementById(id);
@@ -59,8 +60,16 @@ export class Answers {
     const isOld = this.fill(tab, answer, text);
     byId("ended").textContent = isOld ? `${words.ended}; below stands the answer before it. ${firstFault(answer)}` : words.ended;
     byId("ended").title = words.took ?? "";
-    if (tab.hasPolicy) page.policy.mark(decoded(answer.errors), page.policyName);
+    if (tab.hasPolicy) this.markHeld(answer);
     this.drawErrors(tab.told ? "" : decoded(answer.errors));
+  }
+
+  /** Puts into the margins what breaks a policy: at the lines of the policy, and at the calls of the set-up that it comes from. A set-up
+      that is refused has its marks already. */
+  markHeld({ status, errors }) {
+    const [{ page }, told] = [this, decoded(errors)];
+    page.policy.mark(told, page.policyName);
+    if (!REFUSED.includes(status)) page.editor.tell(toldOf(told, page.name));
   }
 
   /** Fills the panel of a tab with what the program wrote. Where that is a refusal, the last answer to the same set-up stays,

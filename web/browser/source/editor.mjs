@@ -16,6 +16,7 @@ export class Editor {
       extraKeys: { Tab: false, "Shift-Tab": false, Esc: () => this.leave(), F2: () => asked(this.mirror.getCursor().line, false) },
     });
     this.faulty = [];
+    this.noted = [];
     this.pointed = [];
     this.told = new Map();
     // A screen reader is told that this is a field of many lines.
@@ -68,7 +69,9 @@ export class Editor {
     this.mirror.clearGutter(MARGIN);
     this.told.clear();
     this.faulty.forEach((line) => this.mirror.removeLineClass(line, "background", "faulty"));
+    this.noted.forEach((line) => this.mirror.removeLineClass(line, "background", "noted"));
     this.faulty = [];
+    this.noted = [];
   }
 
   /** Puts marks into the margin. */
@@ -89,6 +92,23 @@ export class Editor {
     const at = Math.min(line, this.lines - 1);
     this.faulty.push(this.mirror.addLineClass(at, "background", "faulty"));
     this.mark({ line: at, look: "missed", shown: "✗", words });
+  }
+
+  /** Marks a line as one that a note is about. */
+  note(line, words) {
+    const at = Math.min(line, this.lines - 1);
+    this.noted.push(this.mirror.addLineClass(at, "background", "noted"));
+    this.mark({ line: at, look: "noted", shown: "i", words });
+  }
+
+  /** Marks the lines that something is told of, a fault or a note, each once; the words of the mark that a line has stay. */
+  tell(told) {
+    for (const line of new Set(told.map((it) => it.line))) {
+      const here = told.filter((it) => it.line === line);
+      const words = [this.told.get(line), ...here.map((it) => it.words)].filter(Boolean).join("\n");
+      if (here.every(({ isNote }) => isNote)) this.note(line, words);
+      else this.fault(line, words);
+    }
   }
 
   /** Brings a line into sight, and puts the cursor there. */

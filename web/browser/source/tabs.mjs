@@ -58,7 +58,8 @@ function showOrders(page, panel, text) {
 
 /** The layout held to a policy, where calls are looked for by which a breach happens. */
 function showHeld(page, panel, text) {
-  drawHeld(panel, text, (number) => openHow(page, [...page.words, "--how", String(number)], `how.${number}`));
+  drawHeld(panel, text, { open: (number) => openHow(page, [...page.words, "--how", String(number)], `how.${number}`),
+    go: (number) => page.goToCall(number) });
 }
 
 /** The page of a trace, in a frame; another set-up is shown from its boot on, or from the call that its address names. */

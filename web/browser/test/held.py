@@ -22,6 +22,21 @@ HELD = """(async () => {
 FAULTY = "[...document.querySelectorAll('#policy .faulty')].length"
 TITLES = "[...document.querySelectorAll('PLACE .mark-missed')].map((it) => it.title)"
 SETUP = "sel4sim.page.editor.text"
+# What the policy's tab is shown: a text, and what stands on standard error.
+ANSWERED = """(() => {
+  const [output, errors] = TOLD.map((text) => new TextEncoder().encode(text));
+  sel4sim.page.answers.show(sel4sim.page.tab, { status: 1, output, errors, milliseconds: 1, memory: 0 });
+})()"""
+# The signs in the margin of the set-up that a note or a fault has made, by line, with their words.
+NOTED = """(() => {
+  const found = {};
+  sel4sim.page.editor.mirror.eachLine((line) => {
+    const mark = line.gutterMarkers?.margin;
+    if (mark && / noted| faulty/u.test(` ${line.bgClass ?? ""}`)) found[line.lineNo() + 1] = [mark.className, mark.textContent, mark.title];
+  });
+  return found;
+})()"""
+PLACED_IN_SETUP = "(?m)^{}:(\\d+):\\d+: (?:error|note): "
 # The breaches of which it is asked how they happen.
 TO_COME = re.compile("breach (?:way|badge|waiting|joined) ")
 
@@ -76,6 +91,62 @@ def held(test, _):
     browser.value(f"sel4sim.page.policy.editor.mirror.setValue({json.dumps(mended)})")
     test.settle(0.6)
     test.wanted(browser.value(FAULTY) == 0 and "status 0" in test.text("status"), f"the policy is mended, and the page says {test.text('status')}")
+
+
+NOTES = """badge_zero.policy.toml:5:3: error: client_a may use @ep1 with badge any; the policy lets it have 10
+  5 |   { from = "client_a", to = "client_c", by = "ep1", badge = 10 },
+    |   ^
+badge_zero.toml:LINE:1: note: call 3 fills @cn_a[1]
+badge_zero.toml:LINE:1: note: from: call 3 fills @cn_a[1]
+layout.system:7:1: note: cn_a[1] = ep1 (W)
+another.toml:1:1: note: call 1 fills slot 5
+"""
+PLACES = """breach badge client_a @ep1 badge any rights w--- allowed 10
+  slot @cn_a[1] call 3
+  slot @cn_a[1] call 3 under slot 96 call 1
+  slot 96 boot
+"""
+
+
+def notes(test, _):
+    """A note is marked at its line of the set-up, beside what the call there was answered and with the breach that it belongs to, and
+    not in another tab; below a breach a call leads to its lines."""
+    browser = test.browser
+    if not pick(test, "for policy", "badge_zero"):
+        return
+    line = 1 + browser.value(f"{SETUP}.split('\\n').map((it, at) => [it, at]).filter(([it]) => it.startsWith('[[call]]'))[2][1]")
+    told = [f"breach way{PLACES[len('breach badge'):]}", NOTES.replace("LINE", str(line))]
+    browser.value(ANSWERED.replace("TOLD", json.dumps(told)))
+    noted = browser.value(NOTED)
+    test.wanted(list(noted) == [str(line)] and noted[str(line)][:2] == ["mark-noted", "i"], f"notes are marked as {noted}, and not at line {line}")
+    words = noted.get(str(line), ["", "", ""])[2].split("\n")
+    breach = "; of: client_a may use @ep1 with badge any; the policy lets it have 10"
+    wanted = [f"call 3 fills @cn_a[1]{breach}", f"from: call 3 fills @cn_a[1]{breach}"]
+    test.wanted(words[0].startswith("call 3: ") and words[1:] == wanted, f"a note is told as {words}")
+    drawn = browser.value("[...document.querySelectorAll('#panel-policy .line')].map((it) => it.textContent)")
+    test.wanted(drawn[1:] == PLACES.split("\n")[1:-1], f"the places of a breach are drawn as {drawn}")
+    steps = browser.value("[...document.querySelectorAll('#panel-policy .step')].map((it) => it.textContent)")
+    test.wanted(steps == ["call 3", "call 3", "call 1"], f"{steps} lead to calls")
+    test.click("#panel-policy .step")
+    cursor = browser.value("sel4sim.page.editor.mirror.getCursor().line + 1")
+    test.wanted(cursor == line and browser.value("document.activeElement.closest('#editor') !== null"), f"a place leads to line {cursor}, and not to {line}")
+    browser.press("F2")
+    test.until("document.getElementById('heard').textContent.includes('call 3 fills @cn_a[1]; of: client_a')", "a note is not said")
+    test.click("#tab-report")
+    test.settle()
+    test.wanted(browser.value(NOTED) == {}, "a note stays in another tab")
+
+
+def noted_as_written(test, _):
+    """Of each worked policy what standard error says of the set-up's lines is marked there, and nothing else."""
+    for policy in sorted(POLICIES.glob("*.policy.toml")):
+        name = policy.name.removesuffix(".policy.toml")
+        if not policy.with_name(f"{name}.err").exists() or not pick(test, "for policy", name):
+            continue
+        browser, written = test.browser, natively(test, "policy", policy.name, f"{name}.toml")
+        found = re.findall(PLACED_IN_SETUP.format(re.escape(f"{name}.toml")), written.stderr.decode())
+        told = browser.value(NOTED)
+        test.wanted(written.returncode == 2 or set(told) == set(found), f"{name}: lines {sorted(told)} are marked, and told are {found}")
 
 
 def by_which_calls(test, _):
@@ -188,4 +259,4 @@ def faulty(test, _):
         test.wanted(told == lines and lines, f"{layout.name}: faults are marked at {sorted(told)}, and are at {sorted(lines)}")
 
 
-CHECKS = (same_as_native, held, by_which_calls, kept, opened, rights_chosen, faulty)
+CHECKS = (same_as_native, held, notes, noted_as_written, by_which_calls, kept, opened, rights_chosen, faulty)

@@ -37,7 +37,7 @@ from tester import Tester, option  # noqa: E402
 LEFT = (nothing_lost.with_scroll_bars, drawn.contrasts_of_parts, drawn.ways_agree)
 CHECKS = (*first_minute.CHECKS, *(it for it in nothing_lost.CHECKS if it not in LEFT), *gives_nothing_away.CHECKS,
           *helped.CHECKS, sheets.in_turn, sheets.low_window, sheets.printed_state, lectures.embedded_steps, *(it for it in drawn.CHECKS if it not in LEFT),
-          *what_if.CHECKS, *asked_by_hand.CHECKS, *goals_reached.CHECKS, *in_bits.CHECKS, held.rights_chosen, browser_test.nothing_leaves)
+          *what_if.CHECKS, *asked_by_hand.CHECKS, *goals_reached.CHECKS, *in_bits.CHECKS, held.notes, held.rights_chosen, browser_test.nothing_leaves)
 
 
 def needs():
