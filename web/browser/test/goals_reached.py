@@ -244,26 +244,32 @@ def to_operations(test):
     test.say("no Tab leads back to the operations")
 
 
-def each_by_touch(test, _):
-    """Each is reached by a finger on a phone: thread and slots are pressed in the drawings."""
+def each_by_hand(test, _):
+    """Each is reached by a finger on a phone, and by the mouse alone in a wide window: thread and slots are pressed in the drawings."""
     browser = test.browser
-    browser.resize(390, 844)
-    browser.call("Emulation.setTouchEmulationEnabled", enabled=True)
-    for name in names():
-        open_goal(test, name)
-        for count, (thread, operation, slot, to, fields) in enumerate(REACHED[name], 1):
-            browser.value(f"{FRAME}.scrollIntoView()")
-            # The list itself is drawn by the browser.
-            choose(test, "operation", operation, FORM)
-            for wanted in (f"#threads [data-thread='{thread}']", *(f"#spaces [data-slot='{it}']" for it in (slot, to) if it is not None)):
-                browser.tap_at(*centre(test, f"{INSIDE}.querySelector({json.dumps(wanted)})", FRAME))
-            for label, given in fields.items():
-                choose(test, label, given, FORM)
-            browser.tap_at(*centre(test, button("try it", FORM), FRAME))
-            test.until(f"{CARDS}.length === {count}", f"{name}: by a finger {operation} is not taken: {browser.value(STATUS)}")
-        is_reached(test, name, len(REACHED[name]), "by a finger")
+    for width, height, press, how in ((390, 844, browser.tap_at, "by a finger"), (1280, 800, browser.click_at, "by the mouse")):
+        browser.resize(width, height)
+        browser.call("Emulation.setTouchEmulationEnabled", enabled=width < 400)
+        for name in names():
+            open_goal(test, name)
+            for count, call in enumerate(REACHED[name], 1):
+                press_call(test, press, call)
+                test.until(f"{CARDS}.length === {count}", f"{name}: {how} {call[1]} is not taken: {browser.value(STATUS)}")
+            is_reached(test, name, len(REACHED[name]), how)
     browser.call("Emulation.setTouchEmulationEnabled", enabled=False)
     browser.resize_back()
+
+
+def press_call(test, press, call):
+    """Makes a call by presses in the drawings and on the button below them; a list itself is drawn by the browser, and chosen in."""
+    thread, operation, slot, to, fields = call
+    test.browser.value(f"{FRAME}.scrollIntoView()")
+    choose(test, "operation", operation, FORM)
+    for wanted in (f"#threads [data-thread='{thread}']", *(f"#spaces [data-slot='{it}']" for it in (slot, to) if it is not None)):
+        press(*centre(test, f"{INSIDE}.querySelector({json.dumps(wanted)})", FRAME))
+    for label, given in fields.items():
+        choose(test, label, given, FORM)
+    press(*centre(test, button("try it", FORM), FRAME))
 
 
 def pointed(test, _):
@@ -321,4 +327,4 @@ def by_keys(test, _):
     pick(test, "examples", "send_then_receive")
 
 
-CHECKS = (by_pointing, by_typing, other_text, taken_back, pointed, each_by_touch, by_keys, each_by_keys)
+CHECKS = (by_pointing, by_typing, other_text, taken_back, pointed, each_by_hand, by_keys, each_by_keys)
