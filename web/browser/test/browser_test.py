@@ -632,7 +632,7 @@ def in_firefox(program, folder, stored):
         browser.value("document.getElementById('tab-steps').click()")
         test.settle()
         inside = "document.querySelector('#panel-steps iframe')?.contentDocument"
-        test.until(f"{inside}?.getElementById('position')?.textContent.includes('2 calls')", "firefox: no steps")
+        test.until(f"{inside}?.getElementById('position')?.textContent === 'call 1 of 2'", "firefox: the first visit does not see the first call")
         browser.value("sel4sim.page.editor.text = 'format = 2\\nlable = 1\\n'")
         test.settle()
         test.wanted(browser.value("document.querySelectorAll('.faulty').length") == 1, "firefox: a fault is not marked")
