@@ -1,5 +1,4 @@
 pub mod Commands
-pub mod Migrations
 pub mod Program
 pub mod Notes
 pub mod Numbers

@@ -1,10 +1,9 @@
-//! The run of a set-up from the bytes that come in to the bytes that go out, and its migration. Of `command_core`, on which
-//! both stand, the names are here too.
+//! The run of a set-up from the bytes that come in to the bytes that go out. Of `command_core`, on which it stands, the names
+//! are here too.
 #![tactic(auto)]
 
 mod checking;
 mod command;
-mod migrating;
 mod notes;
 mod numbers;
 mod run;
@@ -16,7 +15,6 @@ pub use command_core::{
     Answer, CallNote, DeviceFault, Engine, Found, INPUT_LIMIT, Notes, ReaderSource, RunFault, Sink,
     Source, Verdict, WriterSink, read_below, run_engine, status_of, status_of_found, write_all,
 };
-pub use migrating::{Migrator, migrate_run, table_text};
 pub use notes::{add_unmet, notes_on, unmet_calls};
 pub use numbers::{expected_of, number_at, numbers_of_clients};
 pub use run::{CountedText, counted_text_of, refused, run_calls, run_setup, text_of, verdict_on};

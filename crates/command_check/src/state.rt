@@ -16,14 +16,13 @@ use setup_report::{calls_made, count_refused, run_first};
 use setup_values::Name;
 use slot_core::{DerivationStore, MakeStore, SaveStore};
 use std::alloc::{AllocError, Global};
-use toml::Table;
 
-/// A set-up that was read, with its names and its table, how many of its calls are made, and how many of these were refused.
+/// A set-up that was read, with its names and its text, how many of its calls are made, and how many of these were refused.
 #[derive(Clone, Copy, Drop)]
 pub struct Behind<'a> {
     pub names: &'a [Name],
     pub setup: &'a Setup,
-    pub table: &'a Table,
+    pub text: &'a [u8],
     pub made: usize,
     pub refused: usize,
 }
@@ -85,7 +84,7 @@ impl<C: StateCommand> Command for OnState<C> {
         let behind = Behind {
             names: read.names.as_slice(),
             setup,
-            table: &read.table,
+            text: read.text.as_slice(),
             made,
             refused: count_refused(replies.as_slice()),
         };

@@ -23,5 +23,4 @@ pub use clients::{calls_of_clients, first_clients};
 pub use groups::groups_report;
 pub use making::make_witness;
 pub use run::{ExploredText, explored_report};
-pub use tables::copy_of_table;
 pub use witness::Witness;

@@ -4,12 +4,13 @@ ghost use Rattle.toml.specs.View.{table_view};
 ghost use Rattle.command_explore.specs.Witnessed.{IsTextOfTable};
 
 use crate::exploring::ExploreOptions;
-use crate::report::{Witness, copy_of_table, make_witness};
+use crate::report::{Witness, make_witness};
 use cap_core::Profile;
-use command_check::{Command, table_text};
+use command_check::Command;
 use command_core::{Answer, Verdict};
 use ipc_core::{RowWaiters, SaveWaiters};
-use setup_format::ReadSetup;
+use setup_format::{ReadSetup, table_of};
+use setup_migrate::table_text;
 use slot_core::{DerivationStore, RowStore, SaveStore};
 use std::alloc::{AllocError, Global};
 use toml::Table;
@@ -46,7 +47,7 @@ impl Command for WriteWitness {
         read: &ReadSetup,
     ) -> Result<Answer, AllocError> {
         let ExploreOptions { first, states } = self.options;
-        let table = copy_of_table(&read.table)?;
+        let table = table_of(alloc, read.text.as_slice())?;
         let made = make_witness::<P, RowStore<P>, RowWaiters<P>>(
             alloc,
             &read.setup,

@@ -14,13 +14,14 @@ use crate::finding::{Found, find, shortened};
 use crate::line::{NoWitness, PartText, happening_word};
 use crate::table::with_calls;
 use cap_core::Profile;
-use command_check::{Behind, table_text};
+use command_check::Behind;
 use command_core::Verdict;
 use command_how_witness::{Asked, is_excluded, is_excluded_by_flow, is_witness_text};
 use ipc_core::MakeWaiters;
 use kernel_core::{Call, Kernel};
 use query_parts::{PartsFault, part_at};
-use setup_format::Setup;
+use setup_format::{Setup, table_of};
+use setup_migrate::table_text;
 use setup_values::{Name, thread_name};
 use slot_core::{DerivationStore, MakeStore};
 use std::alloc::{AllocError, Global};
@@ -82,9 +83,10 @@ fn text_of<P: Profile, S: MakeStore<P> + DerivationStore<P>, W: MakeWaiters<P>>(
     let mut at = kernel.copy(alloc)?;
     let mut replies = Vec::with_capacity(alloc, calls.len())?;
     at.run(calls.as_slice(), &mut replies);
+    let table = table_of(alloc, behind.text)?;
     let table = with_calls::<P>(
         alloc,
-        behind.table,
+        &table,
         behind.names,
         behind.made,
         calls.as_slice(),

@@ -1,4 +1,5 @@
 pub mod Marked
+pub mod Programs
 pub mod Sequences
 pub mod Reports
 pub mod Same

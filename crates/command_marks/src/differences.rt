@@ -8,7 +8,7 @@ ghost use Rattle.command_marks.specs.Differences as spec;
 
 use cap_core::limits::MAX_MESSAGE_WORDS;
 use kernel_core::Call;
-use setup_format::{ReadSetup, Setup, op_name};
+use setup_format::{ReadSetup, Setup, op_name, table_of};
 use setup_values::kinds::array;
 use std::alloc::{AllocError, Global};
 use toml::{Table, Value};
@@ -195,7 +195,11 @@ pub(crate) fn differs_text(
     let (a, b) = (&exercise.setup, &read.setup);
     let text = match boot_key(a, b) {
         Some(key) => format!(in alloc; "differs at top key {key}")?,
-        None => first_call(alloc, &exercise.table, &read.table, a.calls(), b.calls())?,
+        None => {
+            let table = table_of(alloc, exercise.text.as_slice())?;
+            let other = table_of(alloc, read.text.as_slice())?;
+            first_call(alloc, &table, &other, a.calls(), b.calls())?
+        }
     };
     Ok(text.into_bytes())
 }

@@ -6,11 +6,12 @@ ghost use Rattle.setup_migrate.specs.Migration.{with_changed};
 ghost use Rattle.command_marks.specs.Recorded as spec;
 
 use cap_core::{Message, Profile};
-use command_check::{Command, run_calls, table_text};
+use command_check::{Command, run_calls};
 use command_core::{Answer, Verdict};
 use ipc_core::SaveWaiters;
 use kernel_core::Reply;
-use setup_format::ReadSetup;
+use setup_format::{ReadSetup, table_of};
+use setup_migrate::table_text;
 use setup_report::{Naming, ReplyText};
 use setup_values::limits::MAX_EXPECT_BYTES;
 use slot_core::{DerivationStore, SaveStore};
@@ -138,14 +139,6 @@ fn expect_replies(alloc: Global, table: &mut Table, replies: &[Reply]) -> Result
     Ok(())
 }
 
-/// A copy of a table.
-fn copy_of_table(table: &Table) -> Result<Table, AllocError>
-    ensures { IfOk result (λ copy. table_view copy ≡ table_view table.now) }
-{
-    let copy = table.clone()?;
-    Ok(copy)
-}
-
 /// Writes the set-up with each call's reply as what the call expects; all else of it is as it was. The verdict is `AllMet`.
 #[derive(Clone, Copy, Drop)]
 pub struct Record;
@@ -161,7 +154,7 @@ impl Command for Record {
         read: &ReadSetup,
     ) -> Result<Answer, AllocError> {
         let (_, replies) = run_calls::<P, S, W>(alloc, &read.setup)?;
-        let mut table = copy_of_table(&read.table)?;
+        let mut table = table_of(alloc, read.text.as_slice())?;
         expect_replies(alloc, &mut table, replies.as_slice())?;
         let text = table_text(alloc, &table)?;
         Ok(Answer::new(alloc, text, Verdict::AllMet))

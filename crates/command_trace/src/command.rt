@@ -10,7 +10,7 @@ use command_check::{Command, verdict_on};
 use command_core::{Answer, Verdict};
 use command_why::naming_after;
 use ipc_core::{MakeWaiters, SaveWaiters};
-use setup_format::ReadSetup;
+use setup_format::{ReadSetup, table_of};
 use slot_core::{DerivationStore, MakeStore, SaveStore};
 use std::alloc::{AllocError, Global};
 
@@ -27,7 +27,8 @@ fn trace_setup<P: Profile, S: MakeStore<P> + DerivationStore<P>, W: MakeWaiters<
 {
     let (names, setup) = (read.names.as_slice(), &read.setup);
     let naming = naming_after::<P, S, W>(alloc, by_name, names, setup)?;
-    let (text, count, unmet) = trace::<P, S, W>(alloc, &naming, ways, &read.table, names, setup)?;
+    let table = table_of(alloc, read.text.as_slice())?;
+    let (text, count, unmet) = trace::<P, S, W>(alloc, &naming, ways, &table, names, setup)?;
     Ok(Answer::with_unmet(alloc, text, verdict_on(count), unmet))
 }
 

@@ -9,7 +9,7 @@ use cap_core::Profile;
 use command_check::{Command, verdict_on};
 use command_core::Answer;
 use ipc_core::{MakeWaiters, SaveWaiters};
-use setup_format::ReadSetup;
+use setup_format::{ReadSetup, table_of};
 use slot_core::{DerivationStore, MakeStore, SaveStore};
 use std::alloc::{AllocError, Global};
 
@@ -24,9 +24,9 @@ fn explain_setup<P: Profile, S: MakeStore<P> + DerivationStore<P>, W: MakeWaiter
     requires { IsPlan P.profile read.now.setup.plan }
     ensures { IfOk result (λ made. (made.text.items, made.verdict) ≡ explained_in by_name P.profile call (read_view read.now)) }
 {
-    let (table, setup) = (&read.table, &read.setup);
+    let (table, setup) = (table_of(alloc, read.text.as_slice())?, &read.setup);
     let naming = naming_after::<P, S, W>(alloc, by_name, read.names.as_slice(), setup)?;
-    let (text, count, unmet) = why::<P, S, W>(alloc, &naming, table, setup, call)?;
+    let (text, count, unmet) = why::<P, S, W>(alloc, &naming, &table, setup, call)?;
     Ok(Answer::with_unmet(alloc, text, verdict_on(count), unmet))
 }
 

@@ -12,10 +12,11 @@ mod new_setup;
 mod witness;
 mod work;
 
-pub use command_check::{check, migrate_run};
+pub use command_check::check;
 pub use command_core::{RunFault, Sink, Source, Verdict, status_of};
 pub use command_files::{Inputs, Listener, Used};
 pub use command_line::{Job, Line, LineFault, line};
+pub use command_marks::migrate_run;
 pub use command_threads::threads_run;
 pub use host::run;
 pub use jobs::run_job;

@@ -16,6 +16,7 @@ pub use fault::{Key, Place, SetupFault, Wrong};
 pub use laws::what_is_read_is_the_set_up;
 pub use operations::op_name;
 pub use reading::{
-    read, read_document, read_first_format, read_setup, read_table, top_keys, untyped_keys,
+    read, read_document, read_first_format, read_setup, read_table, table_of, top_keys,
+    untyped_keys,
 };
 pub use setup::{ReadSetup, Setup};

@@ -6,7 +6,7 @@ ghost use Rattle.setup_values.specs.Names.{names_view};
 ghost use Rattle.setup_format.specs.Faults.{Gives};
 ghost use Rattle.setup_values.specs.Kinds.{each};
 ghost use Rattle.setup_format.specs.Messages.{HasMessage};
-ghost use Rattle.setup_format.specs.Read.{read_view};
+ghost use Rattle.setup_format.specs.Read.{read_view, table_of_text};
 ghost use Rattle.setup_format.specs.Views.{call_view, IsWithinBounds};
 ghost use Rattle.setup_format.specs.Private.Sizes.{IsSizes};
 ghost use Rattle.setup_format.specs.Setups as spec;
@@ -25,7 +25,7 @@ use kernel_abstract::Call;
 use kernel_boot::BootPlan;
 use setup_values::kinds::{Number, OpKind, ProfileKind, Word};
 use setup_values::{KnownNames, Name};
-use std::alloc::Global;
+use std::alloc::{AllocError, Global};
 use toml::Table;
 
 /// The keys of a table of `untyped`.
@@ -268,19 +268,15 @@ fn names_of(alloc: Global, profile: ProfileName, table: &Table) -> Result<Vec<Na
     }
 }
 
-/// The set-up that a table is read as, with the table and the names by which it is spelt.
+/// The set-up that a table is read as, and the names by which it is spelt.
 #[tactic(auto, unfolding(crate::specs::Setups::read_of))]
-fn read_of(alloc: Global, table: Table) -> Result<ReadSetup, SetupFault>
-    ensures setup { Gives read_view result (spec.read_of (table_view table)) }
-    ensures plan { IfOk result (λ r. IsPlan r.setup.profile r.setup.plan) }
+fn read_of(alloc: Global, table: &Table) -> Result<(Vec<Name>, Setup), SetupFault>
+    ensures setup { Gives (λ r. record { table = table_view table.now; names = names_view r.0.items; setup = r.1 }) result (spec.read_of (table_view table.now)) }
+    ensures plan { IfOk result (λ r. IsPlan r.1.profile r.1.plan) }
 {
-    let setup = read_table(alloc, &table)?;
-    let names = names_of(alloc, setup.profile(), &table)?;
-    Ok(ReadSetup {
-        table,
-        names,
-        setup,
-    })
+    let setup = read_table(alloc, table)?;
+    let names = names_of(alloc, setup.profile(), table)?;
+    Ok((names, setup))
 }
 
 /// The set-up that a table is read as by the rules of the first format alone, or its first fault.
@@ -336,16 +332,34 @@ pub fn read_setup(alloc: Global, bytes: &[u8]) -> Result<Setup, SetupFault>
     read_table(alloc, &table)
 }
 
-/// The set-up that a text is read as, with its table and the names by which it is spelt, or its first fault.
+/// The table of a text; an empty one, if the text is no TOML document.
+///
+/// # Errors
+///
+/// Memory was refused.
+#[tactic(auto, unfolding(crate::specs::Read::table_of_text))]
+pub fn table_of(alloc: Global, text: &[u8]) -> Result<Table, AllocError>
+    ensures { IfOk result (λ table. table_view table ≡ table_of_text text.now) }
+{
+    match read_document(alloc, text) {
+        Ok(table) => Ok(table),
+        Err(SetupFault::Memory) => Err(AllocError),
+        Err(_) => Ok(Table::new(alloc)),
+    }
+}
+
+/// The set-up that a text is read as, with the text and the names by which it is spelt, or its first fault.
 ///
 /// # Errors
 ///
 /// As `read_setup`.
-#[tactic(auto, unfolding(crate::specs::Setups::read_of_bytes))]
+#[tactic(auto, unfolding(crate::specs::Setups::read_of_bytes, crate::specs::Read::table_of_text))]
 pub fn read(alloc: Global, bytes: &[u8]) -> Result<ReadSetup, SetupFault>
     ensures setup { Gives read_view result (spec.read_of_bytes bytes.now) }
     ensures plan { IfOk result (λ r. IsPlan r.setup.profile r.setup.plan) }
 {
     let table = read_document(alloc, bytes)?;
-    read_of(alloc, table)
+    let (names, setup) = read_of(alloc, &table)?;
+    let text = Vec::from_slice(alloc, bytes)?;
+    Ok(ReadSetup { text, names, setup })
 }

@@ -9,7 +9,6 @@ use setup_values::Name;
 pub use setup_values::{OpName, Words};
 use std::alloc::{AllocError, Global};
 use std::marker::Model;
-use toml::Table;
 
 /// The sizes of a boot plan.
 #[derive(Clone, Copy)]
@@ -110,11 +109,11 @@ pub struct Setup {
     calls: SetupCalls,
 }
 
-/// A set-up as it was read: the table of its text, and the names by which it is spelt, in the order of their bytes. Neither is
-/// a part of what the set-up means.
+/// A set-up as it was read: its text, and the names by which it is spelt, in the order of their bytes. Neither is a part of what the
+/// set-up means. Who needs the table of the text makes it anew by `table_of`: few do, and a parsed table is what costs all others.
 #[derive(Drop)]
 pub struct ReadSetup {
-    pub table: Table,
+    pub text: Vec<u8>,
     pub names: Vec<Name>,
     pub setup: Setup,
 }

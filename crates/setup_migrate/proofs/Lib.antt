@@ -1,3 +1,4 @@
 -- What becomes of a table's members, and that the migrated table is read as the same set-up.
 pub mod Parts
 pub mod Law
+pub mod Texts

@@ -1,6 +1,7 @@
 //! The check of a set-up and its migration, each from a reader of std to a writer.
 use crate::stored::{REPORT, SETUP};
-use command_check::{ReaderSource, Verdict, WriterSink, check, migrate_run};
+use command_check::{ReaderSource, Verdict, WriterSink, check};
+use command_marks::migrate_run;
 use std::alloc::Global;
 
 /// What is written of a set-up that is checked; `None` if it was out of memory.

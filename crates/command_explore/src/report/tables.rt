@@ -25,14 +25,6 @@ fn drop_expectation(call: &mut Value)
     }
 }
 
-/// A copy of a table.
-pub fn copy_of_table(table: &Table) -> Result<Table, AllocError>
-    ensures { IfOk result (λ copy. table_view copy ≡ table_view table.now) }
-{
-    let copy = table.clone()?;
-    Ok(copy)
-}
-
 /// A copy of a call, with its expectation or without it.
 fn copy_of(call: &Value, expects: bool) -> Result<Value, AllocError>
     ensures { IfOk result (λ copy. view copy ≡ spec.call_as expects (view call.now)) }
