@@ -6,6 +6,7 @@ pub mod Live
 pub mod Fitting
 pub mod Sides
 pub mod Effects
+pub mod Derivations
 pub mod Waiting
 pub mod Views
 pub mod Held

@@ -9,3 +9,4 @@ pub mod Places
 pub mod Kept
 pub mod Replays
 pub mod Known
+pub mod Slots

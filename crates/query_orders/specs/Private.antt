@@ -4,3 +4,4 @@ pub mod Progress
 pub mod Waiting
 pub mod Ways
 pub mod Grouping
+pub mod Shared

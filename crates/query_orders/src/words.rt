@@ -6,4 +6,5 @@ mod parts;
 mod slots;
 mod waits;
 
+pub(crate) use self::slots::add_slots;
 pub use self::slots::words_of;

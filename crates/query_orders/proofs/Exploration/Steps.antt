@@ -28,7 +28,7 @@ pub world_after-append : (p : ProfileName) (own : List (List Call)) (w : World) 
 world_after-append p own w [] more = refl
 world_after-append p own w (client ∷ order) more = world_after-append p own (after_call p own w client) order more
 
-reached_with : (p : ProfileName) (w : World) (client : ℕ) (call : Option Call) → IsReached p w.kernel → IsReached p (with_call p w client call).kernel
+pub reached_with : (p : ProfileName) (w : World) (client : ℕ) (call : Option Call) → IsReached p w.kernel → IsReached p (with_call p w client call).kernel
 reached_with p w client None r = r
 reached_with p w client (Some call) r = reached_step p w.kernel call r
 

@@ -22,6 +22,7 @@ use crate::exploring::layers::{next_layer, note_call, with_words};
 use crate::exploring::node::{Node, callable, next_call};
 use crate::exploring::order::Order;
 use crate::exploring::stuck::Findings;
+use crate::exploring::words::shared_slots;
 use cap_core::Profile;
 use ipc_core::SaveWaiters;
 use kernel_core::{Call, Kernel, SavedKernel};
@@ -267,7 +268,9 @@ fn begun<P: Profile, S: SaveStore<P> + DerivationStore<P>, W: SaveWaiters<P>>(
         calls: made,
         states,
     } = one;
-    let node = with_words(alloc, node, &at)?;
+    let shared = shared_slots(alloc, calls, kernel)?;
+    let mut room = Vec::new(alloc);
+    let node = with_words(alloc, node, &at, &shared, &mut room)?;
     let mut layer = Layer::new(alloc);
     layer.note(node)?;
     let saved = at.save(alloc)?;

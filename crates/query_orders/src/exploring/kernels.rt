@@ -23,13 +23,14 @@ use std::collections::VecDeque;
 const KEPT_WORDS: usize = 1 << 23;
 
 /// A layer that grows, and the kernels of its first nodes. Those that were given up are in hand, so that a copy takes no
-/// memory while there is one.
+/// memory while there is one. `room` is where the words of a state are made.
 #[derive(Drop)]
 pub struct KeptLayer<P: Profile, S: SaveStore<P>, W: SaveWaiters<P>> {
     pub layer: Layer,
     pub kernels: VecDeque<SavedKernel<P, S, W>>,
     pub words: usize,
     pub spares: Vec<Kernel<P, S, W>>,
+    pub room: Vec<u64>,
 }
 
 /// Has a kernel in hand for a later copy. Where memory is refused, it is dropped.

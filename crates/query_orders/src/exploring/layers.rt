@@ -9,6 +9,7 @@ ghost use Rattle.query_orders.specs.Orders.{longer};
 ghost use Rattle.query_orders.specs.Nodes.{own_calls, one_longer, IsWay, IsNode, AreNodes, node_order, node_orders};
 ghost use Rattle.query_orders.specs.Found.{IsMade, IsVisited, IsExpanded, one_told, calls_told};
 ghost use Rattle.query_orders.specs.Private.Kernels.{IsKernelOf, AreKernels};
+ghost use Rattle.query_orders.specs.Private.Shared.{AreShared};
 
 use crate::exploring::answers::note_outcome;
 use crate::exploring::ends::{is_end, note_end};
@@ -19,7 +20,7 @@ use crate::exploring::node::{Node, Stepped, callable, counted, place_of, step_co
 use crate::exploring::order::Order;
 use crate::exploring::stuck::{Findings, note_stuck_end};
 use crate::exploring::waits::waits_after;
-use crate::exploring::words::state_words;
+use crate::exploring::words::{SharedSlots, shared_slots, state_words};
 use crate::{Answer, WaitingCall};
 use cap_core::Profile;
 use ipc_core::SaveWaiters;
@@ -87,19 +88,22 @@ pub fn note_call<P: Profile, S: SaveStore<P> + DerivationStore<P>, W: SaveWaiter
     Ok(new)
 }
 
-/// The node with the words of its state, by its kernel.
+/// The node with the words of its state, by its kernel, and by the full slots that all states have. They are made in `room`.
 pub fn with_words<P: Profile, S: SaveStore<P> + DerivationStore<P>, W: SaveWaiters<P>>(
     alloc: Global,
     node: Node,
     at: &Kernel<P, S, W>,
+    shared: &SharedSlots,
+    room: &mut Vec<u64>,
 ) -> Result<Node, AllocError>
-    ensures node { IfOk result (λ new. (own : List (List CallOf)) (w : World) → IsWay P.profile own w node → IsKernelOf P.profile own w node at.now
-        → IsNode P.profile own w new) }
+    ensures node { IfOk result (λ new. (own : List (List CallOf)) (w : World) → IsReached P.profile w.kernel → AreShared P.profile own w shared.now
+        → IsWay P.profile own w node → IsKernelOf P.profile own w node at.now → IsNode P.profile own w new) }
     ensures order { IfOk result (λ new. new.order ≡ node.order) }
     ensures weight { IfOk result (λ new. new.weight ≡ node.weight) }
 {
     let mut node = node;
-    node.words = state_words(alloc, node.made.as_slice(), node.waits.as_slice(), at)?;
+    let waits = node.waits.as_slice();
+    node.words = state_words(alloc, node.made.as_slice(), waits, shared, at, room)?;
     Ok(node)
 }
 
@@ -108,13 +112,14 @@ fn visit<P: Profile, S: SaveStore<P> + DerivationStore<P>, W: SaveWaiters<P>>(
     alloc: Global,
     calls: &[Vec<Call>],
     at: &Kernel<P, S, W>,
+    shared: &SharedSlots,
     node: &Node,
     client: usize,
     nodes: &mut KeptLayer<P, S, W>,
     found: &mut FoundAnswers,
 ) -> Result<(), AllocError>
     ensures visited { OnOk result ((w : World) → IsReached P.profile w.kernel → IsNode P.profile (own_calls calls.now) w node.now
-        → IsKernelOf P.profile (own_calls calls.now) w node.now at.now → AreNodes P.profile (own_calls calls.now) w nodes.old.layer
+        → IsKernelOf P.profile (own_calls calls.now) w node.now at.now → AreShared P.profile (own_calls calls.now) w shared.now → AreNodes P.profile (own_calls calls.now) w nodes.old.layer
         → IsVisited P.profile (own_calls calls.now) w nodes.old.layer nodes.new.layer
         (each_times node.now.weight (one_longer P.profile (own_calls calls.now) w node.now.order client))
         ⟦<Answer as PartialEq>⟧.eq found.old found.new (one_told P.profile (own_calls calls.now) w node.now.order client)) }
@@ -125,7 +130,7 @@ fn visit<P: Profile, S: SaveStore<P> + DerivationStore<P>, W: SaveWaiters<P>>(
     if let Some(call) = callable(calls, at, node, client) {
         let Stepped { kernel, reply } = step_copy(alloc, at, nodes.spares.pop(), call)?;
         let way = note_call(alloc, node, client, call, &kernel, reply, found)?;
-        let new = with_words(alloc, way, &kernel)?;
+        let new = with_words(alloc, way, &kernel, shared, &mut nodes.room)?;
         note_node(alloc, nodes, new, kernel)?;
     }
     Ok(())
@@ -136,12 +141,13 @@ fn visit_clients<P: Profile, S: SaveStore<P> + DerivationStore<P>, W: SaveWaiter
     alloc: Global,
     calls: &[Vec<Call>],
     at: &Kernel<P, S, W>,
+    shared: &SharedSlots,
     node: &Node,
     nodes: &mut KeptLayer<P, S, W>,
     found: &mut FoundAnswers,
 ) -> Result<(), AllocError>
     ensures visited { OnOk result ((w : World) → IsReached P.profile w.kernel → IsNode P.profile (own_calls calls.now) w node.now
-        → IsKernelOf P.profile (own_calls calls.now) w node.now at.now → AreNodes P.profile (own_calls calls.now) w nodes.old.layer
+        → IsKernelOf P.profile (own_calls calls.now) w node.now at.now → AreShared P.profile (own_calls calls.now) w shared.now → AreNodes P.profile (own_calls calls.now) w nodes.old.layer
         → IsVisited P.profile (own_calls calls.now) w nodes.old.layer nodes.new.layer
         (each_times node.now.weight (longer P.profile (own_calls calls.now) w node.now.order))
         ⟦<Answer as PartialEq>⟧.eq found.old found.new (calls_told P.profile (own_calls calls.now) w node.now.order)) }
@@ -150,7 +156,7 @@ fn visit_clients<P: Profile, S: SaveStore<P> + DerivationStore<P>, W: SaveWaiter
         → AreKernels P.profile (own_calls calls.now) w nodes.new.kernels.items nodes.new.layer) }
 {
     for client in 0..calls.len() {
-        visit(alloc, calls, at, node, client, nodes, found)?;
+        visit(alloc, calls, at, shared, node, client, nodes, found)?;
     }
     Ok(())
 }
@@ -160,18 +166,19 @@ fn expand<P: Profile, S: SaveStore<P> + DerivationStore<P>, W: SaveWaiters<P>>(
     alloc: Global,
     calls: &[Vec<Call>],
     at: &Kernel<P, S, W>,
+    shared: &SharedSlots,
     node: &Node,
     nodes: &mut KeptLayer<P, S, W>,
     found: &mut Findings,
 ) -> Result<(), AllocError>
     ensures expanded { OnOk result ((w : World) → IsReached P.profile w.kernel → IsNode P.profile (own_calls calls.now) w node.now
-        → IsKernelOf P.profile (own_calls calls.now) w node.now at.now → AreNodes P.profile (own_calls calls.now) w nodes.old.layer
+        → IsKernelOf P.profile (own_calls calls.now) w node.now at.now → AreShared P.profile (own_calls calls.now) w shared.now → AreNodes P.profile (own_calls calls.now) w nodes.old.layer
         → IsExpanded P.profile (own_calls calls.now) w nodes.old.layer nodes.new.layer ⟦<Answer as PartialEq>⟧.eq found.old found.new (node_order node.now ∷ [])) }
     ensures kernels { OnOk result ((w : World) → IsReached P.profile w.kernel → IsNode P.profile (own_calls calls.now) w node.now
         → IsKernelOf P.profile (own_calls calls.now) w node.now at.now → AreKernels P.profile (own_calls calls.now) w nodes.old.kernels.items nodes.old.layer
         → AreKernels P.profile (own_calls calls.now) w nodes.new.kernels.items nodes.new.layer) }
 {
-    visit_clients(alloc, calls, at, node, nodes, &mut found.answers)?;
+    visit_clients(alloc, calls, at, shared, node, nodes, &mut found.answers)?;
     let ends = is_end(calls, at, node);
     note_end(calls, node, ends, &mut found.answers)?;
     note_stuck_end(alloc, calls, at, node, ends, found)?;
@@ -194,16 +201,18 @@ pub fn next_layer<P: Profile, S: SaveStore<P> + DerivationStore<P>, W: SaveWaite
         → IsExpanded P.profile (own_calls calls.now) w [] next.layer ⟦<Answer as PartialEq>⟧.eq found.old found.new (node_orders layer.now)
         × AreKernels P.profile (own_calls calls.now) w next.kernels.items next.layer) }
 {
+    let shared = shared_slots(alloc, calls, kernel)?;
     let mut next = KeptLayer {
         layer: Layer::new(alloc),
         kernels: VecDeque::new(alloc),
         words: 0,
         spares,
+        room: Vec::new(alloc),
     };
     for node in layer {
         let first = kept.pop_front();
         let at = kernel_of(alloc, calls, kernel, first, &mut next.spares, node)?;
-        expand(alloc, calls, &at, node, &mut next, found)?;
+        expand(alloc, calls, &at, &shared, node, &mut next, found)?;
         give_up(&mut next.spares, at);
     }
     Ok(next)

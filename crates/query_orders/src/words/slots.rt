@@ -52,7 +52,7 @@ fn add_slot<P: Profile, S: CapStore<P> + Drop, W: Waiters<P> + Drop>(
 }
 
 /// Full slots, each before those that are derived from it.
-fn add_slots<P: Profile, S: CapStore<P> + Drop, W: Waiters<P> + Drop>(
+pub fn add_slots<P: Profile, S: CapStore<P> + Drop, W: Waiters<P> + Drop>(
     alloc: Global,
     words: &mut Vec<u64>,
     list: &[Derivation],

@@ -23,7 +23,7 @@ returns g c A r k =
     let none = one_order_none p own A first limit count c.in_ok-begin.field-0 c.new-found.result.answers c.begin.new.found c.states_through.result begun.0 c.new-found.ensures.answers c.states_through.ensures in
     let followed = c.in_ok-one.ensures A first r none begun.1 in
     let one = followed.0 in
-    let is = c.in_ok-node.ensures.node own (start own A) one.is followed.1 in
+    let is = c.in_ok-node.ensures.node own (start own A) r (c.in_ok-shared.ensures (start own A) k) one.is followed.1 in
     let layer : c.note.new.self ≡ with_node [] c.in_ok-node.node = c.in_ok-note.ensures ∙ ap (λ l. with_node l c.in_ok-node.node) c.new-layer.ensures in
     let kernels = c.in_ok-push_back.ensures.items ∙ ap (λ (l : List Shown). l ++ c.in_ok-saved.saved ∷ []) c.requires ∙ ap (λ (v : Shown). v ∷ []) c.in_ok-saved.ensures in (
       one_order_progress p own A first limit count e way c.in_ok-node.node c.in_ok-one.one.states c.in_ok-one.one.calls one is c.in_ok-node.ensures.order c.in_ok-node.ensures.weight layer

@@ -17,7 +17,7 @@ loop-node-init g c w r k zero all kernels =
     let own = own_calls c.args.calls.now in (
       subst (λ (l : List Node). IsExpanded p own w [] l answer_eq.ghosts.eq c.args.found.now c.args.found.now []) (sym c.new.ensures)
           (expanded_none p own w answer_eq.ghosts.eq [] c.args.found.now tt),
-      (subst (λ (l : List Shown). AreKernels p own w l c.new.result) (sym c.new-2.ensures.items) tt, kernels),
+      (subst (λ (l : List Shown). AreKernels p own w l c.new.result) (sym c.new-2.ensures.items) tt, (kernels, c.in_ok-shared.ensures w k)),
     )
 
 pub loop-node-preserved : goal.loop-node-preserved
@@ -32,11 +32,12 @@ loop-node-preserved g c w r k zero all kernels =
     let before = c.loop-node.invariant w r k zero all kernels in
     let rest : drop i layer ≡ x ∷ drop (i + 1) layer = drop_more layer i x lt ∙ ap (λ (y : Node). y ∷ drop (i + 1) layer) (sym c.node-item.is) in
     let taken = kernel_taken p own w c.pop_front-first.result c.loop-node.kept.items c.pop_front-first.new.self.items x (drop (i + 1) layer)
-    (subst (λ (l : List Node). AreKernels p own w c.loop-node.kept.items l) rest (before.1).1) c.pop_front-first.ensures.items c.pop_front-first.ensures.rest in
+    (subst (λ (l : List Node). AreKernels p own w c.loop-node.kept.items l) rest ((before.1).1).0) c.pop_front-first.ensures.items c.pop_front-first.ensures.rest in
+    let shared = ((before.1).1).1 in
     let at = c.in_ok-at.ensures w r k zero taken.0 in (
       layer_more p own w answer_eq.ghosts.eq layer i x c.loop-node.next.layer c.expand.new.nodes.layer c.args.found.now c.loop-node.found c.expand.new.found lt c.node-item.is
-          before.0 (c.in_ok-expand.ensures.expanded w r one at (before.0).are),
-      (c.in_ok-expand.ensures.kernels w r one at (before.1).0, taken.1),
+          before.0 (c.in_ok-expand.ensures.expanded w r one at shared (before.0).are),
+      (c.in_ok-expand.ensures.kernels w r one at (before.1).0, (taken.1, shared)),
     )
 
 pub returns : goal.returns
