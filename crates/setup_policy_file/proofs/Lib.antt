@@ -1,6 +1,6 @@
--- Loops that read each element of a list, what is read in turn, and the keys of a table.
+-- Loops that read each element of a list, lists in which none stands twice, and what a table says.
+pub mod Apart
 pub mod Appended
-pub mod InTurn
 pub mod Known
 pub mod Loops
 pub mod Said

@@ -1,25 +1,19 @@
 -- What the contracts of private functions cite.
-use Rattle.std.specs.Prelude.{◌≡◌, [], ◌∷◌, ◌++◌, map, Option, Some, None, option_and_then, string_bytes}
+use Rattle.std.specs.Prelude.{◌≡◌, [], ◌∷◌, ◌++◌, map, Option, Some, None, string_bytes}
 use Rattle.std.specs.Global.{Vec}
-use Rattle.toml.specs.Data.{Data}
 use Rattle.setup_policy_file.specs.declared.expanded.Pair.{Pair}
 use Rattle.setup_policy_file.specs.declared.tables.WayTable.{WayTable}
 use Rattle.setup_policy_file.specs.declared.tables.UseTable.{UseTable}
 use Rattle.setup_policy_file.specs.declared.tables.TakeTable.{TakeTable}
 use Rattle.setup_policy_file.specs.Lists.{WayLists, UseLists, TakeLists}
 use Rattle.setup_policy_file.specs.Lists as lists
-use Rattle.setup_policy_file.specs.Values.{group_name_of, word_view}
-use Rattle.setup_policy_file.specs.Files.{GroupView, alone_of}
+use Rattle.setup_policy_file.specs.Values.{word_view}
 
 -- a list has one element more, where both were read
 abbrev pub is_added : {T : Type 0} → Option (Vec T) → Option T → Vec T → Type 0
 is_added (Some xs) (Some x) v = v.items ≡ xs.items ++ x ∷ []
 is_added (Some xs) None v = ⊥
 is_added None one v = ⊥
-
--- the group of an element of alone
-abbrev pub alone_group_of : Data → Option GroupView
-alone_group_of d = option_and_then alone_of (group_name_of d)
 
 -- what tables with lists say
 abbrev pub way_lists : WayTable → WayLists

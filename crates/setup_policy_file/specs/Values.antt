@@ -1,7 +1,7 @@
 -- The values of a policy's keys: what each is read as, and none where it is not taken.
-use Rattle.std.specs.Prelude.{codes, ℕ, ◌+◌, ◌*◌, ◌-◌, ◌^◌, ℤ, pos, negsuc, List, [], ◌∷◌, length, Bool, false, ◌&&◌, ◌||◌, ◌==◌, nat_lt, bit_or, if◌then◌else◌, Option, Some, None, option_and_then, option_map, string_bytes, Result, Ok, Err}
+use Rattle.std.specs.Prelude.{codes, ℕ, ◌+◌, ◌*◌, ◌-◌, ◌^◌, ℤ, pos, negsuc, List, [], ◌∷◌, length, Bool, true, false, not, ◌&&◌, ◌||◌, ◌==◌, nat_lt, bit_or, if◌then◌else◌, Option, Some, None, option_and_then, option_map, string_bytes, Result, Ok, Err}
 use Rattle.std.specs.Str.{bytes_eq}
-use Rattle.std.specs.List.{list_all}
+use Rattle.std.specs.List.{list_all, list_any}
 use Rattle.std.specs.Char.{is_ascii_digit, is_ascii_alphanumeric}
 use Rattle.toml.specs.Data.{Data, as_integer, as_str, as_bool, as_array}
 use Rattle.cap_core.specs.declared.profile.ProfileName.TheVariants.{Wide}
@@ -95,19 +95,40 @@ abbrev pub all_of : {A B : Type 0} → (A → Option B) → List A → Option (L
 all_of read [] = Some []
 all_of read (x ∷ xs) = and_more (read x) (all_of read xs)
 
--- a list, or one value without brackets
-abbrev pub elements_or : Data → Option (List Data) → List Data
-elements_or d None = d ∷ []
-elements_or d (Some ds) = ds
+abbrev pub list_of : {A : Type 0} → (Data → Option A) → Data → Option (List A)
+list_of read d = option_and_then (all_of read) (elements_of d)
 
-abbrev pub one_or_more : {A : Type 0} → (Data → Option A) → Data → Option (List A)
-one_or_more read d = all_of read (elements_or d (elements_of d))
+-- ---- one value, or in version 2 a list of them
 
-abbrev pub words_of : Data → Option (List WordView)
-words_of d = option_and_then (all_of word_of) (elements_of d)
+-- a list is not empty
+abbrev pub if_any : List Data → Option (List Data)
+if_any [] = None
+if_any (d ∷ ds) = Some (d ∷ ds)
 
-abbrev pub group_names_of : Data → Option (List (List ℕ))
-group_names_of d = option_and_then (all_of group_name_of) (elements_of d)
+abbrev pub elements_or : Data → Option (List Data) → Option (List Data)
+elements_or d None = Some (d ∷ [])
+elements_or d (Some ds) = if_any ds
+
+-- the values at a key: version 1 knows no lists here
+abbrev pub values_in : PolicyVersion → Data → Option (List Data)
+values_in One d = Some (d ∷ [])
+values_in Two d = elements_or d (elements_of d)
+
+abbrev pub one_or_more : {A : Type 0} → PolicyVersion → (Data → Option A) → Data → Option (List A)
+one_or_more version read d = option_and_then (all_of read) (values_in version d)
+
+-- no element is the same as one behind it
+abbrev pub are_apart : {A : Type 0} → (A → A → Bool) → List A → Bool
+are_apart same [] = true
+are_apart same (x ∷ xs) = not (list_any (same x) xs) && are_apart same xs
+
+abbrev pub if_apart : {A : Type 0} → (A → A → Bool) → List A → Option (List A)
+if_apart same xs = if are_apart same xs then Some xs else None
+
+abbrev pub is_same_word : WordView → WordView → Bool
+is_same_word (number m) (number n) = m == n
+is_same_word (name s) (name t) = bytes_eq s t
+is_same_word v w = false
 
 -- a badge: "any", or a number from 1 on, also behind 0x; 0 stands for any
 abbrev pub if_positive : {E : Type 0} → Result ℕ E → Option ℕ

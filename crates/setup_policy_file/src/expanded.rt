@@ -1,5 +1,5 @@
 //! The entries that tables with lists stand for.
-ghost use Rattle.std.specs.Prelude.{◌≡◌, ◌++◌, IfOk, ℕ, List, map, string_bytes};
+ghost use Rattle.std.specs.Prelude.{◌≡◌, ◌++◌, IfOk, map, string_bytes};
 ghost use Rattle.std.specs.List.{flat_map};
 ghost use Rattle.setup_policy_file.specs.Files as files;
 ghost use Rattle.setup_policy_file.specs.Lists as spec;
@@ -8,6 +8,7 @@ ghost use Rattle.setup_policy_file.specs.Values.{word_view};
 
 use crate::file::{TakeEntry, UseEntry, WayEntry, Word};
 use crate::tables::{TakeTable, UseTable, WayTable};
+use setup_policy::PolicyVersion;
 use std::alloc::{AllocError, Global};
 
 /// Two names of a table, and the place of their badge.
@@ -18,17 +19,27 @@ struct Pair<'a> {
     place: usize,
 }
 
-/// Adds a name and another, and the other way round if both are meant; and not a name and itself.
+/// Whether a pair of names is left out: in version 2 that of a name and itself.
+pub fn is_left_out(version: PolicyVersion, from: &str, to: &str) -> bool
+    ensures { result ≡ spec.is_left_out version from.now to.now }
+{
+    match version {
+        PolicyVersion::One => false,
+        PolicyVersion::Two => from == to,
+    }
+}
+
+/// Adds a name and another, and the other way round if both are meant.
 fn add_pair<'a>(
     pairs: &mut Vec<Pair<'a>>,
+    version: PolicyVersion,
     both: bool,
-    place: usize,
-    from: &'a str,
-    to: &'a str,
+    pair: Pair<'a>,
 ) -> Result<(), AllocError>
-    ensures { IfOk result (λ _. map lists.pair_view pairs.new.items ≡ map lists.pair_view pairs.old.items ++ spec.pairs_between both place from.now to.now) }
+    ensures { IfOk result (λ _. map lists.pair_view pairs.new.items ≡ map lists.pair_view pairs.old.items ++ spec.pairs_between version both pair.entry.place pair.entry.from.now pair.entry.to.now) }
 {
-    if from == to {
+    let Pair { from, to, place } = pair;
+    if is_left_out(version, from, to) {
         return Ok(());
     }
     pairs.push(Pair { from, to, place })?;
@@ -45,15 +56,17 @@ fn add_pair<'a>(
 /// Adds a name with each of others.
 fn add_pairs<'a>(
     pairs: &mut Vec<Pair<'a>>,
+    version: PolicyVersion,
     both: bool,
     place: usize,
     from: &'a str,
     to: &'a [String],
 ) -> Result<(), AllocError>
-    ensures { IfOk result (λ _. map lists.pair_view pairs.new.items ≡ map lists.pair_view pairs.old.items ++ flat_map (spec.pairs_between both place from.now) (map string_bytes to.now)) }
+    ensures { IfOk result (λ _. map lists.pair_view pairs.new.items ≡ map lists.pair_view pairs.old.items ++ flat_map (spec.pairs_between version both place from.now) (map string_bytes to.now)) }
 {
     for other in to {
-        add_pair(pairs, both, place, from, other.as_str())?;
+        let to = other.as_str();
+        add_pair(pairs, version, both, Pair { from, to, place })?;
     }
     Ok(())
 }
@@ -61,15 +74,16 @@ fn add_pairs<'a>(
 /// Each of some names with each of others.
 fn pairs<'a>(
     alloc: Global,
+    version: PolicyVersion,
     both: bool,
     from: &'a [String],
     to: &'a [String],
 ) -> Result<Vec<Pair<'a>>, AllocError>
-    ensures { IfOk result (λ v. map lists.pair_view v.items ≡ spec.pairs both (map string_bytes from.now) (map string_bytes to.now)) }
+    ensures { IfOk result (λ v. map lists.pair_view v.items ≡ spec.pairs version both (map string_bytes from.now) (map string_bytes to.now)) }
 {
     let mut pairs = Vec::new(alloc);
     for (place, name) in from.iter().enumerate() {
-        add_pairs(&mut pairs, both, place, name.as_str(), to)?;
+        add_pairs(&mut pairs, version, both, place, name.as_str(), to)?;
     }
     Ok(pairs)
 }
@@ -93,94 +107,53 @@ fn same_word(alloc: Global, word: &Word) -> Result<Word, AllocError>
     }
 }
 
-/// The way of a table between two groups by an endpoint.
-fn way_by(
-    alloc: Global,
-    table: &WayTable,
-    pair: Pair<'_>,
-    by: &Word,
-) -> Result<WayEntry, AllocError>
-    ensures { IfOk result (λ w. files.way_view w ≡ spec.way_by (lists.way_lists table.now) (lists.pair_view pair.entry) (word_view by.now)) }
-{
-    let badge = badge_at(table.badges.as_slice(), pair.place);
-    let from = String::from_str(alloc, pair.from)?;
-    let to = String::from_str(alloc, pair.to)?;
-    let by = same_word(alloc, by)?;
-    Ok(WayEntry {
-        from,
-        to,
-        by,
-        badge,
-        rights: table.rights,
-        place: table.place,
-    })
-}
-
 /// Adds the ways of a table between two groups: one by each endpoint.
-fn add_ways(
+fn add_ways_between(
     alloc: Global,
     ways: &mut Vec<WayEntry>,
     table: &WayTable,
-    pair: Pair<'_>,
+    pair: &Pair<'_>,
 ) -> Result<(), AllocError>
-    ensures { IfOk result (λ _. map files.way_view ways.new.items ≡ map files.way_view ways.old.items ++ map (spec.way_by (lists.way_lists table.now) (lists.pair_view pair.entry)) (map word_view table.now.by.items)) }
+    ensures { IfOk result (λ _. map files.way_view ways.new.items ≡ map files.way_view ways.old.items ++ map (spec.way_by (lists.way_lists table.now) (lists.pair_view pair.now)) (map word_view table.now.by.items)) }
 {
     let endpoints = table.by.as_slice();
     for by in endpoints {
-        let way = way_by(alloc, table, pair, by)?;
-        ways.push(way)?;
+        let from = String::from_str(alloc, pair.from)?;
+        let to = String::from_str(alloc, pair.to)?;
+        let word = same_word(alloc, by)?;
+        let badge = badge_at(table.badges.as_slice(), pair.place);
+        ways.push(WayEntry {
+            from,
+            to,
+            by: word,
+            badge,
+            rights: table.rights,
+            place: table.place,
+        })?;
     }
     Ok(())
 }
 
 /// Adds the ways of a table.
-fn add_all_ways(alloc: Global, ways: &mut Vec<WayEntry>, table: &WayTable) -> Result<(), AllocError>
-    ensures { IfOk result (λ _. map files.way_view ways.new.items ≡ map files.way_view ways.old.items ++ spec.expanded_way (lists.way_lists table.now)) }
+pub fn add_ways(
+    alloc: Global,
+    version: PolicyVersion,
+    ways: &mut Vec<WayEntry>,
+    table: &WayTable,
+) -> Result<(), AllocError>
+    ensures { IfOk result (λ _. map files.way_view ways.new.items ≡ map files.way_view ways.old.items ++ spec.expanded_way version (lists.way_lists table.now)) }
 {
     let (from, to) = (table.from.as_slice(), table.to.as_slice());
-    let made = pairs(alloc, table.both, from, to)?;
+    let made = pairs(alloc, version, table.both, from, to)?;
     let made = made.as_slice();
     for pair in made {
-        add_ways(alloc, ways, table, *pair)?;
+        add_ways_between(alloc, ways, table, pair)?;
     }
     Ok(())
 }
 
-/// The ways that tables stand for.
-pub fn expanded_ways(alloc: Global, tables: &[WayTable]) -> Result<Vec<WayEntry>, AllocError>
-    ensures { IfOk result (λ v. map files.way_view v.items ≡ flat_map spec.expanded_way (map lists.way_lists tables.now)) }
-{
-    let mut ways = Vec::new(alloc);
-    for table in tables {
-        add_all_ways(alloc, &mut ways, table)?;
-    }
-    Ok(ways)
-}
-
-/// The use of a table for a group and of an endpoint.
-fn use_by(
-    alloc: Global,
-    table: &UseTable,
-    place: usize,
-    group: &str,
-    of: &Word,
-) -> Result<UseEntry, AllocError>
-    ensures { IfOk result (λ u. files.use_view u ≡ spec.use_by (lists.use_lists table.now) place group.now (word_view of.now)) }
-{
-    let badge = badge_at(table.badges.as_slice(), place);
-    let group = String::from_str(alloc, group)?;
-    let of = same_word(alloc, of)?;
-    Ok(UseEntry {
-        group,
-        of,
-        badge,
-        rights: table.rights,
-        place: table.place,
-    })
-}
-
 /// Adds the uses of a table for one of its groups: one of each endpoint.
-fn add_uses(
+fn add_uses_of(
     alloc: Global,
     uses: &mut Vec<UseEntry>,
     table: &UseTable,
@@ -191,72 +164,51 @@ fn add_uses(
 {
     let endpoints = table.of.as_slice();
     for of in endpoints {
-        let made = use_by(alloc, table, place, group, of)?;
-        uses.push(made)?;
+        let name = String::from_str(alloc, group)?;
+        let word = same_word(alloc, of)?;
+        let badge = badge_at(table.badges.as_slice(), place);
+        uses.push(UseEntry {
+            group: name,
+            of: word,
+            badge,
+            rights: table.rights,
+            place: table.place,
+        })?;
     }
     Ok(())
 }
 
 /// Adds the uses of a table.
-fn add_all_uses(alloc: Global, uses: &mut Vec<UseEntry>, table: &UseTable) -> Result<(), AllocError>
+pub fn add_uses(alloc: Global, uses: &mut Vec<UseEntry>, table: &UseTable) -> Result<(), AllocError>
     ensures { IfOk result (λ _. map files.use_view uses.new.items ≡ map files.use_view uses.old.items ++ spec.expanded_use (lists.use_lists table.now)) }
 {
     let groups = table.groups.as_slice();
     for (place, group) in groups.iter().enumerate() {
-        add_uses(alloc, uses, table, place, group.as_str())?;
+        add_uses_of(alloc, uses, table, place, group.as_str())?;
     }
     Ok(())
-}
-
-/// The uses that tables stand for.
-pub fn expanded_uses(alloc: Global, tables: &[UseTable]) -> Result<Vec<UseEntry>, AllocError>
-    ensures { IfOk result (λ v. map files.use_view v.items ≡ flat_map spec.expanded_use (map lists.use_lists tables.now)) }
-{
-    let mut uses = Vec::new(alloc);
-    for table in tables {
-        add_all_uses(alloc, &mut uses, table)?;
-    }
-    Ok(uses)
-}
-
-/// The take between two groups of a table.
-fn take_between(alloc: Global, table: &TakeTable, pair: Pair<'_>) -> Result<TakeEntry, AllocError>
-    ensures { IfOk result (λ t. files.take_view t ≡ spec.take_between (lists.pair_view pair.entry)) }
-{
-    let from = String::from_str(alloc, pair.from)?;
-    let to = String::from_str(alloc, pair.to)?;
-    Ok(TakeEntry {
-        from,
-        to,
-        place: table.place,
-    })
 }
 
 /// Adds the takes of a table.
-fn add_all_takes(
+pub fn add_takes(
     alloc: Global,
+    version: PolicyVersion,
     takes: &mut Vec<TakeEntry>,
     table: &TakeTable,
 ) -> Result<(), AllocError>
-    ensures { IfOk result (λ _. map files.take_view takes.new.items ≡ map files.take_view takes.old.items ++ spec.expanded_take (lists.take_lists table.now)) }
+    ensures { IfOk result (λ _. map files.take_view takes.new.items ≡ map files.take_view takes.old.items ++ spec.expanded_take version (lists.take_lists table.now)) }
 {
     let (from, to) = (table.from.as_slice(), table.to.as_slice());
-    let made = pairs(alloc, table.both, from, to)?;
+    let made = pairs(alloc, version, table.both, from, to)?;
     let made = made.as_slice();
     for pair in made {
-        let take = take_between(alloc, table, *pair)?;
-        takes.push(take)?;
+        let from = String::from_str(alloc, pair.from)?;
+        let to = String::from_str(alloc, pair.to)?;
+        takes.push(TakeEntry {
+            from,
+            to,
+            place: table.place,
+        })?;
     }
     Ok(())
-}
-
-/// The takes that tables stand for.
-pub fn expanded_takes(alloc: Global, tables: &[TakeTable]) -> Result<Vec<TakeEntry>, AllocError>
-    ensures { IfOk result (λ v. map files.take_view v.items ≡ flat_map spec.expanded_take (map lists.take_lists tables.now)) }
-{
-    let mut takes = Vec::new(alloc);
-    for table in tables {
-        add_all_takes(alloc, &mut takes, table)?;
-    }
-    Ok(takes)
 }

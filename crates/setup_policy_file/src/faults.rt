@@ -1,5 +1,5 @@
 //! The faults of a policy, as they are found, and what is told of them.
-ghost use Rattle.std.specs.Prelude.{◌≡◌, ◌≤◌, IfSome, Ok, length};
+ghost use Rattle.std.specs.Prelude.{◌≡◌, IfSome, Ok};
 
 use crate::fault::{Fault, Spot, line_and_column};
 use crate::values::Bad;
@@ -66,18 +66,6 @@ impl Refusal {
     }
 }
 
-/// Where among some notes, in the order of the text, one of this place stands: behind those at or above it.
-fn place_among(notes: &[Note], line: usize, column: usize) -> usize
-    ensures { result ≤ length notes.now }
-{
-    for (i, note) in notes.iter().enumerate() {
-        if (note.line, note.column) > (line, column) {
-            return i;
-        }
-    }
-    notes.len()
-}
-
 /// The faults of a policy that were found so far.
 #[derive(Drop)]
 pub struct Faults<'a> {
@@ -105,15 +93,6 @@ impl<'a> Faults<'a> {
         }
     }
 
-    /// Whether one more is told; it is counted where it is not.
-    pub fn has_room(&mut self) -> bool {
-        let has_room = self.notes.len() < MOST;
-        if !has_room {
-            self.more = self.more.saturating_add(1);
-        }
-        has_room
-    }
-
     /// Tells of a fault behind those that stand above it in the text.
     fn tell(
         &mut self,
@@ -126,7 +105,13 @@ impl<'a> Faults<'a> {
         if self.first.is_none() {
             self.first = Some((fault, format!(in self.alloc; "{spot}")?));
         }
-        let place = place_among(self.notes.as_slice(), line, column);
+        let mut place = 0usize;
+        for note in self.notes.as_slice() {
+            if (note.line, note.column) > (line, column) {
+                break;
+            }
+            place += 1;
+        }
         self.notes.insert(
             place,
             Note {
@@ -140,7 +125,9 @@ impl<'a> Faults<'a> {
 
     /// Adds a fault at a spot of the text, with these words, and the spot at which it is shown.
     pub fn add(&mut self, fault: Fault, spot: Spot<'_>, shown: Spot<'_>, words: String) {
-        if self.has_room() {
+        if self.notes.len() == MOST {
+            self.more = self.more.saturating_add(1);
+        } else {
             let told = self.tell(fault, spot, shown, words);
             self.is_refused |= told.is_err();
         }

@@ -7,16 +7,14 @@ mod expanded;
 mod fault;
 mod faults;
 mod file;
-mod lists;
 mod near;
 mod reader;
 mod reading;
-mod several;
 mod tables;
 mod values;
 
 pub use fault::{Fault, Place, Spot, line_and_column};
 pub use faults::{Note, Refusal};
 pub use file::{GroupEntry, PolicyFile, TakeEntry, UseEntry, WayEntry, Word};
-pub use near::{did_you_mean, nearest};
+pub use near::did_you_mean;
 pub use reading::read_policy;

@@ -11,40 +11,28 @@ const BYTES_AN_EDIT: usize = 3;
 /// Nothing looks like a longer text.
 const MOST_BYTES: usize = 60;
 
-/// Of some names the first that looks most like a word, where one does.
+/// Asks whether a name was meant: of some names the first that looks most like the word, if one does; otherwise the words behind
+/// it.
 ///
 /// # Errors
-/// Where memory was refused.
-pub fn nearest<'a>(
-    alloc: Global,
-    word: &str,
-    names: &[&'a str],
-) -> Result<Option<&'a str>, AllocError> {
-    let most = MOST_EDITS.max(word.len() / BYTES_AN_EDIT);
-    let (mut nearest, mut fewest) = (None, most.saturating_add(1));
-    if word.len() > MOST_BYTES {
-        return Ok(None);
-    }
-    for name in names {
-        let edits = osa_distance(alloc, word, *name)?;
-        if edits < fewest {
-            (nearest, fewest) = (Some(*name), edits);
-        }
-    }
-    Ok(nearest)
-}
-
-/// Asks whether a name was meant, where one looks like the word; and else the words behind it.
-///
-/// # Errors
-/// Where memory was refused.
+/// If memory was refused.
 pub fn did_you_mean(
     alloc: Global,
     word: &str,
     names: &[&str],
     else_words: &str,
 ) -> Result<String, AllocError> {
-    match nearest(alloc, word, names)? {
+    let most = MOST_EDITS.max(word.len() / BYTES_AN_EDIT);
+    let (mut nearest, mut fewest) = (None, most.saturating_add(1));
+    if word.len() <= MOST_BYTES {
+        for name in names {
+            let edits = osa_distance(alloc, word, *name)?;
+            if edits < fewest {
+                (nearest, fewest) = (Some(*name), edits);
+            }
+        }
+    }
+    match nearest {
         Some(name) => format!(in alloc; "; did you mean {name}?"),
         None => String::from_str(alloc, else_words),
     }

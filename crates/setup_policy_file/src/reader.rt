@@ -1,24 +1,24 @@
 //! A table of a policy, of which the values at keys are read. A fault is noted, and reading goes on.
-ghost use Rattle.std.specs.Prelude.{◌≡◌, IfNone, IfOk, IfSome, IsErr, Ok, Some, find, map, not, option_and_then, option_copied, option_map, string_bytes, true};
-ghost use Rattle.std.specs.BTreeMap as tree;
+ghost use Rattle.std.specs.Prelude.{◌≡◌, IfOk, IfSome, Ok, Some, map, option_and_then, option_map, string_bytes, true};
 ghost use Rattle.toml.specs.View.{view, table_view};
 ghost use Rattle.toml.specs.Data.{get_member};
 ghost use Rattle.setup_format.specs.Tables.{is_one_of};
+ghost use Rattle.setup_policy_file.specs.Private.{is_added};
 ghost use Rattle.setup_policy_file.specs.Values as values;
 ghost use Rattle.setup_policy_file.specs.Files as spec;
 
 use crate::fault::{Fault, Place, Spot};
 use crate::faults::Faults;
 use crate::file::Word;
-use crate::lists::{Listing, each};
 use crate::near::did_you_mean;
 use crate::values::{
-    Bad, badge, elements, group_name, is_group_name, number, rights, switch, version, way_rights,
-    word,
+    Bad, Kind, Name, ObjectWord, Switch, elements, is_group_name, values_in, way_rights,
+    wrong_value,
 };
 use cap_core::Rights;
 use setup_policy::PolicyVersion;
-use std::alloc::{AllocError, Global};
+use std::alloc::Global;
+use std::fmt;
 use toml::{Table, Value};
 
 /// How an array's entries are called, which keys they have, and how one looks.
@@ -38,35 +38,25 @@ fn is_known(known: &[&str], key: &str) -> bool
     }
 }
 
-/// The first key of a table that is none of these.
-#[tactic(auto, using(crate::proofs::Known::only_known))]
-fn unknown_key<'t>(table: &'t Table, known: &[&str]) -> Option<&'t String>
-    ensures { IfNone result (spec.has_only (map (λ k. k.now) known.now) (table_view table.now) ≡ true) }
+/// A list with one element more; none if one of them is at fault.
+fn added<T: Drop>(faults: &mut Faults<'_>, list: Option<Vec<T>>, one: Option<T>) -> Option<Vec<T>>
+    ensures { IfSome result (is_added list one) }
 {
-    first_unknown(table, known)
+    let mut list = list?;
+    faults.kept(list.push(one?))?;
+    Some(list)
 }
 
-fn first_unknown<'t>(table: &'t Table, known: &[&str]) -> Option<&'t String>
-    ensures { option_copied result ≡ find (λ k. not (is_one_of (map (λ k. k.now) known.now) (string_bytes k))) (tree.keys table.now) }
+/// That no element of a list stands there twice.
+fn no_doubles<T: PartialEq + fmt::Display>(alloc: Global, items: &[T]) -> Result<(), Bad>
+    ensures { IfOk result (λ _. values.are_apart T.eq items.now ≡ true) }
 {
-    for key in table.keys() {
-        if !is_known(known, key.as_str()) {
-            return Some(key);
+    for (i, item) in items.iter().enumerate() {
+        if items[..i].contains(item) {
+            return wrong_value(format!(in alloc; "{item} stands twice")?);
         }
     }
-    None
-}
-
-/// What was read of a key, whose name stands before what is wrong with it.
-pub fn named<T>(alloc: Global, key: &str, read: Result<T, Bad>) -> Result<T, Bad>
-    ensures { IfOk result (λ x. read ≡ Ok x) }
-{
-    match read {
-        Err(Bad::Wrong(fault, words)) => {
-            Err(Bad::Wrong(fault, format!(in alloc; "{key}: {words}")?))
-        }
-        other => other,
-    }
+    Ok(())
 }
 
 /// A table of a policy's text.
@@ -76,226 +66,189 @@ pub struct Reader<'a> {
     pub table: &'a Table,
     pub place: Place,
     pub form: Form,
+    /// The version of the policy.
+    pub version: PolicyVersion,
 }
 
 impl<'a> Reader<'a> {
-    /// The value of a key, where it is there.
+    /// The value of a key, if it is there.
     pub fn find(self, key: &str) -> Option<&'a Value>
         ensures { option_map (λ v. view v.now) result ≡ get_member key.now (table_view self.entry.table.now) }
     {
         self.table.get(key)
     }
 
-    /// That a key is missing.
-    fn missing<T>(self, key: &str) -> Result<T, Bad>
-        ensures { IsErr result }
+    /// The value of a key; a fault if it is missing.
+    fn value(self, faults: &mut Faults<'_>, key: &str) -> Option<&'a Value>
+        ensures { IfSome result (λ v. get_member key.now (table_view self.entry.table.now) ≡ Some (view v.now)) }
     {
+        if let Some(value) = self.find(key) {
+            return Some(value);
+        }
         let Form { name, has, .. } = self.form;
         let words = match self.place {
             Place::Top => format!(in self.alloc;
                 "the key {key} is missing; write policy = 2 at the top"
-            )?,
-            _ => format!(in self.alloc; "the key {key} is missing; a {name} has {has}")?,
+            ),
+            _ => format!(in self.alloc; "the key {key} is missing; a {name} has {has}"),
         };
-        Err(Bad::Wrong(Fault::Missing, words))
+        let (words, spot) = (faults.kept(words)?, Spot::Key(self.place, key));
+        faults.add(Fault::Missing, spot, spot, words);
+        None
     }
 
-    /// The value of a key; a fault where it is missing.
-    pub fn value(self, faults: &mut Faults<'_>, key: &str) -> Option<&'a Value>
-        ensures { IfSome result (λ v. get_member key.now (table_view self.entry.table.now) ≡ Some (view v.now)) }
-    {
-        match self.find(key) {
-            Some(value) => Some(value),
-            None => faults.taken(Spot::Key(self.place, key), self.missing(key)),
-        }
-    }
-
-    /// What was read at a key; none where it is at fault.
-    pub fn taken<T>(self, faults: &mut Faults<'_>, key: &str, read: Result<T, Bad>) -> Option<T>
+    /// What was read of the value at a key, or of its element with this number, 1 the first; 0 is the value. None if it is at
+    /// fault: the key stands before what is wrong with it.
+    pub fn taken<T>(
+        self,
+        faults: &mut Faults<'_>,
+        key: &str,
+        n: usize,
+        read: Result<T, Bad>,
+    ) -> Option<T>
         ensures { IfSome result (λ x. read ≡ Ok x) }
     {
-        faults.taken(Spot::Key(self.place, key), named(self.alloc, key, read))
-    }
-
-    /// Where an element of the list at a key stands, 1 the first; or the key, where the value is no list and has 0.
-    pub fn element<'k>(self, key: &'k str, n: usize) -> Spot<'k> {
-        match n {
+        let spot = match n {
             0 => Spot::Key(self.place, key),
             n => Spot::Element(self.place, key, n),
+        };
+        match read {
+            Err(Bad::Wrong(fault, words)) => {
+                let words = faults.kept(format!(in self.alloc; "{key}: {words}"))?;
+                faults.add(fault, spot, spot, words);
+                None
+            }
+            other => faults.taken(spot, other),
         }
     }
 
-    /// A list, whose elements are read.
-    fn list_in<L: Listing>(
-        self,
-        list: L,
-        faults: &mut Faults<'_>,
-        key: &str,
-        value: &Value,
-    ) -> Option<Vec<L::Out>>
-        ensures { IfSome result (λ v. option_and_then (values.all_of L.reads) (values.elements_of (view value.now)) ≡ Some (map L.shown v.items)) }
-    {
-        let elements = self.taken(faults, key, elements(self.alloc, value))?;
-        each(list, self.alloc, faults, elements)
-    }
-
-    /// The list at a key, whose elements are read; none of them where the key is missing.
-    pub fn list<L: Listing>(
-        self,
-        list: L,
-        faults: &mut Faults<'_>,
-        key: &str,
-    ) -> Option<Vec<L::Out>>
-        ensures { IfSome result (λ v. option_and_then (values.all_of L.reads) (spec.elements_at key.now (table_view self.entry.table.now)) ≡ Some (map L.shown v.items)) }
-    {
-        match self.find(key) {
-            None => Some(Vec::new(self.alloc)),
-            Some(value) => self.list_in(list, faults, key, value),
-        }
-    }
-
-    /// Words, none where the key is missing.
-    #[tactic(auto, using(crate::proofs::InTurn::words_are))]
-    pub fn words(self, faults: &mut Faults<'_>, key: &str) -> Option<Vec<Word>>
-        ensures { IfSome result (λ v. spec.words_at key.now (table_view self.entry.table.now) ≡ Some (map values.word_view v.items)) }
-    {
-        self.list(Words { reader: self, key }, faults, key)
-    }
-
-    /// Words; a fault where the key is missing.
-    pub fn needed_words(self, faults: &mut Faults<'_>, key: &str) -> Option<Vec<Word>>
-        ensures { IfSome result (λ x. option_and_then values.words_of (get_member key.now (table_view self.entry.table.now)) ≡ Some (map values.word_view x.items)) }
+    /// What the value at a key is read as; a fault if it is missing.
+    pub fn needed<K: Kind>(self, faults: &mut Faults<'_>, key: &str) -> Option<K::Out>
+        ensures { IfSome result (λ x. spec.needed K.reads key.now (table_view self.entry.table.now) ≡ Some (K.shown x)) }
     {
         let value = self.value(faults, key)?;
-        self.list_in(Words { reader: self, key }, faults, key, value)
+        self.taken(faults, key, 0, K::read(self.alloc, value))
     }
 
-    /// A switch, which is as told where the key is missing.
+    /// The same, of a key that may be missing.
+    pub fn given<K: Kind>(self, faults: &mut Faults<'_>, key: &str) -> Option<Option<K::Out>>
+        ensures { IfSome result (λ o. spec.optional K.reads (get_member key.now (table_view self.entry.table.now)) ≡ Some (option_map K.shown o)) }
+    {
+        let Some(value) = self.find(key) else {
+            return Some(None);
+        };
+        let read = self.taken(faults, key, 0, K::read(self.alloc, value))?;
+        Some(Some(read))
+    }
+
+    /// A switch, which is as told if the key is missing.
     pub fn switch(self, faults: &mut Faults<'_>, key: &str, otherwise: bool) -> Option<bool>
         ensures { IfSome result (λ b. spec.switch_or otherwise key.now (table_view self.entry.table.now) ≡ Some b) }
     {
-        match self.find(key) {
-            None => Some(otherwise),
-            Some(value) => self.taken(faults, key, switch(self.alloc, value)),
-        }
+        let Some(value) = self.find(key) else {
+            return Some(otherwise);
+        };
+        self.taken(faults, key, 0, Switch::read(self.alloc, value))
     }
 
-    /// The name of a group.
-    pub fn group_name(self, faults: &mut Faults<'_>, key: &str) -> Option<String>
-        ensures { IfSome result (λ x. option_and_then values.group_name_of (get_member key.now (table_view self.entry.table.now)) ≡ Some (string_bytes x)) }
-    {
-        let value = self.value(faults, key)?;
-        self.taken(faults, key, group_name(self.alloc, value))
-    }
-
-    /// A word.
-    pub fn word(self, faults: &mut Faults<'_>, key: &str) -> Option<Word>
-        ensures { IfSome result (λ x. option_and_then values.word_of (get_member key.now (table_view self.entry.table.now)) ≡ Some (values.word_view x)) }
-    {
-        let value = self.value(faults, key)?;
-        self.taken(faults, key, word(self.alloc, value))
-    }
-
-    /// A badge, 0 for any.
-    pub fn badge(self, faults: &mut Faults<'_>, key: &str) -> Option<u64>
-        ensures { IfSome result (λ x. option_and_then values.badge_of (get_member key.now (table_view self.entry.table.now)) ≡ Some x) }
-    {
-        let value = self.value(faults, key)?;
-        self.taken(faults, key, badge(self.alloc, value))
-    }
-
-    /// The rights of a use.
-    pub fn rights(self, faults: &mut Faults<'_>, key: &str) -> Option<Rights>
-        ensures { IfSome result (λ x. option_and_then values.rights_of (get_member key.now (table_view self.entry.table.now)) ≡ Some x) }
-    {
-        let value = self.value(faults, key)?;
-        self.taken(faults, key, rights(self.alloc, value))
-    }
-
-    /// The rights of a way, Write where the key is missing.
-    pub fn way_rights(self, faults: &mut Faults<'_>, version: PolicyVersion) -> Option<Rights>
+    /// The rights of a way, Write if the key is missing.
+    pub fn way_rights(self, faults: &mut Faults<'_>) -> Option<Rights>
         ensures { IfSome result (λ r. spec.way_rights_at (table_view self.entry.table.now) ≡ Some r) }
     {
-        match self.find("rights") {
-            None => Some(Rights::WRITE),
-            Some(value) => { self.taken(faults, "rights", way_rights(self.alloc, value, version)) }
-        }
+        let Some(value) = self.find("rights") else {
+            return Some(Rights::WRITE);
+        };
+        let rights = way_rights(self.alloc, self.version, value);
+        self.taken(faults, "rights", 0, rights)
     }
 
-    /// The number of calls, where it is said.
-    pub fn after(self, faults: &mut Faults<'_>) -> Option<Option<u64>>
-        ensures { IfSome result (λ o. spec.after_in (table_view self.entry.table.now) ≡ Some o) }
+    /// What each of these elements is read as; none if one of them is at fault. The first has this number.
+    fn each<K: Kind>(
+        self,
+        faults: &mut Faults<'_>,
+        key: &str,
+        first: usize,
+        elements: &[Value],
+    ) -> Option<Vec<K::Out>>
+        ensures { IfSome result (λ v. values.all_of K.reads (map view elements.now) ≡ Some (map K.shown v.items)) }
     {
-        match self.find("after") {
-            None => Some(None),
-            Some(value) => {
-                let number = self.taken(faults, "after", number(self.alloc, value))?;
-                Some(Some(number))
-            }
+        let mut read = Some(Vec::new(self.alloc));
+        let mut n = first;
+        for element in elements {
+            let one = self.taken(faults, key, n, K::read(self.alloc, element));
+            read = added(faults, read, one);
+            n = n.saturating_add(1);
         }
+        read
     }
 
-    /// The version of the form.
-    pub fn version(self, faults: &mut Faults<'_>) -> Option<PolicyVersion>
-        ensures { IfSome result (λ v. spec.version_in (table_view self.entry.table.now) ≡ Some v) }
+    /// The list at a key, whose elements are read; a fault if the key is missing.
+    pub fn needed_list<K: Kind>(self, faults: &mut Faults<'_>, key: &str) -> Option<Vec<K::Out>>
+        ensures { IfSome result (λ v. spec.needed (values.list_of K.reads) key.now (table_view self.entry.table.now) ≡ Some (map K.shown v.items)) }
     {
-        let value = self.value(faults, "policy")?;
-        self.taken(faults, "policy", version(self.alloc, value))
+        let value = self.value(faults, key)?;
+        let elements = self.taken(faults, key, 0, elements(self.alloc, value))?;
+        self.each::<K>(faults, key, 1, elements)
     }
 
-    /// What is wrong with a key that the table does not have.
-    fn unknown(self, key: &str) -> Result<(), Bad> {
-        let Form { keys, has, .. } = self.form;
-        let others = format!(in self.alloc; "; the keys are {has}")?;
-        let question = did_you_mean(self.alloc, key, keys, others.as_str())?;
-        let words = format!(in self.alloc; "there is no key {key}{question}")?;
-        Err(Bad::Wrong(Fault::Unknown, words))
-    }
-
-    /// Notes each key that the table does not have.
-    fn note_unknown(self, faults: &mut Faults<'_>) {
-        for key in self.table.keys() {
-            let key = key.as_str();
-            if !is_known(self.form.keys, key) {
-                let shown = if is_group_name(key) { key } else { "?" };
-                let _noted = faults.taken(Spot::Key(self.place, shown), self.unknown(key));
-            }
+    /// The same; no elements if the key is missing.
+    pub fn list<K: Kind>(self, faults: &mut Faults<'_>, key: &str) -> Option<Vec<K::Out>>
+        ensures { IfSome result (λ v. spec.list_at K.reads key.now (table_view self.entry.table.now) ≡ Some (map K.shown v.items)) }
+    {
+        if self.find(key).is_none() {
+            return Some(Vec::new(self.alloc));
         }
+        self.needed_list::<K>(faults, key)
+    }
+
+    /// What the values at a key are read as, of which version 2 allows a list.
+    pub fn several<K: Kind>(self, faults: &mut Faults<'_>, key: &str) -> Option<Vec<K::Out>>
+        ensures { IfSome result (λ v. spec.needed (values.one_or_more self.entry.version K.reads) key.now (table_view self.entry.table.now) ≡ Some (map K.shown v.items)) }
+    {
+        let value = self.value(faults, key)?;
+        let elements = values_in(self.alloc, self.version, value);
+        let elements = self.taken(faults, key, 0, elements)?;
+        let is_list = self.version == PolicyVersion::Two && value.is_array();
+        self.each::<K>(faults, key, usize::from(is_list), elements)
+    }
+
+    /// The names of groups, none of them twice.
+    pub fn names(self, faults: &mut Faults<'_>, key: &str) -> Option<Vec<String>>
+        ensures { IfSome result (λ v. spec.names_at self.entry.version key.now (table_view self.entry.table.now) ≡ Some (map string_bytes v.items)) }
+    {
+        let names = self.several::<Name>(faults, key)?;
+        self.taken(faults, key, 0, no_doubles(self.alloc, names.as_slice()))?;
+        Some(names)
+    }
+
+    /// Words, none of them twice.
+    pub fn words(self, faults: &mut Faults<'_>, key: &str) -> Option<Vec<Word>>
+        ensures { IfSome result (λ v. spec.different_words_at self.entry.version key.now (table_view self.entry.table.now) ≡ Some (map values.word_view v.items)) }
+    {
+        let words = self.several::<ObjectWord>(faults, key)?;
+        self.taken(faults, key, 0, no_doubles(self.alloc, words.as_slice()))?;
+        Some(words)
     }
 
     /// A fault for each key that the table does not have.
     pub fn only_known(self, faults: &mut Faults<'_>) -> Option<()>
         ensures { IfSome result (λ _. spec.has_only (map (λ k. k.now) self.entry.form.keys.now) (table_view self.entry.table.now) ≡ true) }
     {
-        if unknown_key(self.table, self.form.keys).is_some() {
-            self.note_unknown(faults);
-            return None;
+        let Reader { alloc, form, .. } = self;
+        let Form { keys, has, .. } = form;
+        let mut are_known = true;
+        for key in self.table.keys() {
+            let key = key.as_str();
+            if !is_known(keys, key) {
+                are_known = false;
+                let others = faults.kept(format!(in alloc; "; the keys are {has}"))?;
+                let question = faults.kept(did_you_mean(alloc, key, keys, others.as_str()))?;
+                let words = faults.kept(format!(in alloc; "there is no key {key}{question}"))?;
+                let shown = if is_group_name(key) { key } else { "?" };
+                let spot = Spot::Key(self.place, shown);
+                faults.add(Fault::Unknown, spot, spot, words);
+            }
         }
-        Some(())
-    }
-}
-
-/// The words at a key.
-#[derive(Clone, Copy)]
-pub struct Words<'a> {
-    pub reader: Reader<'a>,
-    pub key: &'a str,
-}
-
-impl Listing for Words<'_> {
-    ghost use Rattle.setup_policy_file.specs.Values.{WordView, word_of, word_view};
-
-    type Out = Word;
-
-    ghost View = { WordView };
-
-    ghost shown = { word_view };
-
-    ghost reads = { word_of };
-
-    fn read(self, faults: &mut Faults<'_>, value: &Value, n: usize) -> Option<Word> {
-        let Words { reader, key } = self;
-        let word = named(reader.alloc, key, word(reader.alloc, value));
-        faults.taken(reader.element(key, n), word)
+        if are_known { Some(()) } else { None }
     }
 }

@@ -1,6 +1,5 @@
 //! The values of a policy's keys.
-ghost use Rattle.std.specs.Prelude.{◌≡◌, IfOk, IsErr, MatchOption, None, Some, map, option_and_then, string_bytes};
-ghost use Rattle.std.specs.List.{list_all};
+ghost use Rattle.std.specs.Prelude.{◌≡◌, IfOk, IsErr, MatchOption, None, Some, map, option_and_then};
 ghost use Rattle.toml.specs.View.{view};
 ghost use Rattle.setup_policy_file.specs.Values as spec;
 ghost use Rattle.setup_policy_file.specs.Files.{with_write};
@@ -10,8 +9,9 @@ use crate::file::Word;
 use cap_core::{Rights, Wide};
 use setup_policy::PolicyVersion;
 use setup_values::kinds::Word as SetupWord;
-use setup_values::{Kind, KnownNames};
-use std::alloc::{AllocError, AllocFailed, Global};
+use setup_values::{Kind as SetupKind, KnownNames};
+use std::alloc::{AllocError, Global};
+use std::slice::from_ref;
 use toml::Value;
 
 /// The most bytes of a group's name.
@@ -22,12 +22,6 @@ const MOST_NAME_BYTES: usize = 40;
 pub enum Bad {
     Memory,
     Wrong(Fault, String),
-}
-
-impl<T: Drop> From<AllocFailed<T>> for Bad {
-    fn from(_refused: AllocFailed<T>) -> Bad {
-        Bad::Memory
-    }
 }
 
 impl From<AllocError> for Bad {
@@ -56,53 +50,116 @@ fn wrong_type<T>(alloc: Global, what: &str, value: &Value, remedy: &str) -> Resu
     Err(Bad::Wrong(Fault::Type, words))
 }
 
-fn wrong_value<T>(words: String) -> Result<T, Bad>
+/// That a value is not allowed.
+pub fn wrong_value<T>(words: String) -> Result<T, Bad>
     ensures { IsErr result }
 {
     Err(Bad::Wrong(Fault::Value, words))
 }
 
+/// A kind of value: what a key of a policy takes.
+pub trait Kind {
+    ghost use Rattle.std.specs.Prelude.{Option};
+    ghost use Rattle.toml.specs.Data.{Data};
+
+    /// What a value is read as.
+    type Out: Drop;
+
+    /// The same, as a policy's text says it.
+    ghost View: { Type 0 };
+
+    ghost shown: { Self.Out → View };
+
+    ghost reads: { Data → Option View };
+
+    /// Reads a value.
+    ///
+    /// # Errors
+    /// `Wrong` of a value of another type, or one that is not allowed; `Memory` if it was refused.
+    fn read(alloc: Global, value: &Value) -> Result<Self::Out, Bad>
+        ensures { IfOk result (λ x. reads (view value.now) ≡ Some (shown x)) };
+}
+
 /// The version of the form.
-pub fn version(alloc: Global, value: &Value) -> Result<PolicyVersion, Bad>
-    ensures { IfOk result (λ v. spec.version_of (view value.now) ≡ Some v) }
-{
-    match value {
-        Value::Integer(1) => Ok(PolicyVersion::One),
-        Value::Integer(2) => Ok(PolicyVersion::Two),
-        Value::Integer(other) => wrong_value(format!(in alloc;
-            "the value is {other}; this program reads policy = 1 and policy = 2"
-        )?),
-        other => wrong_type(alloc, "value is", other, "write policy = 2"),
+pub struct Version;
+
+impl Kind for Version {
+    ghost use Rattle.setup_policy.specs.declared.policy.PolicyVersion.{PolicyVersion};
+    ghost use Rattle.setup_policy_file.specs.Values.{version_of};
+
+    type Out = PolicyVersion;
+
+    ghost View = { PolicyVersion };
+
+    ghost shown = { λ v. v };
+
+    ghost reads = { version_of };
+
+    fn read(alloc: Global, value: &Value) -> Result<PolicyVersion, Bad> {
+        match value {
+            Value::Integer(1) => Ok(PolicyVersion::One),
+            Value::Integer(2) => Ok(PolicyVersion::Two),
+            Value::Integer(other) => wrong_value(format!(in alloc;
+                "the value is {other}; this program reads policy = 1 and policy = 2"
+            )?),
+            other => wrong_type(alloc, "value is", other, "write policy = 2"),
+        }
     }
 }
 
 /// `true` or `false`.
-pub fn switch(alloc: Global, value: &Value) -> Result<bool, Bad>
-    ensures { IfOk result (λ b. spec.switch_of (view value.now) ≡ Some b) }
-{
-    match value {
-        Value::Boolean(is_on) => Ok(*is_on),
-        other => wrong_type(
-            alloc,
-            "value is",
-            other,
-            "write true or false, without quotes",
-        ),
+pub struct Switch;
+
+impl Kind for Switch {
+    ghost use Rattle.std.specs.Prelude.{Bool};
+    ghost use Rattle.setup_policy_file.specs.Values.{switch_of};
+
+    type Out = bool;
+
+    ghost View = { Bool };
+
+    ghost shown = { λ b. b };
+
+    ghost reads = { switch_of };
+
+    fn read(alloc: Global, value: &Value) -> Result<bool, Bad> {
+        match value {
+            Value::Boolean(is_on) => Ok(*is_on),
+            other => wrong_type(
+                alloc,
+                "value is",
+                other,
+                "write true or false, without quotes",
+            ),
+        }
     }
 }
 
 /// A number of calls.
-pub fn number(alloc: Global, value: &Value) -> Result<u64, Bad>
-    ensures { IfOk result (λ n. spec.number_of (view value.now) ≡ Some n) }
-{
-    match value {
-        Value::Integer(number) => match u64::try_from(*number) {
-            Ok(number) => Ok(number),
-            Err(_) => wrong_value(format!(in alloc;
-                "the value is {number}; it has to be a number from 0 on"
-            )?),
-        },
-        other => wrong_type(alloc, "value is", other, "it has to be a number"),
+pub struct Number;
+
+impl Kind for Number {
+    ghost use Rattle.std.specs.Prelude.{ℕ};
+    ghost use Rattle.setup_policy_file.specs.Values.{number_of};
+
+    type Out = u64;
+
+    ghost View = { ℕ };
+
+    ghost shown = { λ n. n };
+
+    ghost reads = { number_of };
+
+    fn read(alloc: Global, value: &Value) -> Result<u64, Bad> {
+        match value {
+            Value::Integer(number) => match u64::try_from(*number) {
+                Ok(number) => Ok(number),
+                Err(_) => wrong_value(format!(in alloc;
+                    "the value is {number}; it has to be a number from 0 on"
+                )?),
+            },
+            other => wrong_type(alloc, "value is", other, "it has to be a number"),
+        }
     }
 }
 
@@ -112,37 +169,44 @@ fn is_name_byte(byte: u8) -> bool
     byte.is_ascii_alphanumeric() || byte == b'_' || byte == b'-'
 }
 
-fn has_name_bytes(text: &[u8]) -> bool
-    ensures { result ≡ list_all spec.is_name_byte text.now }
-{
-    for byte in text {
-        if !is_name_byte(*byte) {
-            return false;
-        }
-    }
-    true
-}
-
 /// Whether a text may be a group's name.
 pub fn is_group_name(text: &str) -> bool
     ensures { result ≡ spec.is_group_name text.now }
 {
     let bytes = text.as_bytes();
-    bytes.len() >= 1 && bytes.len() <= MOST_NAME_BYTES && has_name_bytes(bytes)
+    for byte in bytes {
+        if !is_name_byte(*byte) {
+            return false;
+        }
+    }
+    bytes.len() >= 1 && bytes.len() <= MOST_NAME_BYTES
 }
 
 /// The name of a group.
-pub fn group_name(alloc: Global, value: &Value) -> Result<String, Bad>
-    ensures { IfOk result (λ s. spec.group_name_of (view value.now) ≡ Some (string_bytes s)) }
-{
-    match value {
-        Value::String(text) if is_group_name(text.as_str()) => {
-            Ok(String::from_str(alloc, text.as_str())?)
+pub struct Name;
+
+impl Kind for Name {
+    ghost use Rattle.std.specs.Prelude.{List, ℕ, string_bytes};
+    ghost use Rattle.setup_policy_file.specs.Values.{group_name_of};
+
+    type Out = String;
+
+    ghost View = { List ℕ };
+
+    ghost shown = { string_bytes };
+
+    ghost reads = { group_name_of };
+
+    fn read(alloc: Global, value: &Value) -> Result<String, Bad> {
+        match value {
+            Value::String(text) if is_group_name(text.as_str()) => {
+                Ok(String::from_str(alloc, text.as_str())?)
+            }
+            Value::String(text) => wrong_value(format!(in alloc;
+                "the value is \"{text}\"; a name has 1 to 40 letters, digits, _ and -"
+            )?),
+            other => wrong_type(alloc, "value is", other, "it has to be a name in quotes"),
         }
-        Value::String(text) => wrong_value(format!(in alloc;
-            "the value is \"{text}\"; a name has 1 to 40 letters, digits, _ and -"
-        )?),
-        other => wrong_type(alloc, "value is", other, "it has to be a name in quotes"),
     }
 }
 
@@ -167,21 +231,11 @@ fn decimal(text: &[u8]) -> Option<u64>
     Some(number)
 }
 
-/// A text without the `@` before it.
-fn without_at(text: &str) -> &str
-    ensures { result.now ≡ spec.without_at text.now }
-{
-    match text.strip_prefix("@") {
-        Some(name) => name,
-        None => text,
-    }
-}
-
 /// A word for a thread, an endpoint or a region, from a text.
 pub fn word_in(alloc: Global, text: &str) -> Result<Word, Bad>
     ensures { IfOk result (λ w. spec.word_in text.now ≡ Some (spec.word_view w)) }
 {
-    let name = without_at(text);
+    let name = text.strip_prefix("@").unwrap_or(text);
     if name.is_empty() {
         return wrong_value(String::from_str(alloc, "the name is empty")?);
     }
@@ -191,24 +245,36 @@ pub fn word_in(alloc: Global, text: &str) -> Result<Word, Bad>
     }
 }
 
-/// A word for a thread, an endpoint or a region.
-pub fn word(alloc: Global, value: &Value) -> Result<Word, Bad>
-    ensures { IfOk result (λ w. spec.word_of (view value.now) ≡ Some (spec.word_view w)) }
-{
-    match value {
-        Value::Integer(number) => match u64::try_from(*number) {
-            Ok(number) => Ok(Word::Number(number)),
-            Err(_) => wrong_value(format!(in alloc;
-                "the value is {number}; an address is a number from 0 on"
-            )?),
-        },
-        Value::String(text) => word_in(alloc, text.as_str()),
-        other => wrong_type(
-            alloc,
-            "value is",
-            other,
-            "it has to be a name of the set-up in quotes, or an address",
-        ),
+/// A word for an object.
+pub struct ObjectWord;
+
+impl Kind for ObjectWord {
+    ghost use Rattle.setup_policy_file.specs.Values.{WordView, word_of, word_view};
+
+    type Out = Word;
+
+    ghost View = { WordView };
+
+    ghost shown = { word_view };
+
+    ghost reads = { word_of };
+
+    fn read(alloc: Global, value: &Value) -> Result<Word, Bad> {
+        match value {
+            Value::Integer(number) => match u64::try_from(*number) {
+                Ok(number) => Ok(Word::Number(number)),
+                Err(_) => wrong_value(format!(in alloc;
+                    "the value is {number}; an address is a number from 0 on"
+                )?),
+            },
+            Value::String(text) => word_in(alloc, text.as_str()),
+            other => wrong_type(
+                alloc,
+                "value is",
+                other,
+                "it has to be a name of the set-up in quotes, or an address",
+            ),
+        }
     }
 }
 
@@ -219,6 +285,20 @@ pub fn listed(value: &Value) -> Option<&[Value]>
 {
     let array = value.as_array()?;
     Some(array.as_slice())
+}
+
+/// The values at a key: in version 1 the one; in version 2 also those of a list, which is not empty.
+pub fn values_in(alloc: Global, version: PolicyVersion, value: &Value) -> Result<&[Value], Bad>
+    ensures { IfOk result (λ vs. spec.values_in version (view value.now) ≡ Some (map view vs.now)) }
+{
+    if version == PolicyVersion::One {
+        return Ok(from_ref(value));
+    }
+    match listed(value) {
+        None => Ok(from_ref(value)),
+        Some([]) => wrong_value(String::from_str(alloc, "the list is empty")?),
+        Some(elements) => Ok(elements),
+    }
 }
 
 /// The elements of a list.
@@ -233,35 +313,41 @@ pub fn elements(alloc: Global, value: &Value) -> Result<&[Value], Bad>
     Ok(elements)
 }
 
-/// What is wrong with a badge.
-fn wrong_badge(alloc: Global, value: &Value) -> Result<u64, Bad>
-    ensures { IsErr result }
-{
-    match value {
-        Value::String(text) => wrong_value(format!(in alloc;
-            "the badge is \"{text}\"; write a number, or \"any\""
-        )?),
-        Value::Integer(number) => wrong_value(format!(in alloc;
-            "the badge is {number}; it has to be a number from 1 to 2^64 - 1"
-        )?),
-        other => wrong_type(alloc, "badge is", other, "write a number, or \"any\""),
-    }
-}
-
 /// A badge, 0 for any.
-pub fn badge(alloc: Global, value: &Value) -> Result<u64, Bad>
-    ensures { IfOk result (λ n. spec.badge_of (view value.now) ≡ Some n) }
-{
-    if value.as_str() == Some("any") {
-        return Ok(0);
-    }
-    match SetupWord.read::<Wide>(&KnownNames::none(), value) {
-        Ok(0) => wrong_value(String::from_str(
-            alloc,
-            "the badge is 0; who holds an endpoint without a badge may mint any: write badge = \"any\"",
-        )?),
-        Ok(number) => Ok(number),
-        Err(_) => wrong_badge(alloc, value),
+pub struct Badge;
+
+impl Kind for Badge {
+    ghost use Rattle.std.specs.Prelude.{ℕ};
+    ghost use Rattle.setup_policy_file.specs.Values.{badge_of};
+
+    type Out = u64;
+
+    ghost View = { ℕ };
+
+    ghost shown = { λ n. n };
+
+    ghost reads = { badge_of };
+
+    fn read(alloc: Global, value: &Value) -> Result<u64, Bad> {
+        if value.as_str() == Some("any") {
+            return Ok(0);
+        }
+        match (SetupWord.read::<Wide>(&KnownNames::none(), value), value) {
+            (Ok(0), _) => wrong_value(String::from_str(
+                alloc,
+                "the badge is 0; who holds an endpoint without a badge may mint any: write badge = \"any\"",
+            )?),
+            (Ok(number), _) => Ok(number),
+            (Err(_), Value::String(text)) => wrong_value(format!(in alloc;
+                "the badge is \"{text}\"; write a number, or \"any\""
+            )?),
+            (Err(_), Value::Integer(number)) => wrong_value(format!(in alloc;
+                "the badge is {number}; it has to be a number from 1 to 2^64 - 1"
+            )?),
+            (Err(_), other) => {
+                wrong_type(alloc, "badge is", other, "write a number, or \"any\"")
+            }
+        }
     }
 }
 
@@ -281,57 +367,61 @@ fn with_letter(rights: Rights, letter: u8) -> Option<Rights>
 }
 
 /// Rights, by their letters.
-pub fn rights(alloc: Global, value: &Value) -> Result<Rights, Bad>
-    ensures { IfOk result (λ r. spec.rights_of (view value.now) ≡ Some r) }
-{
-    let Value::String(text) = value else {
-        return wrong_type(
-            alloc,
-            "rights are",
-            value,
-            "write letters of wrgp in quotes, as \"w\"",
-        );
-    };
-    let mut rights = Rights(0);
-    let letters = text.as_bytes();
-    for letter in letters {
-        match with_letter(rights, *letter) {
-            Some(more) => rights = more,
-            None => {
-                return wrong_value(format!(in alloc;
-                    "the rights are \"{text}\"; the letters are w (Write), r (Read), g (Grant) and p (GrantReply)"
-                )?);
+pub struct Letters;
+
+impl Kind for Letters {
+    ghost use Rattle.cap_core.specs.declared.rights.Rights.{Rights};
+    ghost use Rattle.setup_policy_file.specs.Values.{rights_of};
+
+    type Out = Rights;
+
+    ghost View = { Rights };
+
+    ghost shown = { λ r. r };
+
+    ghost reads = { rights_of };
+
+    fn read(alloc: Global, value: &Value) -> Result<Rights, Bad> {
+        let Value::String(text) = value else {
+            return wrong_type(
+                alloc,
+                "rights are",
+                value,
+                "write letters of wrgp in quotes, as \"w\"",
+            );
+        };
+        let mut rights = Rights(0);
+        let letters = text.as_bytes();
+        for letter in letters {
+            match with_letter(rights, *letter) {
+                Some(more) => rights = more,
+                None => {
+                    return wrong_value(format!(in alloc;
+                        "the rights are \"{text}\"; the letters are w (Write), r (Read), g (Grant) and p (GrantReply)"
+                    )?);
+                }
             }
         }
-    }
-    Ok(rights)
-}
-
-/// What is wrong with the rights of a way that lack Write.
-fn wrong_rights(alloc: Global, value: &Value, version: PolicyVersion) -> Result<Rights, Bad>
-    ensures { IsErr result }
-{
-    match version {
-        PolicyVersion::One => wrong_value(String::from_str(
-            alloc,
-            "a way carries Write; add w, or say by a use what else may be held",
-        )?),
-        PolicyVersion::Two => {
-            let shown = shown(alloc, value)?;
-            wrong_value(format!(in alloc;
-                "the rights are {shown}; who sends needs w: write it, or a use for what is not sent"
-            )?)
-        }
+        Ok(rights)
     }
 }
 
 /// The rights of a way, which have Write.
-pub fn way_rights(alloc: Global, value: &Value, version: PolicyVersion) -> Result<Rights, Bad>
+pub fn way_rights(alloc: Global, version: PolicyVersion, value: &Value) -> Result<Rights, Bad>
     ensures { IfOk result (λ r. option_and_then with_write (spec.rights_of (view value.now)) ≡ Some r) }
 {
-    let rights = rights(alloc, value)?;
-    if rights.0 & Rights::WRITE.0 == 0 {
-        return wrong_rights(alloc, value, version);
+    let rights = Letters::read(alloc, value)?;
+    if rights.0 & Rights::WRITE.0 != 0 {
+        return Ok(rights);
     }
-    Ok(rights)
+    if version == PolicyVersion::One {
+        return wrong_value(String::from_str(
+            alloc,
+            "a way carries Write; add w, or say by a use what else may be held",
+        )?);
+    }
+    let shown = shown(alloc, value)?;
+    wrong_value(format!(in alloc;
+        "the rights are {shown}; who sends needs w: write it, or a use for what is not sent"
+    )?)
 }

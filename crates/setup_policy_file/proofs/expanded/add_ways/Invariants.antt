@@ -1,12 +1,13 @@
 use Rattle.std.proofs.Common.{◌≡◌, ◌++◌, drop, map}
+use Rattle.std.specs.List.{flat_map}
 use Rattle.setup_policy_file.specs.Files.{way_view}
-use Rattle.setup_policy_file.specs.Lists.{way_by}
+use Rattle.setup_policy_file.specs.Lists.{Pair, way_by}
 use Rattle.setup_policy_file.specs.Private.{pair_view, way_lists}
-use Rattle.setup_policy_file.specs.Values.{word_view}
 use Rattle.setup_policy_file.proofs.expanded.add_ways.Given as goal
 
-abbrev pub invariant-loop-by : goal.invariant-loop-by
-invariant-loop-by l =
-    let each = way_by (way_lists l.table) (pair_view l.pair) in
-    map way_view l.ways.items ++ map each (map word_view (drop l.by-index l.endpoints))
-    ≡ map way_view l.initial.ways.items ++ map each (map word_view l.endpoints)
+abbrev pub invariant-loop-pair : goal.invariant-loop-pair
+invariant-loop-pair l =
+    let lists = way_lists l.table in
+    let by_each = λ (p : Pair). map (way_by lists p) lists.by in
+    map way_view l.ways.items ++ flat_map by_each (map pair_view (drop l.pair-index l.made))
+    ≡ map way_view l.initial.ways.items ++ flat_map by_each (map pair_view l.made)

@@ -8,5 +8,5 @@ abbrev pub invariant-loop-place : goal.invariant-loop-place
 invariant-loop-place l =
     let to = map string_bytes l.to in
     map pair_view l.pairs.items
-    ++ flat_map (λ (f : ℕ × List ℕ). flat_map (lists.pairs_between l.both f.0 f.1) to) (enumerate_from l.place (map string_bytes (drop l.place l.from)))
-    ≡ lists.pairs l.both (map string_bytes l.from) to
+    ++ flat_map (λ (f : ℕ × List ℕ). flat_map (lists.pairs_between l.version l.both f.0 f.1) to) (enumerate_from l.place (map string_bytes (drop l.place l.from)))
+    ≡ lists.pairs l.version l.both (map string_bytes l.from) to
