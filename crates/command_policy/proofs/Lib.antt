@@ -1,3 +1,4 @@
 pub mod Lengths
 mod Lines
 pub mod Answered
+pub mod Origins

@@ -1,23 +1,33 @@
 -- What is written of a set-up that is held to a policy, and the verdict.
-use Rattle.std.specs.Prelude.{◌≡◌, ◌⊎◌, ◌++◌, ◌≤◌, codes, ℕ, false, List, [], map, Option, Some, None}
+use Rattle.std.specs.Prelude.{◌≡◌, ◌⊎◌, ◌++◌, ◌≤◌, codes, ℕ, true, false, List, [], map, Option, Some, None}
 use Rattle.std.specs.Option.{option_or}
 use Rattle.std.specs.Fmt.{decimal}
 use Rattle.cap_core.specs.declared.profile.ProfileName.{ProfileName}
+use Rattle.cap_core.specs.Numbers.{slot_bits}
 use Rattle.kernel_abstract.specs.declared.call.Reply.{Reply}
 use Rattle.kernel_abstract.specs.Shown.{Shown}
 use Rattle.kernel_abstract.specs.State.{shown}
 use Rattle.setup_values.specs.Names.{Names}
 use Rattle.setup_format.specs.Views.{SetupView, ReadView}
 use Rattle.setup_report.specs.Behind.{state_behind, replies_behind, calls_made}
-use Rattle.setup_report.specs.State.{is_in}
+use Rattle.setup_report.specs.State.{is_in, slot_rows}
 use Rattle.command_core.specs.declared.fault.Verdict.{Verdict}
 use Rattle.command_core.specs.declared.fault.Verdict.TheVariants.{Refused, Absent}
+use Rattle.setup_policy.specs.declared.policy.PolicyVersion.{PolicyVersion}
+use Rattle.setup_policy.specs.declared.policy.PolicyVersion.TheVariants.{One, Two}
+use Rattle.command_parts.specs.declared.takes.PartSlot.{PartSlot}
+use Rattle.command_parts.specs.Takes.{part_slot}
+use Rattle.command_policy_text.specs.declared.places.Origin.{Origin}
 use Rattle.command_policy_text.specs.declared.told.Held.{Held}
-use Rattle.command_policy_breaches.specs.Joins.{blocks, homes_joined, joins}
+use Rattle.command_policy_text.specs.declared.told.Told.{Told}
+use Rattle.command_policy_breaches.specs.Joins.{all_joined, blocks, homes_joined, joins, single_block}
 use Rattle.command_policy_breaches.specs.Layouts.{IsLayoutOf}
+use Rattle.command_policy_places.specs.Places.{filled_by, texts_by_labels, texts_told, waits_since}
+use Rattle.command_policy_text.specs.Places.{place_lines}
 use Rattle.command_policy_text.specs.Texts.{breach_lines as lines_of_breaches, text_and_verdict}
 use Rattle.command_policy_breaches.specs.Ways.{passages}
 use Rattle.command_policy.specs.declared.judging.Judged.{Judged}
+use Rattle.command_policy.specs.declared.judging.Sources.{Sources}
 use Rattle.setup_policy_file.specs.Files.{IsPolicyText}
 use Rattle.setup_policy_file.specs.declared.file.PolicyFile.{PolicyFile}
 use Rattle.setup_policy_meaning.specs.Meant.{AreLabels}
@@ -44,9 +54,37 @@ pub record IsJudgedOf (p : ProfileName) (v : Shown) (replies : List Reply) (j : 
 abbrev pub IsJudged : ProfileName → SetupView → ℕ → Judged → Type 0
 IsJudged p setup made j = IsJudgedOf p (shown (state_behind p setup made)) (replies_behind p setup made) j
 
--- the text, and the verdict
-abbrev pub told_of : Judged → SetupView → List ℕ × Verdict
-told_of j setup = text_and_verdict j.policy j.layout j.labels j.homes.items j.joins.items j.passages.items setup j.replies.items
+-- the text, and the verdict; `places` is what stands below the line of a breach
+abbrev pub told_with : (Told → List ℕ) → Judged → SetupView → List ℕ × Verdict
+told_with places j setup = text_and_verdict places j.policy j.layout j.labels j.homes.items j.joins.items j.passages.items setup j.replies.items
+
+-- the full slots by rising address behind the first calls, each with the part in which it lies
+abbrev pub slots_behind : ProfileName → SetupView → ℕ → Judged → List PartSlot
+slots_behind p setup made j = map (part_slot j.layout.memory.items) (slot_rows (shown (state_behind p setup made)))
+
+-- the places of what is told, in the state behind the first calls, by what its objects are called
+abbrev pub places_behind : ProfileName → SetupView → ℕ → Judged → Told → List ℕ
+places_behind p setup made j =
+    place_lines (texts_by_labels j.labels (slot_bits p) (slots_behind p setup made j)) (filled_by p setup made) (waits_since setup.calls j.replies.items)
+    j.policy j.layout (all_joined (map single_block j.layout.parts.items) j.joins.items) (slots_behind p setup made j)
+
+-- version 1 tells of no places
+abbrev pub told_in : PolicyVersion → (Told → List ℕ) → Told → List ℕ
+told_in One places told = []
+told_in Two places told = places told
+
+-- the text, and the verdict; in version 2 below the line of each breach stand its places
+abbrev pub told_of : ProfileName → SetupView → ℕ → Judged → List ℕ × Verdict
+told_of p setup made j = told_with (told_in j.policy.version (places_behind p setup made j)) j setup
+
+-- where breaches come from, with the first calls of a set-up
+pub record IsOriginOf (s : Sources) (setup : SetupView) (made : ℕ) (j : Judged) (o : Origin) : Type 0 where
+  pub sites : o.sites.now ≡ s.sites
+  pub names_are : texts_told o.names ≡ texts_by_labels j.labels s.sites.slot_bits s.sites.slots.items
+  pub setup_is : o.calls.setup.now ≡ setup
+  pub made_is : o.calls.made ≡ made
+  pub replies_are : o.calls.replies.now ≡ j.replies.items
+  pub fills : o.calls.fills.now ≡ s.fills.items
 
 -- the lines of what breaks the policy, in their order
 abbrev pub breach_lines : Judged → SetupView → List (List ℕ)
@@ -86,7 +124,7 @@ pub record IsHeldText (policy : List ℕ) (p : ProfileName) (read : ReadView) (a
   pub judged : Judged
   pub meant : IsPolicyMeantBehind p read.names read.setup made file judged
   pub is_judged : IsJudged p read.setup made judged
-  pub told : (text, verdict) ≡ told_of judged read.setup
+  pub told : (text, verdict) ≡ told_of p read.setup made judged
 
 -- the same, and nothing is told yet
 pub record IsJudgedFirst (policy : List ℕ) (p : ProfileName) (read : ReadView) (after : Option ℕ) (made : ℕ) (file : PolicyFile) (j : Judged) : Type 0 where

@@ -8,7 +8,7 @@ ghost use Rattle.setup_report.specs.State.{is_in};
 ghost use Rattle.setup_policy_file.specs.Files.{IsPolicyText};
 ghost use Rattle.command_policy.specs.Policies.{IsJudging, IsPolicyRefused, refused_line};
 
-use crate::judging::{Judged, judge};
+use crate::judging::{Judged, judge, origin_of};
 use crate::notes::{note_on_refusal, notes_on};
 use cap_core::Profile;
 use command_check::Command;
@@ -166,10 +166,11 @@ impl Command for HeldTo<'_> {
         read: &ReadSetup,
     ) -> Result<Answer, AllocError> {
         match self.judged::<P, S, W>(alloc, read)? {
-            Judging::Done { judged, file, .. } => {
+            Judging::Done { judged, file, made } => {
                 let (text, setup) = (text_of(self.policy), &read.setup);
-                let told = judged.told(alloc, setup)?;
-                let notes = notes_on(alloc, &file, text, &judged, setup, told.verdict)?;
+                let (told, sources) = judged.told::<P, S, W>(alloc, setup, made)?;
+                let origin = origin_of(&sources, setup, made, &judged);
+                let notes = notes_on(alloc, &file, text, &judged, setup, origin, told.verdict)?;
                 Ok(Answer::with_policy(alloc, told.text, told.verdict, notes))
             }
             Judging::Answered(answer) => Ok(answer),

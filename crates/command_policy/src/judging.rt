@@ -7,26 +7,67 @@ ghost use Rattle.setup_report.specs.State as state;
 ghost use Rattle.setup_policy_meaning.specs.Meant.{AreLabels};
 ghost use Rattle.setup_policy_meaning.specs.Policies.{IsPolicyMeant};
 ghost use Rattle.slot_core.specs.Calls.{derivation_view};
+ghost use Rattle.command_policy_text.specs.Places.{IsOrigin, places_told};
 ghost use Rattle.command_policy.specs.Policies as spec;
 
 use cap_core::Profile;
-use command_core::Answer;
-use command_parts::parts_of_callers;
+use command_core::{Answer, Verdict};
+use command_parts::{parts_of_callers, rising};
 use command_policy_breaches::{
     Home, Join, Layout, Passage, blocks, homes_joined, joins, layout_of, passages, trusted_threads,
 };
-use command_policy_text::{Held, breach_lines, policy_text};
+use command_policy_places::{Fill, FirstCalls, Sites, fills, slots_named};
+use command_policy_text::{Held, Origin, breach_lines, kinds, places_of, policy_text};
 use ipc_core::{MakeWaiters, Waiters};
 use kernel_core::{Kernel, Reply};
 use query_parts::PartsFault;
 use setup_format::Setup;
-use setup_policy::{Labels, Policy};
+use setup_policy::{Labels, Policy, PolicyVersion};
 use setup_policy_file::{PolicyFile, Refusal};
 use setup_policy_meaning::{Meaning, Object, Objects, Resolver, object_of, root_slots};
 use setup_report::{StateRows, run_first, state_rows};
 use setup_values::Name;
 use slot_core::{CapStore, Derivation, DerivationStore, MakeStore};
 use std::alloc::{AllocError, Global};
+
+/// Where what breaks a policy comes from: what is looked at of the layout, and which calls filled its slots.
+#[derive(Drop)]
+pub struct Sources {
+    pub sites: Sites,
+    pub fills: Vec<Fill>,
+}
+
+impl Sources {
+    /// With the first calls of the set-up that is judged.
+    pub fn origin<'a>(&'a self, setup: &'a Setup, made: usize, judged: &'a Judged) -> Origin<'a>
+        ensures { spec.IsOriginOf self.entry.now setup.entry.now made judged.entry.now result }
+    {
+        let replies = judged.replies.as_slice();
+        Origin {
+            sites: &self.sites,
+            names: self.sites.names(&judged.labels),
+            calls: FirstCalls {
+                setup,
+                made,
+                replies,
+                fills: self.fills.as_slice(),
+            },
+        }
+    }
+}
+
+/// The same, if there is something that they come from.
+pub fn origin_of<'a>(
+    sources: &'a Option<Sources>,
+    setup: &'a Setup,
+    made: usize,
+    judged: &'a Judged,
+) -> Option<Origin<'a>> {
+    match sources {
+        None => None,
+        Some(sources) => Some(sources.origin(setup, made, judged)),
+    }
+}
 
 /// A set-up that is held to a policy.
 #[derive(Drop)]
@@ -53,21 +94,90 @@ impl Judged {
         }
     }
 
-    /// The text, and the verdict.
+    /// The text with the places that an origin has, and the verdict.
     #[tactic(auto, using(crate::proofs::Lines::told_as))]
-    pub fn told(&self, alloc: Global, setup: &Setup) -> Result<Answer, AllocError>
-        requires { length self.now.replies.items ≤ length setup.now.calls }
-        ensures { IfOk result (λ made. (made.text.items, made.verdict) ≡ spec.told_of self.now setup.now) }
+    fn told_with<P: Profile, S: MakeStore<P>, W: MakeWaiters<P>>(
+        &self,
+        alloc: Global,
+        setup: &Setup,
+        origin: Option<Origin<'_>>,
+    ) -> Result<Answer, AllocError>
+        requires replies { length self.now.replies.items ≤ length setup.now.calls }
+        requires origin { IsOrigin P.profile origin }
+        ensures { IfOk result (λ made. (made.text.items, made.verdict)
+            ≡ spec.told_with (places_told P.profile self.now.policy self.now.layout origin.entry) self.now setup.now) }
     {
-        let (text, verdict) = policy_text(
+        let (text, verdict) = policy_text::<P, S, W>(
             alloc,
             self.held(),
+            origin,
             setup,
             self.replies.as_slice(),
             self.joins.as_slice(),
             self.passages.as_slice(),
         )?;
         Ok(Answer::new(alloc, text, verdict))
+    }
+
+    /// The slots that breaches come from.
+    fn slots_told(&self, alloc: Global, sites: &Sites) -> Result<Vec<u64>, AllocError> {
+        let (held, joins) = (self.held(), self.joins.as_slice());
+        let mut slots = Vec::new(alloc);
+        let kinds = kinds::breaches(alloc, held, joins, self.passages.as_slice())?;
+        for kind in &kinds {
+            for told in kind {
+                let places = places_of(alloc, held, sites, *told)?;
+                let named = slots_named(alloc, places.as_slice())?;
+                slots.extend_from_slice(named.as_slice())?;
+            }
+        }
+        rising(alloc, slots.as_slice())
+    }
+
+    /// The text with the places of breaches, the verdict, and what the places come from.
+    fn told_with_places<P: Profile, S: MakeStore<P> + DerivationStore<P>, W: MakeWaiters<P>>(
+        &self,
+        alloc: Global,
+        setup: &Setup,
+        made: usize,
+    ) -> Result<(Answer, Option<Sources>), AllocError>
+        requires plan { IsPlan P.profile setup.now.plan }
+        requires made { made ≤ length setup.now.calls }
+        requires replies { length self.now.replies.items ≤ length setup.now.calls }
+        ensures { IfOk result (λ told. (told.0.text.items, told.0.verdict)
+            ≡ spec.told_with (spec.places_behind P.profile setup.now made self.now) self.now setup.now) }
+    {
+        let (layout, joins) = (&self.layout, self.joins.as_slice());
+        let sites = Sites::of::<P, S, W>(alloc, setup, made, layout, joins)?;
+        let slots = self.slots_told(alloc, &sites)?;
+        let fills = fills::<P, S, W>(alloc, setup, made, slots.as_slice())?;
+        let sources = Sources { sites, fills };
+        let origin = sources.origin(setup, made, self);
+        let answer = self.told_with::<P, S, W>(alloc, setup, Some(origin))?;
+        Ok((answer, Some(sources)))
+    }
+
+    /// The text, and the verdict. Where something breaks a policy of version 2, the text has the places of each breach, and what they come
+    /// from is there too.
+    pub fn told<P: Profile, S: MakeStore<P> + DerivationStore<P>, W: MakeWaiters<P>>(
+        &self,
+        alloc: Global,
+        setup: &Setup,
+        made: usize,
+    ) -> Result<(Answer, Option<Sources>), AllocError>
+        requires plan { IsPlan P.profile setup.now.plan }
+        requires made { made ≤ length setup.now.calls }
+        requires replies { length self.now.replies.items ≤ length setup.now.calls }
+        ensures { IfOk result (λ told. (told.0.text.items, told.0.verdict) ≡ spec.told_of P.profile setup.now made self.now) }
+    {
+        let plain = self.told_with::<P, S, W>(alloc, setup, None)?;
+        if let Verdict::AllMet = plain.verdict {
+            return Ok((plain, None));
+        }
+        match self.policy.version {
+            PolicyVersion::One => Ok((plain, None)),
+            PolicyVersion::Two => self.told_with_places::<P, S, W>(alloc, setup, made),
+        }
     }
 
     /// The lines of what breaks the policy, in their order.

@@ -6,4 +6,4 @@ mod judging;
 mod notes;
 
 pub use command::{HeldTo, Judging};
-pub use judging::{Judged, judge};
+pub use judging::{Judged, Sources, judge};

@@ -8,13 +8,14 @@ use command_parts::{BadgeText, Take};
 use command_policy_breaches::{
     End, HeldRegion, Hold, Join, Passage, Waiting, groups_at, is_entry, is_way_between,
 };
+use command_policy_places::{Place as Source, Role, Sited};
 use command_policy_text::{
-    Held, Told, allowed_badges, allowed_rights, call_breaches, capability_text, end_label,
-    is_other_badge, kinds, object, part_label, told_text,
+    Held, Origin, Told, allowed_badges, allowed_rights, call_breaches, capability_text, end_label,
+    is_other_badge, kinds, object, part_label, places_of, told_text,
 };
 use query_parts::{PartUse, part_at};
 use setup_format::Setup;
-use setup_policy::{Allowance, PolicyTake, PolicyWay};
+use setup_policy::{Allowance, PolicyTake, PolicyVersion, PolicyWay};
 use setup_policy_file::{Place, PolicyFile, Refusal, Spot, line_and_column};
 use setup_policy_meaning::table_spot;
 use std::alloc::{AllocError, Global};
@@ -37,10 +38,12 @@ struct Teller<'a> {
 /// What is told, by its line.
 type ByLine = BTreeMap<String, Told>;
 
-/// What is told of breaches, or of allowances: the first of them, and how many more there are, of which no place is looked up.
+/// What is told of breaches, or of allowances: of the first of them, how many these are, and how many more there are, of which no place
+/// is looked up.
 #[derive(Drop)]
 struct Lines {
     first: Vec<PolicyNote>,
+    told: usize,
     more: usize,
 }
 
@@ -48,27 +51,56 @@ impl Lines {
     fn new(alloc: Global) -> Lines {
         Lines {
             first: Vec::new(alloc),
+            told: 0,
             more: 0,
         }
     }
 
-    /// Whether a line more is shown; it is counted where it is not.
+    /// Whether one more is told; it is counted either way.
     fn has_room(&mut self) -> bool {
-        let has_room = self.first.len() < MOST;
-        if !has_room {
+        let has_room = self.told < MOST;
+        if has_room {
+            self.told = self.told.saturating_add(1);
+        } else {
             self.more = self.more.saturating_add(1);
         }
         has_room
     }
 
+    /// Adds what is said of a call.
+    fn add_call(&mut self, call: usize, text: String) -> Result<(), AllocError> {
+        self.first.push(PolicyNote::Call(CallNote { call, text }))?;
+        Ok(())
+    }
+
+    /// Adds the same, and a note without words behind it, which asks where in the layout the call stands.
+    fn add_origin(&mut self, alloc: Global, call: usize, text: String) -> Result<(), AllocError> {
+        self.add_call(call, text)?;
+        self.add_call(call, String::new(alloc))
+    }
+
     /// The first of them, and then how many more there are, where there are more.
     fn notes(self) -> Result<Vec<PolicyNote>, AllocError> {
-        let Lines { mut first, more } = self;
+        let Lines {
+            mut first,
+            more,
+            ..
+        } = self;
         if more > 0 {
             first.push(PolicyNote::More(more))?;
         }
         Ok(first)
     }
+}
+
+/// The call that filled a slot of a breach, if one did.
+fn filled_by(origin: Origin<'_>, slot: u64) -> Option<usize> {
+    for fill in origin.calls.fills {
+        if fill.slot == slot {
+            return fill.call;
+        }
+    }
+    None
 }
 
 impl<'a> Teller<'a> {
@@ -334,8 +366,75 @@ impl<'a> Teller<'a> {
         Ok(lines)
     }
 
-    /// Adds a line for each of a kind.
-    fn add_kind(self, lines: &mut Lines, told: &[Told], word: &str) -> Result<(), AllocError> {
+    /// Adds which calls a place comes from.
+    fn add_place(
+        self,
+        lines: &mut Lines,
+        origin: Origin<'_>,
+        sited: Sited,
+    ) -> Result<(), AllocError> {
+        let (alloc, names) = (self.alloc, origin.names);
+        let role = match sited.role {
+            Role::Alone => "",
+            Role::From => "from: ",
+            Role::To => "to: ",
+        };
+        match sited.place {
+            Source::Thread(thread) => {
+                if let Some(call) = origin.calls.waits_since(thread) {
+                    let thread = names.about(thread);
+                    lines.add_origin(
+                        alloc,
+                        call,
+                        format!(in alloc; "note: {role}by call {call} {thread} waits")?,
+                    )?;
+                }
+            }
+            Source::Slot(slot) | Source::Under { slot, .. } => {
+                if let Some(call) = filled_by(origin, slot) {
+                    let slot = names.slot(slot);
+                    lines.add_origin(
+                        alloc,
+                        call,
+                        format!(in alloc; "note: {role}call {call} fills {slot}")?,
+                    )?;
+                }
+            }
+        }
+        if let Source::Under { above, .. } = sited.place
+            && let Some(call) = filled_by(origin, above)
+        {
+            let above = names.slot(above);
+            lines.add_origin(
+                alloc,
+                call,
+                format!(in alloc; "note: below {above}, which call {call} fills")?,
+            )?;
+        }
+        Ok(())
+    }
+
+    /// Adds which calls what is told comes from.
+    fn add_places(
+        self,
+        lines: &mut Lines,
+        origin: Origin<'_>,
+        told: Told,
+    ) -> Result<(), AllocError> {
+        for sited in &places_of(self.alloc, self.held, origin.sites, told)? {
+            self.add_place(lines, origin, *sited)?;
+        }
+        Ok(())
+    }
+
+    /// Adds a line for each of a kind, and which calls it comes from, if that is told.
+    fn add_kind(
+        self,
+        lines: &mut Lines,
+        told: &[Told],
+        word: &str,
+        origin: Option<Origin<'_>>,
+    ) -> Result<(), AllocError> {
         let by_line = self.by_line(told)?;
         for (line, one) in &by_line {
             if lines.has_room() {
@@ -348,6 +447,9 @@ impl<'a> Teller<'a> {
                     text,
                 };
                 lines.first.push(place)?;
+                if let Some(origin) = origin {
+                    self.add_places(lines, origin, *one)?;
+                }
             }
         }
         Ok(())
@@ -371,33 +473,32 @@ impl<'a> Teller<'a> {
                 let words = line.as_str().strip_prefix("breach ").unwrap_or("");
                 let call = self.call_of(line.as_str());
                 let text = format!(in self.alloc; "error: {words}")?;
-                lines.first.push(PolicyNote::Call(CallNote { call, text }))?;
+                match self.held.policy.version {
+                    PolicyVersion::One => lines.add_call(call, text)?,
+                    PolicyVersion::Two => lines.add_origin(self.alloc, call, text)?,
+                }
             }
         }
         Ok(())
     }
 
     /// A line for each breach.
-    fn errors(self, setup: &Setup) -> Result<Vec<PolicyNote>, AllocError>
+    fn errors(
+        self,
+        setup: &Setup,
+        origin: Option<Origin<'_>>,
+    ) -> Result<Vec<PolicyNote>, AllocError>
         requires { length self.judged.now.replies.items ≤ length setup.now.calls }
     {
         let (alloc, held) = (self.alloc, self.held);
         let mut lines = Lines::new(alloc);
         self.add_calls(&mut lines, setup)?;
-        let told = [
-            kinds::joined(alloc, held)?,
-            kinds::grants(alloc, held, self.judged.joins.as_slice())?,
-            kinds::threads(alloc, held)?,
-            kinds::regions(alloc, held)?,
-            kinds::uses(alloc, held)?,
-            kinds::badges(alloc, held)?,
-            kinds::rights(alloc, held)?,
-            kinds::ways(alloc, held, self.judged.passages.as_slice())?,
-            kinds::waits(alloc, held)?,
-            kinds::takes(alloc, held)?,
-        ];
-        for kind in &told {
-            self.add_kind(&mut lines, kind.as_slice(), "error")?;
+        let (joins, passages) = (
+            self.judged.joins.as_slice(),
+            self.judged.passages.as_slice(),
+        );
+        for kind in &kinds::breaches(alloc, held, joins, passages)? {
+            self.add_kind(&mut lines, kind.as_slice(), "error", origin)?;
         }
         lines.notes()
     }
@@ -415,19 +516,21 @@ impl<'a> Teller<'a> {
             kinds::idle_takes(alloc, held)?,
         ];
         for kind in &told {
-            self.add_kind(&mut lines, kind.as_slice(), "warning")?;
+            self.add_kind(&mut lines, kind.as_slice(), "warning", None)?;
         }
         lines.notes()
     }
 }
 
-/// What standard error tells of a set-up that was held to a policy: of each breach, and of each allowance of which nothing is there.
+/// What standard error tells of a set-up that was held to a policy: of each breach, with the calls that it comes from, if there is an
+/// origin, and of each allowance of which nothing is there.
 pub fn notes_on(
     alloc: Global,
     file: &PolicyFile,
     text: &str,
     judged: &Judged,
     setup: &Setup,
+    origin: Option<Origin<'_>>,
     verdict: Verdict,
 ) -> Result<Vec<PolicyNote>, AllocError>
     requires { length judged.now.replies.items ≤ length setup.now.calls }
@@ -442,7 +545,7 @@ pub fn notes_on(
     // Where all expectations of a policy are met, nothing breaks it.
     let mut notes = match verdict {
         Verdict::AllMet => Vec::new(alloc),
-        _ => teller.errors(setup)?,
+        _ => teller.errors(setup, origin)?,
     };
     for note in teller.warnings()? {
         notes.push(note)?;

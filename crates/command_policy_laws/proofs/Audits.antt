@@ -8,6 +8,7 @@ use Rattle.command_core.specs.declared.fault.Verdict.TheVariants.{AllMet, Refuse
 use Rattle.command_policy_breaches.specs.Joins.{blocks, homes_joined, joins}
 use Rattle.command_policy_breaches.specs.Ways.{passages}
 use Rattle.command_policy_text.specs.Texts.{text_and_verdict}
+use Rattle.command_policy.specs.Policies.{places_behind, told_in}
 use Rattle.command_policy_laws.specs.Audits.{WhatAuditPolicyPromises}
 use Rattle.command_policy_laws.proofs.Status.{promised}
 
@@ -23,13 +24,14 @@ audit_promised policy after p read text plan (inr (inl past)) = no_absence past.
 audit_promised policy after p read text plan (inr (inr held)) =
     let j = held.judged in
     let is = held.is_judged in
-    let told : (text, AllMet) ≡ text_and_verdict j.policy j.layout j.labels (homes_joined j.policy j.layout (blocks j.policy j.layout)) (joins j.policy j.layout)
+    let places = told_in j.policy.version (places_behind p read.setup held.made j) in
+    let told : (text, AllMet) ≡ text_and_verdict places j.policy j.layout j.labels (homes_joined j.policy j.layout (blocks j.policy j.layout)) (joins j.policy j.layout)
     (passages j.policy j.layout (blocks j.policy j.layout)) read.setup j.replies.items =
     held.told
-    ∙ (ap (λ hs. text_and_verdict j.policy j.layout j.labels hs j.joins.items j.passages.items read.setup j.replies.items) is.homes_are
-    ∙ (ap (λ js. text_and_verdict j.policy j.layout j.labels (homes_joined j.policy j.layout (blocks j.policy j.layout)) js j.passages.items read.setup j.replies.items) is.joins_are
-    ∙ ap (λ ws. text_and_verdict j.policy j.layout j.labels (homes_joined j.policy j.layout (blocks j.policy j.layout)) (joins j.policy j.layout) ws read.setup j.replies.items) is.passages_are)) in
-    let made = promised p j.policy j.layout j.labels read.setup j.replies.items text (state_behind p read.setup held.made)
+    ∙ (ap (λ hs. text_and_verdict places j.policy j.layout j.labels hs j.joins.items j.passages.items read.setup j.replies.items) is.homes_are
+    ∙ (ap (λ js. text_and_verdict places j.policy j.layout j.labels (homes_joined j.policy j.layout (blocks j.policy j.layout)) js j.passages.items read.setup j.replies.items) is.joins_are
+    ∙ ap (λ ws. text_and_verdict places j.policy j.layout j.labels (homes_joined j.policy j.layout (blocks j.policy j.layout)) (joins j.policy j.layout) ws read.setup j.replies.items) is.passages_are)) in
+    let made = promised p j.policy j.layout j.labels read.setup j.replies.items places text (state_behind p read.setup held.made)
     (record { plan = read.setup.plan; lawful = plan; calls = first_calls read.setup held.made; is = refl }) is.layout told in
     record {
       file = held.file;

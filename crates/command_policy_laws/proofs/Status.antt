@@ -16,6 +16,7 @@ use Rattle.setup_policy.specs.declared.policy.Policy.{Policy}
 use Rattle.command_policy_breaches.specs.declared.ways.Passage.{Passage}
 use Rattle.command_policy_breaches.specs.Joins.{blocks, homes_joined, joins}
 use Rattle.command_policy_breaches.specs.Ways.{passages}
+use Rattle.command_policy_text.specs.declared.told.Told.{Told}
 use Rattle.command_policy_text.specs.Texts.{breaches, breach_count, calls_breached, text_and_verdict, verdict_by_count}
 use Rattle.command_policy_laws.specs.Unbroken.{any_endpoint, group_of, IsPromised, may_hold, may_group_pass, WhatIsNotToldIsNotTaken}
 use Rattle.command_policy_laws.proofs.Grants.{handed_out}
@@ -38,9 +39,9 @@ no_more : (m n : ℕ) → m + n ≡ 0 → n ≡ 0
 no_more m n h = omega (arith, h)
 
 module _ (c : Policy) (l : Layout) (n : Labels) (homes : List Home) (js : List Join) (ws : List Passage) (setup : SetupView) (replies : List Reply) where
-  pub none_told : (text : List ℕ) → (text, AllMet) ≡ text_and_verdict c l n homes js ws setup replies → breaches c l n homes js ws ≡ []
+  pub none_told : (places : Told → List ℕ) (text : List ℕ) → (text, AllMet) ≡ text_and_verdict places c l n homes js ws setup replies → breaches c l n homes js ws ≡ []
   unfolding text_and_verdict
-  none_told text is =
+  none_told places text is =
       no_length (breaches c l n homes js ws)
       (no_more (length (calls_breached c setup replies)) (length (breaches c l n homes js ws))
       (eqb-true (breach_count c l n homes js ws setup replies) 0 (met_where (breach_count c l n homes js ws setup replies == 0) (ap (λ (made : List ℕ × Verdict). made.1) is))))
@@ -50,9 +51,10 @@ not_taken p c l n A reached is two none =
     let untold = unbroken c l n (homes_joined c l (blocks c l)) (joins c l) (passages c l (blocks c l)) none in
     takes_held p c l A reached is untold.joined untold.grants two untold.takes
 
-pub promised : (p : ProfileName) (c : Policy) (l : Layout) (n : Labels) (setup : SetupView) (replies : List Reply) (text : List ℕ) → IsPromised p c l n setup replies text
-promised p c l n setup replies text A reached is told =
-    let none = none_told c l n (homes_joined c l (blocks c l)) (joins c l) (passages c l (blocks c l)) setup replies text told in
+pub promised : (p : ProfileName) (c : Policy) (l : Layout) (n : Labels) (setup : SetupView) (replies : List Reply) (places : Told → List ℕ) (text : List ℕ) →
+    IsPromised p c l n setup replies places text
+promised p c l n setup replies places text A reached is told =
+    let none = none_told c l n (homes_joined c l (blocks c l)) (joins c l) (passages c l (blocks c l)) setup replies places text told in
     let kept = kept_where_untold p c l n A is none in
     let untold = unbroken c l n (homes_joined c l (blocks c l)) (joins c l) (passages c l (blocks c l)) none in (
       kept.0,

@@ -36,6 +36,7 @@ use Rattle.command_policy_breaches.specs.Joins.{blocks, homes_joined, joins}
 use Rattle.command_policy_breaches.specs.Layouts.{IsLayoutOf}
 use Rattle.command_policy_breaches.specs.Sides.{is_found_home}
 use Rattle.command_policy_breaches.specs.Ways.{passages}
+use Rattle.command_policy_text.specs.declared.told.Told.{Told}
 use Rattle.command_policy_text.specs.Texts.{breaches, text_and_verdict}
 use Rattle.command_policy_laws.specs.Grants.{HandsNothing}
 use Rattle.command_policy_laws.specs.Keeps.{AreSlotsHeld, KeepPolicy}
@@ -182,8 +183,8 @@ AreKept p c l A calls =
 -- what is promised if the verdict on a layout is `AllMet`, which is status 0: the threads that the policy names are of the groups that
 -- name them, and, whatever calls the threads of the parts make, and whatever messages other threads send and receive, the layout is held
 -- to the policy, and objects and names of a group stay its own; in version 2 each group takes only from those from which it may
-abbrev pub IsPromised : ProfileName → Policy → Layout → Labels → SetupView → List Reply → List ℕ → Type 0
-IsPromised p c l n setup replies text =
+abbrev pub IsPromised : ProfileName → Policy → Layout → Labels → SetupView → List Reply → (Told → List ℕ) → List ℕ → Type 0
+IsPromised p c l n setup replies places text =
     (A : State) → IsReached p A → IsLayoutOf p c (shown A) l →
-    (text, AllMet) ≡ text_and_verdict c l n (homes_joined c l (blocks c l)) (joins c l) (passages c l (blocks c l)) setup replies →
+    (text, AllMet) ≡ text_and_verdict places c l n (homes_joined c l (blocks c l)) (joins c l) (passages c l (blocks c l)) setup replies →
     AreNamed c l × ((calls : List Call) → Each (IsAllowed (parts_listed l.memory.items l.uses.items)) calls → AreKept p c l A calls)

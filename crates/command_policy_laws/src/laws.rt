@@ -13,6 +13,7 @@ ghost use Rattle.command_parts.specs.declared.ways.Way.{Way};
 ghost use Rattle.setup_policy.specs.declared.policy.Labels.{Labels};
 ghost use Rattle.command_policy_breaches.specs.declared.held.Layout.{Layout};
 ghost use Rattle.setup_policy.specs.declared.policy.Policy.{Policy};
+ghost use Rattle.command_policy_text.specs.declared.told.Told.{Told};
 ghost use Rattle.std.specs.Prelude.{Option};
 ghost use Rattle.setup_format.specs.Views.{ReadView};
 ghost use Rattle.command_policy_laws.specs.Audits.{WhatAuditPolicyPromises};
@@ -107,8 +108,8 @@ pub fn what_is_not_told_is_not_taken_by_a_group()
 /// hands over capabilities, by no slot of a group's part can one be handed to the part of a thread of another group. In version 2 no call
 /// of a thread of a group changes what a slot of another group holds, unless an entry of `take` is from the one to the other.
 pub fn what_status_0_promises()
-    ensures { (p : ProfileName) (c : Policy) (l : Layout) (n : Labels) (setup : SetupView) (replies : List Reply) (text : List ℕ) →
-        IsPromised p c l n setup replies text }
+    ensures { (p : ProfileName) (c : Policy) (l : Layout) (n : Labels) (setup : SetupView) (replies : List Reply) (places : Told → List ℕ) (text : List ℕ) →
+        IsPromised p c l n setup replies places text }
 {}
 
 /// `policy` with the verdict `AllMet`, which is status 0: the text is held to the policy that its bytes say, by the state behind as

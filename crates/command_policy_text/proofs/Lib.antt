@@ -1,3 +1,5 @@
+pub mod Firsts
 pub mod Ordered
 pub mod Passed
+pub mod Placed
 pub mod Whole

@@ -1,5 +1,5 @@
 -- The kinds of lines: what is told of a layout, one kind after another.
-use Rattle.std.specs.Prelude.{ℕ, nat_lt, not, List, ◌++◌, map, filter}
+use Rattle.std.specs.Prelude.{ℕ, nat_lt, not, List, [], ◌∷◌, ◌++◌, map, filter}
 use Rattle.std.specs.List.{filter_map}
 use Rattle.query_parts.specs.declared.listed.PartUse.{PartUse}
 use Rattle.command_parts.specs.declared.takes.Take.{Take}
@@ -89,6 +89,12 @@ waiting_breaches c l = map (λ (w : Waiting). Waits w) (waits_told c l)
 -- what parts take from others, and no entry lets them
 abbrev pub take_breaches : Policy → Layout → List Told
 take_breaches c l = map (λ (t : Take). Taken t) (takes_amiss c l)
+
+-- all of them, but calls: kind by kind
+abbrev pub breach_kinds : Policy → Layout → List Home → List Join → List Passage → List (List Told)
+breach_kinds c l hs js ws =
+    joined_breaches l ∷ grants l js ∷ thread_breaches c l ∷ regions c l ∷ uses c l ∷ badge_breaches c l ∷ right_breaches c l
+    ∷ passage_breaches c l hs ws ∷ waiting_breaches c l ∷ take_breaches c l ∷ []
 
 -- ---- what is allowed and not there
 

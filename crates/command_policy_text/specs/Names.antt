@@ -1,5 +1,5 @@
 -- How objects, groups, badges and rights are told.
-use Rattle.std.specs.Prelude.{codes, ℕ, ◌==◌, Bool, cond, List, [], ◌∷◌, ◌++◌, Option, Some, None, option_map, find, slice_get, string_bytes}
+use Rattle.std.specs.Prelude.{codes, ℕ, Bool, cond, List, [], ◌∷◌, ◌++◌, Option, Some, None, option_map, slice_get, string_bytes}
 use Rattle.std.specs.List.{flat_map}
 use Rattle.std.specs.Fmt.{decimal}
 use Rattle.std.specs.declared.string.String.{String}
@@ -10,15 +10,12 @@ use Rattle.setup_policy.specs.declared.policy.Policy.{Policy}
 use Rattle.setup_policy.specs.declared.policy.PolicyVersion.{PolicyVersion}
 use Rattle.setup_policy.specs.declared.policy.PolicyVersion.TheVariants.{One, Two}
 use Rattle.command_policy_breaches.specs.Sides.{groups_at}
+pub use Rattle.command_policy_places.specs.Places.{label_of}
 
 -- an object by its name, behind a `@`, or by its address
 abbrev pub labelled : ℕ → Option (List ℕ) → List ℕ
 labelled base None = decimal base
 labelled base (Some label) = codes "@" ++ label
-
--- the name of the object at an address, if it has one
-abbrev pub label_of : List Label → ℕ → Option (List ℕ)
-label_of labels base = option_map (λ (l : Label). string_bytes l.text) (find (λ (l : Label). l.base == base) labels)
 
 abbrev pub labelled_text : List Label → ℕ → List ℕ
 labelled_text labels base = labelled base (label_of labels base)

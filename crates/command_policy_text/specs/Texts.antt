@@ -21,7 +21,7 @@ use Rattle.command_policy_breaches.specs.declared.ways.Passage.{Passage}
 use Rattle.command_policy_text.specs.Calls.{call_breaches}
 use Rattle.command_policy_text.specs.Kinds as kind
 use Rattle.command_policy_text.specs.Names.{version_text}
-use Rattle.command_policy_text.specs.Order.{in_order}
+use Rattle.command_policy_text.specs.Order.{firsts_in_order, in_order}
 use Rattle.command_policy_text.specs.Told.{line_told}
 use Rattle.command_policy_breaches.specs.Ways.{is_between_parts}
 
@@ -57,6 +57,19 @@ calls_breached c setup replies = cond c.calls (call_breaches 1 setup.calls repli
 -- all lines that tell of breaches: of calls first
 abbrev pub breach_lines : Policy → Layout → Labels → List Home → List Join → List Passage → SetupView → List Reply → List (List ℕ)
 breach_lines c l n hs js ws setup replies = calls_breached c setup replies ++ breaches c l n hs js ws
+
+-- ---- breaches, each with what stands below its line
+
+-- the line of a breach, and what stands below it
+abbrev pub breach_text : (Told → List ℕ) → List ℕ × Told → List ℕ
+breach_text places e = terminated e.0 ++ places e.1
+
+-- the lines of a kind, each once, in the order of their bytes; below each stands what stands below the first that is told by it
+abbrev pub lines_with_places : (Told → List ℕ) → Policy → Layout → Labels → List Home → List Told → List (List ℕ)
+lines_with_places places c l n hs told = map (breach_text places) (firsts_in_order (line_told c l n hs) told)
+
+unfoldable pub breaches_with_places : (Told → List ℕ) → Policy → Layout → Labels → List Home → List Join → List Passage → List (List ℕ)
+breaches_with_places places c l n hs js ws = flat_map (lines_with_places places c l n hs) (kind.breach_kinds c l hs js ws)
 
 -- ---- what is allowed and not there
 
@@ -118,12 +131,16 @@ verdict_by_count breaches = cond (breaches == 0) AllMet NotMet
 abbrev pub all_lines_text : List (List ℕ) → List ℕ
 all_lines_text lines = flat_map terminated lines
 
-unfoldable pub text : Policy → Layout → Labels → List Home → List Join → List Passage → SetupView → List Reply → List ℕ
-text c l n hs js ws setup replies =
+abbrev pub text_itself : List ℕ → List ℕ
+text_itself text = text
+
+-- the text; `places` is what stands below the line of what is told of a breach
+unfoldable pub text : (Told → List ℕ) → Policy → Layout → Labels → List Home → List Join → List Passage → SetupView → List Reply → List ℕ
+text places c l n hs js ws setup replies =
     policy_head_line c.version setup (length replies) ++ (all_lines_text (first_lines c l n hs) ++ (all_lines_text (calls_breached c setup replies)
-    ++ (all_lines_text (breaches c l n hs js ws) ++ (all_lines_text (unused c l n hs) ++ last_line c.version (counts c l n hs js ws setup replies)))))
+    ++ (flat_map text_itself (breaches_with_places places c l n hs js ws) ++ (all_lines_text (unused c l n hs) ++ last_line c.version (counts c l n hs js ws setup replies)))))
 
 -- the text of a layout that is held to a policy, and the verdict: `AllMet` exactly if no line tells of a breach
-unfoldable pub text_and_verdict : Policy → Layout → Labels → List Home → List Join → List Passage → SetupView → List Reply → List ℕ × Verdict
-text_and_verdict c l n hs js ws setup replies =
-    (text c l n hs js ws setup replies, verdict_by_count (breach_count c l n hs js ws setup replies))
+unfoldable pub text_and_verdict : (Told → List ℕ) → Policy → Layout → Labels → List Home → List Join → List Passage → SetupView → List Reply → List ℕ × Verdict
+text_and_verdict places c l n hs js ws setup replies =
+    (text places c l n hs js ws setup replies, verdict_by_count (breach_count c l n hs js ws setup replies))

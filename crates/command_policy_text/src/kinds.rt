@@ -1,5 +1,5 @@
 //! The kinds of lines: what is told of a layout, one kind after another.
-ghost use Rattle.std.specs.Prelude.{◌≡◌, ◌++◌, nat_lt, IfOk};
+ghost use Rattle.std.specs.Prelude.{◌≡◌, ◌++◌, nat_lt, IfOk, map};
 ghost use Rattle.command_policy_breaches.specs.Unused.{count_of_parts as count_of_parts_at};
 ghost use Rattle.command_policy_text.specs.Kinds as spec;
 
@@ -415,6 +415,30 @@ pub fn takes(alloc: Global, held: Held<'_>) -> Result<Vec<Told>, AllocError>
     let takes = takes_amiss(alloc, held.policy, held.layout)?;
     let takes = takes.as_slice();
     each(alloc, takes, &AsTaken)
+}
+
+/// All that breaks a policy, but calls: kind by kind, in their order.
+pub fn breaches(
+    alloc: Global,
+    held: Held<'_>,
+    joins: &[Join],
+    passages: &[Passage],
+) -> Result<[Vec<Told>; 10], AllocError>
+    ensures { IfOk result (λ kinds. map (λ kind. kind.items) kinds
+        ≡ spec.breach_kinds held.entry.policy.now held.entry.layout.now held.entry.homes.now joins.now passages.now) }
+{
+    Ok([
+        joined(alloc, held)?,
+        grants(alloc, held, joins)?,
+        threads(alloc, held)?,
+        regions(alloc, held)?,
+        uses(alloc, held)?,
+        badges(alloc, held)?,
+        rights(alloc, held)?,
+        ways(alloc, held, passages)?,
+        waits(alloc, held)?,
+        takes(alloc, held)?,
+    ])
 }
 
 /// The ways of which nothing is there.

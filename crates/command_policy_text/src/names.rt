@@ -1,9 +1,10 @@
 //! How objects, groups, badges and rights are told.
-ghost use Rattle.std.specs.Prelude.{◌≡◌, ◌==◌, Some, IfOk, codes, find, option_copied, option_map, string_bytes, slice_get, map, filter};
+ghost use Rattle.std.specs.Prelude.{◌≡◌, Some, IfOk, codes, option_copied, option_map, string_bytes, slice_get, map, filter};
 ghost use Rattle.command_policy_text.specs.Names as spec;
 
 use command_policy_breaches::{Layout, groups_at};
-use list_questions::{Asks, Line, add_each, first};
+use command_policy_places::label_of;
+use list_questions::{Line, add_each};
 use setup_policy::{Label, Policy, PolicyVersion};
 use std::alloc::{AllocError, Global};
 use std::fmt;
@@ -25,27 +26,6 @@ impl fmt::Display for ObjectText<'_> {
             None => write!(f, "{base}"),
             Some(label) => write!(f, "@{label}"),
         }
-    }
-}
-
-/// Whether a name is of the object at an address.
-#[derive(Clone, Copy)]
-struct NameAt(u64);
-
-impl Asks<Label> for NameAt {
-    ghost holds = { λ q label. label.base == q.0 };
-
-    fn holds(&self, label: &Label) -> bool {
-        label.base == self.0
-    }
-}
-
-fn label_of(labels: &[Label], base: u64) -> Option<&str>
-    ensures { option_copied result ≡ spec.label_of labels.entry.now base }
-{
-    match first(labels, &NameAt(base)) {
-        None => None,
-        Some(label) => Some(label.text.as_str()),
     }
 }
 

@@ -4,22 +4,29 @@ ghost use Rattle.setup_report.specs.Report.{terminated};
 ghost use Rattle.command_core.specs.declared.fault.Verdict.{Verdict};
 ghost use Rattle.command_policy_breaches.specs.Joins as join;
 ghost use Rattle.command_policy_breaches.specs.Ways as way;
-ghost use Rattle.command_policy_text.specs.Order.{in_order};
+ghost use Rattle.command_policy_text.specs.Order.{firsts_in_order, in_order};
+ghost use Rattle.command_policy_text.specs.Places.{IsOrigin, places_told};
 ghost use Rattle.command_policy_text.specs.Texts as spec;
+ghost use Rattle.command_policy_text.specs.Texts.{text_itself};
+ghost use Rattle.command_policy_text.specs.Told.{line_told};
 
 use crate::calls::call_breaches;
 use crate::kinds;
 use crate::names::version_text;
+use crate::places::{Origin, add_places};
 use crate::told::{Held, Told, told_text};
+use cap_core::Profile;
 use command_core::Verdict;
 use command_policy_breaches::{Join, Passage, count_between_parts};
+use ipc_core::MakeWaiters;
 use kernel_core::Reply;
 use list_questions::{Line, add_each};
 use setup_format::Setup;
 use setup_policy::PolicyVersion;
 use setup_values::profile_text;
+use slot_core::MakeStore;
 use std::alloc::{AllocError, Global};
-use std::collections::BTreeSet;
+use std::collections::{BTreeMap, BTreeSet};
 use std::fmt;
 use std::fmt::Write;
 
@@ -140,16 +147,77 @@ fn add_breaches(
     add_kind(alloc, lines, held, takes.as_slice())
 }
 
-fn breaches(
+/// What is told, by its line, the first that is told by each.
+type ByLine = BTreeMap<String, Told>;
+
+/// What is told of a kind, by its lines.
+fn firsts(alloc: Global, held: Held<'_>, told: &[Told]) -> Result<ByLine, AllocError>
+    ensures { IfOk result (λ lines. map (λ e. (string_bytes e.0, e.1)) lines.entries
+        ≡ firsts_in_order (line_told held.entry.policy.now held.entry.layout.now held.entry.labels.now held.entry.homes.now) told.now) }
+{
+    let mut lines = BTreeMap::new(alloc);
+    for one in told {
+        let line = told_text(alloc, held, *one)?;
+        let first = lines.get(&line).copied().unwrap_or(*one);
+        lines.insert(line, first)?;
+    }
+    Ok(lines)
+}
+
+/// A line, and below it the places of what is told.
+fn with_places<P: Profile, S: MakeStore<P>, W: MakeWaiters<P>>(
     alloc: Global,
     held: Held<'_>,
+    origin: Option<Origin<'_>>,
+    line: &str,
+    told: Told,
+) -> Result<String, AllocError>
+    requires { IsOrigin P.profile origin }
+    ensures { IfOk result (λ s. string_bytes s ≡ terminated line.now ++ places_told P.profile held.entry.policy.now held.entry.layout.now origin.entry told) }
+{
+    let mut text = format!(in alloc; "{line}\n")?;
+    add_places::<P, S, W>(alloc, &mut text, held, origin, told)?;
+    Ok(text)
+}
+
+/// Adds the lines of a kind, each once, in the order of their bytes, with the places of the first that is told by each.
+fn add_kind_with_places<P: Profile, S: MakeStore<P>, W: MakeWaiters<P>>(
+    alloc: Global,
+    lines: &mut Vec<String>,
+    held: Held<'_>,
+    origin: Option<Origin<'_>>,
+    told: &[Told],
+) -> Result<(), AllocError>
+    requires { IsOrigin P.profile origin }
+    ensures { OnOk result (map string_bytes lines.new.items ≡ map string_bytes lines.old.items
+        ++ spec.lines_with_places (places_told P.profile held.entry.policy.now held.entry.layout.now origin.entry) held.entry.policy.now held.entry.layout.now held.entry.labels.now held.entry.homes.now told.now) }
+{
+    let firsts = firsts(alloc, held, told)?;
+    for (line, first) in &firsts {
+        let text = with_places::<P, S, W>(alloc, held, origin, line.as_str(), *first)?;
+        lines.push(text)?;
+    }
+    Ok(())
+}
+
+/// What breaks the policy, but calls: a text for each line, with its places.
+#[tactic(auto, unfolding(crate::specs::Texts::breaches_with_places))]
+fn breaches<P: Profile, S: MakeStore<P>, W: MakeWaiters<P>>(
+    alloc: Global,
+    held: Held<'_>,
+    origin: Option<Origin<'_>>,
     joins: &[Join],
     passages: &[Passage],
 ) -> Result<Vec<String>, AllocError>
-    ensures { IfOk result (λ v. map string_bytes v.items ≡ spec.breaches held.entry.policy.now held.entry.layout.now held.entry.labels.now held.entry.homes.now joins.now passages.now) }
+    requires { IsOrigin P.profile origin }
+    ensures { IfOk result (λ v. map string_bytes v.items
+        ≡ spec.breaches_with_places (places_told P.profile held.entry.policy.now held.entry.layout.now origin.entry) held.entry.policy.now held.entry.layout.now held.entry.labels.now held.entry.homes.now joins.now passages.now) }
 {
     let mut lines = Vec::new(alloc);
-    add_breaches(alloc, &mut lines, held, joins, passages)?;
+    let kinds = kinds::breaches(alloc, held, joins, passages)?;
+    for kind in &kinds {
+        add_kind_with_places::<P, S, W>(alloc, &mut lines, held, origin, kind.as_slice())?;
+    }
     Ok(lines)
 }
 
@@ -240,6 +308,18 @@ impl Line<String> for TextLine {
 
     fn add(&self, out: &mut String, text: &String) -> Result<(), AllocError> {
         writeln!(out, "{text}")
+    }
+}
+
+/// A text of whole lines.
+#[derive(Clone, Copy)]
+struct WholeLines;
+
+impl Line<String> for WholeLines {
+    ghost line = { λ l text. text_itself (string_bytes text) };
+
+    fn add(&self, out: &mut String, text: &String) -> Result<(), AllocError> {
+        out.push_str(text.as_str())
     }
 }
 
@@ -348,21 +428,24 @@ fn verdict_of(breaches: usize) -> Verdict
 
 /// The text of a layout that is held to a policy, and the verdict: `AllMet` where nothing breaks it, and else `NotMet`. `joins` are
 /// the parts that Grant joins, `passages` what can pass between them, and `replies` what the first calls of the set-up were answered.
-pub fn policy_text(
+/// With an origin, the places of each breach stand below its line.
+pub fn policy_text<P: Profile, S: MakeStore<P>, W: MakeWaiters<P>>(
     alloc: Global,
     held: Held<'_>,
+    origin: Option<Origin<'_>>,
     setup: &Setup,
     replies: &[Reply],
     joins: &[Join],
     passages: &[Passage],
 ) -> Result<(Vec<u8>, Verdict), AllocError>
-    requires { length replies.now ≤ length setup.now.calls }
+    requires replies { length replies.now ≤ length setup.now.calls }
+    requires origin { IsOrigin P.profile origin }
     ensures { IfOk result (λ made. (made.0.items, made.1)
-        ≡ spec.text_and_verdict held.entry.policy.now held.entry.layout.now held.entry.labels.now held.entry.homes.now joins.now passages.now setup.now replies.now) }
+        ≡ spec.text_and_verdict (places_told P.profile held.entry.policy.now held.entry.layout.now origin.entry) held.entry.policy.now held.entry.layout.now held.entry.labels.now held.entry.homes.now joins.now passages.now setup.now replies.now) }
 {
     let first = first_lines(alloc, held)?;
     let calls = calls(alloc, held, setup, replies)?;
-    let others = breaches(alloc, held, joins, passages)?;
+    let others = breaches::<P, S, W>(alloc, held, origin, joins, passages)?;
     let unused = unused(alloc, held)?;
     let breaches = calls.len() + others.len();
     let counts = Counts {
@@ -378,7 +461,7 @@ pub fn policy_text(
     add_head(&mut out, version, setup, replies.len())?;
     add_each(&mut out, first.as_slice(), &TextLine)?;
     add_each(&mut out, calls.as_slice(), &TextLine)?;
-    add_each(&mut out, others.as_slice(), &TextLine)?;
+    add_each(&mut out, others.as_slice(), &WholeLines)?;
     add_each(&mut out, unused.as_slice(), &TextLine)?;
     add_counts(&mut out, version, counts)?;
     Ok((out.into_bytes(), verdict_of(breaches)))

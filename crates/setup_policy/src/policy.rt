@@ -92,6 +92,8 @@ pub struct Labels {
     pub threads: Vec<Label>,
     pub endpoints: Vec<Label>,
     pub regions: Vec<Label>,
+    /// CNodes, for the slots in them.
+    pub nodes: Vec<Label>,
 }
 
 /// What a way lets its sender hold.

@@ -2,6 +2,5 @@
 pub mod Called
 pub mod Groups
 pub mod Loops
-pub mod Meant
 pub mod Rows
 pub mod Strokes

@@ -1,5 +1,6 @@
 //! Which object a word of a policy means, and what objects are called.
-ghost use Rattle.std.specs.Prelude.{◌≡◌, ◌++◌, codes, All, IfOk, IfSome, IsErr, IsTrue, string_bytes};
+ghost use Rattle.std.specs.Prelude.{◌≡◌, ◌++◌, ◌*◌, ◌^◌, ◌<◌, ◌≤◌, codes, All, IfOk, IfSome, IsErr, IsTrue, string_bytes};
+ghost use Rattle.cap_core.specs.Numbers.{slot_size};
 ghost use Rattle.kernel_abstract.specs.Plan.{IsPlan, IsWithinLimits};
 ghost use Rattle.setup_values.specs.Names.{names_view};
 ghost use Rattle.setup_policy_meaning.specs.Meant as spec;
@@ -26,18 +27,6 @@ pub enum Kind {
 }
 
 impl Kind {
-    /// The kind that a word is asked to stand for; no word is asked for a CNode.
-    fn meant(self) -> Option<ObjectKind>
-        ensures { result ≡ spec.kind_meant self }
-    {
-        match self {
-            Kind::Thread => Some(ObjectKind::Thread),
-            Kind::Endpoint => Some(ObjectKind::Endpoint),
-            Kind::Region => Some(ObjectKind::Region),
-            Kind::Node => None,
-        }
-    }
-
     /// What it is called where a word is to mean one.
     fn asked(self) -> &'static str {
         match self {
@@ -92,10 +81,7 @@ pub struct Objects<'a> {
     pub slots: &'a [Option<Object>],
 }
 
-/// How many slots of the root CNode stand before those of boot's objects.
-const FIRST_SLOTS: usize = 2;
-
-/// What boot puts into the slots of the root CNode, and what others of them hold.
+/// What boot puts into the slots of the root CNode, slot 1 of which is for itself, and what others of them hold.
 pub fn root_slots<P: Profile>(
     alloc: Global,
     plan: &BootPlan,
@@ -104,9 +90,12 @@ pub fn root_slots<P: Profile>(
     requires { IsPlan P.profile plan.now }
 {
     let mut objects = Vec::new(alloc);
-    for _empty in 0..FIRST_SLOTS {
-        objects.push(None)?;
-    }
+    objects.push(None)?;
+    objects.push(Some(Object {
+        kind: Kind::Node,
+        base: 0,
+        bits: plan.root_radix().wrapping_add(P::SLOT_BITS),
+    }))?;
     add_threads::<P>(&mut objects, plan)?;
     add_endpoints::<P>(&mut objects, plan)?;
     for (base, bits) in plan.untypeds() {
@@ -335,6 +324,43 @@ pub struct Meaning<'a, P: Profile, S: CapStore<P> + Drop, W: Waiters<P> + Drop> 
     ghost limits: { IsWithinLimits P.profile setup.now.plan },
 }
 
+/// How many slots the root CNode has.
+pub(crate) fn slot_count<P: Profile>(plan: &BootPlan) -> u64
+    requires { IsWithinLimits P.profile plan.now }
+    ensures count { result ≡ 2 ^ plan.now.root_radix }
+    ensures small { result ≤ 4096 }
+{
+    1 << plan.root_radix()
+}
+
+/// The address of a slot of the root CNode.
+pub(crate) fn slot_address<P: Profile>(index: u64) -> u64
+    requires { index < 2 ^ 32 }
+    ensures { result ≡ slot_size P.profile * index }
+{
+    index << P::SLOT_BITS
+}
+
+/// The address of the CNode that a word means: a number below the count of the root CNode's slots means the one that this slot holds.
+fn node_meant<P: Profile, S: CapStore<P> + Drop, W: Waiters<P> + Drop>(
+    names: &[Name],
+    setup: &Setup,
+    kernel: &Kernel<P, S, W>,
+    word: &[u8],
+) -> Option<u64>
+    requires { IsWithinLimits P.profile setup.now.plan }
+    ensures { result ≡ spec.node_meant P.profile (names_view names.now) setup.now.plan kernel.now word.now }
+{
+    let number = number_meant(names, word)?;
+    if number >= slot_count::<P>(setup.plan()) {
+        return Some(number);
+    }
+    match kernel.cap_at(slot_address::<P>(number)) {
+        Cap::CNode { base, .. } => Some(base),
+        _ => None,
+    }
+}
+
 /// A word as it stands for a number: a name behind a `@`.
 pub(crate) fn text_of_word(alloc: Global, word: &Word) -> Result<String, AllocError>
     ensures { IfOk result (λ text. string_bytes text ≡ spec.word_text word.now) }
@@ -364,14 +390,25 @@ impl<'a, P: Profile, S: CapStore<P> + Drop, W: Waiters<P> + Drop> Meaning<'a, P,
         }
     }
 
+    /// The address of the object of a kind that a text means.
+    fn meant(&self, kind: Kind, text: &str) -> Option<u64>
+        ensures { result ≡ spec.meant kind P.profile (names_view self.now.objects.names.now) self.now.setup.now.plan self.now.kernel.now text.now }
+    {
+        let (names, setup, kernel) = (self.objects.names, self.setup, self.kernel);
+        let asked = match kind {
+            Kind::Thread => ObjectKind::Thread,
+            Kind::Endpoint => ObjectKind::Endpoint,
+            Kind::Region => ObjectKind::Region,
+            Kind::Node => return node_meant::<P, S, W>(names, setup, kernel, text.as_bytes()),
+        };
+        object_meant::<P, S, W>(names, setup, kernel, asked, text.as_bytes())
+    }
+
     /// The live object of a kind that a text means.
-    #[tactic(auto, using(crate::proofs::Meant::meant_there))]
     fn found(&self, kind: Kind, text: &str) -> Option<Object>
         ensures { IfSome result (λ o. spec.IsMeant kind P.profile (names_view self.now.objects.names.now) self.now.setup.now.plan self.now.kernel.now text.now o.base) }
     {
-        let Objects { names, .. } = self.objects;
-        let asked = kind.meant()?;
-        let base = object_meant::<P, S, W>(names, self.setup, self.kernel, asked, text.as_bytes())?;
+        let base = self.meant(kind, text)?;
         let object = self.objects.at_address(kind, base)?;
         Some(object)
     }
@@ -391,17 +428,11 @@ impl<'a, P: Profile, S: CapStore<P> + Drop, W: Waiters<P> + Drop> Meaning<'a, P,
     }
 
     /// Whether a name, with a `@` before it, means the object of a kind at an address.
-    #[tactic(auto, using(crate::proofs::Meant::meant_there))]
     fn is_called(&self, kind: Kind, base: u64, name: &str) -> Result<bool, AllocError>
         ensures { IfOk result (λ is. IsTrue is → spec.IsMeant kind P.profile (names_view self.now.objects.names.now) self.now.setup.now.plan self.now.kernel.now (codes "@" ++ name.now) base) }
     {
-        let Objects { alloc, names, .. } = self.objects;
-        let text = format!(in alloc; "@{name}")?;
-        let Some(asked) = kind.meant() else {
-            return Ok(false);
-        };
-        let meant = object_meant::<P, S, W>(names, self.setup, self.kernel, asked, text.as_bytes());
-        match meant {
+        let text = format!(in self.objects.alloc; "@{name}")?;
+        match self.meant(kind, text.as_str()) {
             Some(meant) => Ok(meant == base),
             None => Ok(false),
         }
@@ -455,6 +486,7 @@ impl<'a, P: Profile, S: CapStore<P> + Drop, W: Waiters<P> + Drop> Meaning<'a, P,
             threads: self.labels_of(Kind::Thread)?,
             endpoints: self.labels_of(Kind::Endpoint)?,
             regions: self.labels_of(Kind::Region)?,
+            nodes: self.labels_of(Kind::Node)?,
         })
     }
 }

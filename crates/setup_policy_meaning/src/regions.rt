@@ -11,7 +11,7 @@ ghost use Rattle.setup_report.specs.State as state;
 ghost use Rattle.setup_policy_meaning.specs.Meant.{word_text};
 ghost use Rattle.setup_policy_meaning.specs.Regions as spec;
 
-use crate::objects::{Kind, Meaning, Unmeant, text_of_word};
+use crate::objects::{Kind, Meaning, Unmeant, slot_address, slot_count, text_of_word};
 use cap_core::{Cap, Profile};
 use ipc_core::Waiters;
 use kernel_core::BootPlan;
@@ -152,23 +152,6 @@ fn largest(regions: &[(u64, u32)]) -> Option<u32> {
         }
     }
     largest
-}
-
-/// How many slots the root CNode has.
-fn slot_count<P: Profile>(plan: &BootPlan) -> u64
-    requires { IsWithinLimits P.profile plan.now }
-    ensures count { result ≡ 2 ^ plan.now.root_radix }
-    ensures small { result ≤ 4096 }
-{
-    1 << plan.root_radix()
-}
-
-/// The address of a slot of the root CNode.
-fn slot_address<P: Profile>(index: u64) -> u64
-    requires { index < 2 ^ 32 }
-    ensures { result ≡ slot_size P.profile * index }
-{
-    index << P::SLOT_BITS
 }
 
 /// A region as a list, where there is one.

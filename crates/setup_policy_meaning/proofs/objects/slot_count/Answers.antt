@@ -2,7 +2,7 @@
 use Rattle.std.proofs.Common.{◌^◌, ◌≤◌, arith}
 use Rattle.std.proofs.Math.Nat.{pow-le-pow_right}
 use Rattle.std.proofs.lemmas.Nat.{one_shl}
-use Rattle.setup_policy_meaning.proofs.regions.slot_count.Goals as goal
+use Rattle.setup_policy_meaning.proofs.objects.slot_count.Goals as goal
 
 pub returns-clause-small : goal.returns-clause-small
 returns-clause-small g c =

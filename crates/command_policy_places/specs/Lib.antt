@@ -1,0 +1,2 @@
+-- Where what breaks a policy comes from.
+pub mod Places
