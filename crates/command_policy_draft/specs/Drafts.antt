@@ -13,6 +13,7 @@ use Rattle.command_core.specs.declared.fault.Verdict.{Verdict}
 use Rattle.command_core.specs.declared.fault.Verdict.TheVariants.{AllMet, Absent}
 use Rattle.command_parts.specs.Threads.{Trusted, objects_named}
 use Rattle.setup_policy.specs.declared.policy.Member.{Member}
+use Rattle.setup_policy.specs.declared.policy.PolicyVersion.TheVariants.{Two}
 use Rattle.command_policy_text.specs.Kinds.{thread_breaches}
 use Rattle.command_policy_text.specs.Told.{line_told}
 use Rattle.command_policy.specs.declared.judging.Judged.{Judged}
@@ -28,8 +29,9 @@ thread_lines judged = map (line_told judged.policy judged.layout judged.labels j
 abbrev pub IsHeldAsWritten : Judged → SetupView → Type 0
 IsHeldAsWritten judged setup = All (Contains (thread_lines judged)) (breach_lines judged setup)
 
--- such a policy trusts these threads, and no others
+-- such a policy is of version 2, so that takes break it too, and trusts these threads, and no others
 pub record IsKeptBy (setup : SetupView) (silent messages : List ℕ) (judged : Judged) : Type 0 where
+  pub version_is : judged.policy.version ≡ Two
   pub silent_are : map (λ (m : Member). m.thread) judged.policy.silent.items ≡ silent
   pub messages_are : map (λ (m : Member). m.thread) judged.policy.messages.items ≡ messages
   pub held : IsHeldAsWritten judged setup

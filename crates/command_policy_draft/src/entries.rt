@@ -1,15 +1,15 @@
-//! The ways and the uses of a draft: what breaks the policy that was written so far. No clause says what is written: the draft is read
-//! back (`judged`).
+//! The ways, the uses and the takes of a draft: what breaks the policy that was written so far. No clause says what is written: the
+//! draft is read back (`judged`).
 use crate::groups::group_at;
+use crate::tables::{Kind, Table};
 use cap_core::{Badge, Rights};
 use command_policy::Judged;
 use command_policy_breaches::{
-    badges_amiss, is_entry, passages_amiss, rights_amiss, unlisted, waits_amiss,
+    badges_amiss, is_entry, passages_amiss, rights_amiss, takes_amiss, unlisted, waits_amiss,
 };
-use command_policy_text::{end_label, label, object};
+use command_policy_text::{end_label, label, object, part_label};
 use query_parts::{PartUse, part_at};
 use setup_policy::Allowance;
-use setup_report::RightsText;
 use std::alloc::{AllocError, Global};
 use std::fmt;
 use std::fmt::Write;
@@ -54,21 +54,30 @@ impl SoFar<'_> {
         Rights(rights)
     }
 
-    /// Adds an entry with such a badge, where it does not stand there, behind the keys that say whose it is.
-    fn add(&self, out: &mut String, keys: &str, entry: &Allowance) -> Result<(), AllocError> {
+    /// Adds a table of an entry with such a badge, unless it is there.
+    fn add(
+        &self,
+        tables: &mut Vec<Table>,
+        mut table: Table,
+        entry: &Allowance,
+    ) -> Result<(), AllocError> {
+        if (entry.badge == 0) != self.with_any {
+            return Ok(());
+        }
+        let alloc = self.alloc;
         let endpoint = object(self.judged.labels.endpoints.as_slice(), entry.endpoint);
-        let (badge, rights) = (BadgeValue(entry.badge), RightsText(self.all_rights(entry)));
-        let line = format!(in self.alloc;
-            "  {{ {keys} = \"{endpoint}\", badge = {badge}, rights = \"{rights}\" }},\n"
-        )?;
-        if (entry.badge == 0) == self.with_any && !out.as_str().contains(line.as_str()) {
-            out.push_str(line.as_str())?;
+        let badge = BadgeValue(entry.badge);
+        table.by.0.push(format!(in alloc; "\"{endpoint}\"")?)?;
+        table.badge.0.push(format!(in alloc; "{badge}")?)?;
+        table.rights = self.all_rights(entry);
+        if !tables.contains(&table) {
+            tables.push(table)?;
         }
         Ok(())
     }
 
     /// Adds ways for what passes and no way lets pass.
-    pub fn add_ways(&self, ways: &mut String) -> Result<(), AllocError> {
+    pub fn add_ways(&self, tables: &mut Vec<Table>) -> Result<(), AllocError> {
         let (alloc, judged) = (self.alloc, self.judged);
         let (homes, passages) = (judged.homes.as_slice(), judged.passages.as_slice());
         let (policy, layout) = (&judged.policy, &judged.layout);
@@ -77,7 +86,7 @@ impl SoFar<'_> {
             let sender = passage.from;
             let from = end_label(alloc, judged.held(), sender)?;
             let to = end_label(alloc, judged.held(), passage.to)?;
-            let keys = format!(in alloc; "from = \"{from}\", to = \"{to}\", by")?;
+            let way = Table::new(alloc, Kind::Way, from.as_str(), &[to.as_str()])?;
             let group = group_at(alloc, homes, sender.number)?;
             let entry = Allowance {
                 actor: if sender.is_part { group } else { sender.number },
@@ -85,7 +94,23 @@ impl SoFar<'_> {
                 badge: passage.badge,
                 rights: Rights::WRITE,
             };
-            self.add(ways, keys.as_str(), &entry)?;
+            self.add(tables, way, &entry)?;
+        }
+        Ok(())
+    }
+
+    /// Adds takes for what parts take and no entry lets them take.
+    pub fn add_takes(&self, tables: &mut Vec<Table>) -> Result<(), AllocError> {
+        let alloc = self.alloc;
+        let Judged { policy, layout, .. } = self.judged;
+        let takes = takes_amiss(alloc, policy, layout)?;
+        for take in takes.as_slice() {
+            let from = part_label(alloc, policy, layout, take.by)?;
+            let to = part_label(alloc, policy, layout, take.of)?;
+            let take = Table::new(alloc, Kind::Take, from.as_str(), &[to.as_str()])?;
+            if !tables.contains(&take) {
+                tables.push(take)?;
+            }
         }
         Ok(())
     }
@@ -120,20 +145,20 @@ impl SoFar<'_> {
     }
 
     /// Adds uses for what parts need and no entry lets them have.
-    pub fn add_uses(&self, uses: &mut String) -> Result<(), AllocError> {
+    pub fn add_uses(&self, tables: &mut Vec<Table>) -> Result<(), AllocError> {
         let Judged { policy, layout, .. } = self.judged;
         let needs = self.needs()?;
         for used in needs.as_slice() {
             let group = group_at(self.alloc, layout.homes.as_slice(), used.part)?;
             let name = label(self.alloc, policy, &[group])?;
-            let keys = format!(in self.alloc; "group = \"{name}\", of")?;
+            let table = Table::new(self.alloc, Kind::Use, name.as_str(), &[])?;
             let entry = Allowance {
                 actor: group,
                 endpoint: used.endpoint,
                 badge: used.badge.0,
                 rights: used.rights,
             };
-            self.add(uses, keys.as_str(), &entry)?;
+            self.add(tables, table, &entry)?;
         }
         Ok(())
     }

@@ -7,12 +7,13 @@ ghost use Rattle.command_policy_draft.specs.Drafts as spec;
 
 use crate::entries::SoFar;
 use crate::groups::{first_text, groups_text};
+use crate::tables::{folded, tables_text};
 use cap_core::Profile;
 use command_policy::{Judged, judge};
 use command_policy_text::{kinds, told_text};
 use ipc_core::MakeWaiters;
 use setup_format::Setup;
-use setup_policy::Member;
+use setup_policy::{Member, PolicyVersion};
 use setup_policy_file::{Fault, Place, Refusal, Spot, read_policy};
 use setup_report::calls_made;
 use setup_values::Name;
@@ -21,8 +22,8 @@ use std::alloc::{AllocError, Global};
 
 /// How many steps add ways. Of each two steps the first adds what has any badge.
 const WAY_STEPS: u32 = 2;
-/// How many steps there are: for ways, for uses, for threads that wait, and one that adds nothing.
-const STEPS: u32 = 7;
+/// How many steps there are: for ways, for uses, and for threads that wait.
+const STEPS: u32 = 6;
 
 /// What a draft is asked of: a set-up, how many of its calls are made, and the number that was asked for; and the live threads: those
 /// that are trusted to make no more calls, those that are trusted to send and receive alone, and the others.
@@ -69,23 +70,27 @@ fn draft_text<P: Profile, S: MakeStore<P> + DerivationStore<P>, W: MakeWaiters<P
     let alloc = asked.alloc;
     let mut text = first_text(asked)?;
     let first = read_back::<P, S, W>(asked, text.as_str())?;
-    let groups = groups_text(asked, &first)?;
-    let (mut ways, mut uses) = (String::new(alloc), String::new(alloc));
+    let groups = groups_text::<P, S, W>(asked, &first)?;
+    let mut tables = Vec::new(alloc);
     for step in 0..STEPS {
-        text = format!(in alloc; "{groups}]\nway = [\n{ways}]\nuse = [\n{uses}]\n")?;
+        let entries = tables_text(alloc, tables.as_slice())?;
+        text = format!(in alloc; "{groups}]\n{entries}")?;
         let judged = &read_back::<P, S, W>(asked, text.as_str())?;
         let so_far = SoFar {
             alloc,
             judged,
             with_any: step % 2 == 0,
         };
+        so_far.add_takes(&mut tables)?;
         if step < WAY_STEPS {
-            so_far.add_ways(&mut ways)?;
+            so_far.add_ways(&mut tables)?;
         } else {
-            so_far.add_uses(&mut uses)?;
+            so_far.add_uses(&mut tables)?;
         }
     }
-    Ok(text)
+    let tables = folded(alloc, tables)?;
+    let entries = tables_text(alloc, tables.as_slice())?;
+    Ok(format!(in alloc; "{groups}]\n{entries}")?)
 }
 
 fn threads_of(alloc: Global, members: &[Member]) -> Result<Vec<u64>, AllocError>
@@ -134,12 +139,24 @@ fn is_held(alloc: Global, judged: &Judged, setup: &Setup) -> Result<bool, AllocE
     Ok(true)
 }
 
-/// Whether a policy trusts whom it is to trust, and is held to.
+fn is_version_two(version: PolicyVersion) -> bool
+    ensures { IsTrue result ↔ version ≡ PolicyVersion.Two }
+{
+    match version {
+        PolicyVersion::One => false,
+        PolicyVersion::Two => true,
+    }
+}
+
+/// Whether a policy is of version 2, trusts whom it is to trust, and is held to.
 fn is_kept(asked: Asked<'_>, judged: &Judged) -> Result<bool, AllocError>
     requires { length judged.now.replies.items ≤ length asked.setup.now.calls }
     ensures { IfOk result (λ is. IsTrue is → spec.IsKeptBy asked.entry.setup.now asked.entry.silent.now asked.entry.messages.now judged.now) }
 {
     let (alloc, policy) = (asked.alloc, &judged.policy);
+    if !is_version_two(policy.version) {
+        return Ok(false);
+    }
     let silent = are_threads(alloc, policy.silent.as_slice(), asked.silent)?;
     let messages = are_threads(alloc, policy.messages.as_slice(), asked.messages)?;
     if !silent {

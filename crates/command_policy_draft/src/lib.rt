@@ -6,5 +6,7 @@ mod command;
 mod entries;
 mod groups;
 mod judged;
+mod reasons;
+mod tables;
 
 pub use command::Draft;
