@@ -6,16 +6,16 @@ use Rattle.command_policy_breaches.specs.declared.held.Layout.{Layout}
 use Rattle.setup_policy.specs.declared.policy.Policy.{Policy}
 use Rattle.command_policy_breaches.specs.declared.ways.Passage.{Passage}
 use Rattle.command_policy_text.specs.declared.told.Told.{Told}
-use Rattle.command_policy_text.specs.Kinds.{badge_breaches, joined_breaches, passage_breaches, waiting_breaches}
+use Rattle.command_policy_text.specs.Kinds.{badge_breaches, joined_breaches, passage_breaches, take_breaches, waiting_breaches}
 use Rattle.command_policy_text.specs.Told.{line_told}
 
 -- the line with a number, from 1
 abbrev pub breach_at : List (List ℕ) → ℕ → Option (List ℕ)
 breach_at lines number = cond (number == 0) None (slice_get lines (number - 1))
 
--- the breaches of which it is asked how they happen: those of parts and messages, and not those of what is held
+-- the breaches of which it is asked how they happen: those of parts, messages and takes, and not those of what is held
 abbrev pub asked_breaches : Policy → Layout → List Home → List Passage → List Told
-asked_breaches c l hs ws = joined_breaches l ++ (badge_breaches c l ++ (passage_breaches c l hs ws ++ waiting_breaches c l))
+asked_breaches c l hs ws = joined_breaches l ++ (badge_breaches c l ++ (passage_breaches c l hs ws ++ (waiting_breaches c l ++ take_breaches c l)))
 
 -- one of some breaches has a line
 pub record HasLine (c : Policy) (l : Layout) (n : Labels) (hs : List Home) (breaches : List Told) (line : List ℕ) (told : Told) : Type 0 where

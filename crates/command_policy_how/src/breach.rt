@@ -18,9 +18,11 @@ pub fn asked_breaches(
     let badges = kinds::badges(alloc, held)?;
     let ways = kinds::ways(alloc, held, passages)?;
     let waits = kinds::waits(alloc, held)?;
+    let takes = kinds::takes(alloc, held)?;
     all.extend_from_slice(badges.as_slice())?;
     all.extend_from_slice(ways.as_slice())?;
     all.extend_from_slice(waits.as_slice())?;
+    all.extend_from_slice(takes.as_slice())?;
     Ok(all)
 }
 

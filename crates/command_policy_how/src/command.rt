@@ -4,7 +4,7 @@ ghost use Rattle.kernel_abstract.specs.Plan.{IsPlan};
 ghost use Rattle.command_policy.specs.Policies.{IsJudged};
 ghost use Rattle.command_policy_how.specs.Breach.{breach_at};
 ghost use Rattle.command_policy_how.specs.Told as spec;
-ghost use Rattle.command_how.specs.How.{most_of as most_of_states};
+ghost use Rattle.command_how.specs.How.{IsNothing, most_of as most_of_states};
 ghost use Rattle.command_how.specs.Line.{answer_text};
 ghost use Rattle.setup_values.specs.Names.{names_view};
 
@@ -13,12 +13,13 @@ use crate::breach::{asked_breaches, told_by};
 use cap_core::Profile;
 use command_check::{Behind, Command};
 use command_core::{Answer, Verdict};
-use command_how::{NoWitness, flows_absent, most_of};
+use command_how::{NoWitness, most_of};
 use command_policy::{HeldTo, Judged, Judging};
 use command_policy_text::Told;
 use ipc_core::{MakeWaiters, SaveWaiters};
 use setup_format::{ReadSetup, Setup};
 use setup_marks::is_for_flows;
+use setup_policy::PolicyVersion;
 use setup_report::{count_refused, kernel_after};
 use slot_core::{DerivationStore, MakeStore, SaveStore};
 use std::alloc::{AllocError, Global};
@@ -28,8 +29,8 @@ use std::alloc::{AllocError, Global};
 ///
 /// The verdict is `AllMet` where the text is a witness: a set-up that makes the first calls, then others by which the breach happens,
 /// and meets all that it expects; `NotMet` with a line where it is excluded, no calls are found, or it is asked of no two threads; or
-/// `Absent` with nothing written: where `import --flows` made the set-up, where the text has fewer breaches, and where the breach is of
-/// what is there already.
+/// `Absent` with nothing written: where the text has fewer breaches, where the breach is of what is there already, and where
+/// `import --flows` made the set-up.
 #[derive(Clone, Copy, Drop)]
 pub struct BreachHow<'a> {
     pub policy: &'a [u8],
@@ -63,19 +64,41 @@ fn line_of_none(alloc: Global, breach: u64) -> Result<Answer, AllocError>
     Ok(Answer::new(alloc, line.into_bytes(), Verdict::NotMet))
 }
 
+/// Where the slots of a breach are shown, by its line: in version 2 the line below it has them, if there is one.
+fn where_shown(version: PolicyVersion, line: &str) -> &'static str {
+    let is_alone = line.starts_with("breach call ") || line.starts_with("breach joined ");
+    match version {
+        PolicyVersion::Two if !is_alone => "the line below it has its slot",
+        _ => "sel4sim never has the chain of slots",
+    }
+}
+
 impl BreachHow<'_> {
-    /// What is said where the text has no such breach, or no calls are asked for.
-    fn absent(&self, alloc: Global, lines: &[String]) -> Result<String, AllocError> {
+    /// No text, and what standard error says: the text has no such breach; or no calls are looked for, since `import --flows` made the
+    /// set-up, or since the breach is not one of which it is asked.
+    fn absent(
+        &self,
+        alloc: Global,
+        judged: &Judged,
+        lines: &[String],
+        is_asked: bool,
+    ) -> Result<Answer, AllocError>
+        ensures { IfOk result (λ made. IsNothing made.text.items made.verdict) }
+    {
         let number = self.breach;
-        match line_at(lines, number) {
-            None => {
-                let count = lines.len();
-                format!(in alloc; "--how {number}: count of breaches: {count}")
-            }
-            Some(line) => format!(in alloc;
-                "--how {number}: {line}: this is there already, and no calls to come are asked for; sel4sim never has the chain of slots"
-            ),
-        }
+        let Some(line) = line_at(lines, number) else {
+            let count = lines.len();
+            let words = format!(in alloc; "--how {number}: count of breaches: {count}")?;
+            return Ok(Answer::absent(alloc, words));
+        };
+        let why = if is_asked {
+            "the set-up is one of import --flows, where no calls are looked for"
+        } else {
+            "this is there already, and no calls to come are asked for"
+        };
+        let shown = where_shown(judged.policy.version, line);
+        let words = format!(in alloc; "--how {number}: {line}: {why}; {shown}")?;
+        Ok(Answer::absent(alloc, words))
     }
 
     /// The breach that is asked of, where calls are asked for.
@@ -117,8 +140,8 @@ impl BreachHow<'_> {
         }
     }
 
-    /// The answer for a set-up that is judged, unless `import --flows` made it.
-    fn answer_unless_flows<P: Profile, S: MakeStore<P> + DerivationStore<P>, W: MakeWaiters<P>>(
+    /// The answer for a set-up that is judged.
+    fn answer_of<P: Profile, S: MakeStore<P> + DerivationStore<P>, W: MakeWaiters<P>>(
         &self,
         alloc: Global,
         behind: &Behind<'_>,
@@ -130,31 +153,14 @@ impl BreachHow<'_> {
         ensures { IfOk result (λ answer. spec.IsAnswerUnlessFlows self.now.breach (most_of_states self.now.states) P.profile (names_view behind.now.names.now)
             behind.now.setup.now behind.now.made judged.now answer.text.items answer.verdict) }
     {
-        if is_for_flows(behind.names) {
-            return flows_absent(alloc);
-        }
-        self.answer_of::<P, S, W>(alloc, behind, judged)
-    }
-
-    /// The answer for a set-up that is judged.
-    fn answer_of<P: Profile, S: MakeStore<P> + DerivationStore<P>, W: MakeWaiters<P>>(
-        &self,
-        alloc: Global,
-        behind: &Behind<'_>,
-        judged: &Judged,
-    ) -> Result<Answer, AllocError>
-        requires plan { IsPlan P.profile behind.now.setup.now.plan }
-        requires made { behind.now.made ≤ length behind.now.setup.now.calls }
-        requires judged { IsJudged P.profile behind.now.setup.now behind.now.made judged.now }
-        ensures { IfOk result (λ answer. spec.IsAnswerOf self.now.breach (most_of_states self.now.states) P.profile behind.now.setup.now behind.now.made judged.now answer.text.items answer.verdict) }
-    {
         let lines = judged.breach_lines(alloc, behind.setup)?;
-        match self.breach_in(alloc, judged, lines.as_slice())? {
+        let found = self.breach_in(alloc, judged, lines.as_slice())?;
+        if is_for_flows(behind.names) {
+            return self.absent(alloc, judged, lines.as_slice(), found.is_some());
+        }
+        match found {
             Some(told) => self.answer_to::<P, S, W>(alloc, behind, judged, told),
-            None => {
-                let absent = self.absent(alloc, lines.as_slice())?;
-                Ok(Answer::absent(alloc, absent))
-            }
+            None => self.absent(alloc, judged, lines.as_slice(), false),
         }
     }
 }
@@ -179,11 +185,11 @@ impl Command for BreachHow<'_> {
                 let behind = Behind {
                     names: read.names.as_slice(),
                     setup: &read.setup,
-                    table: &read.table,
+                    text: read.text.as_slice(),
                     made,
                     refused: count_refused(judged.replies.as_slice()),
                 };
-                self.answer_unless_flows::<P, S, W>(alloc, &behind, &judged)
+                self.answer_of::<P, S, W>(alloc, &behind, &judged)
             }
         }
     }

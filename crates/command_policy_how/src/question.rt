@@ -4,7 +4,8 @@ ghost use Rattle.command_policy_how.specs.Question as spec;
 
 use cap_core::Rights;
 use command_how::Happening;
-use command_policy_breaches::{Layout, is_way_between};
+use command_parts::Take;
+use command_policy_breaches::{End, Layout, Passage, is_way_between};
 use command_policy_text::{Held, Told};
 use query_parts::{PartMemory, part_at};
 use setup_policy::{Member, Policy, PolicyWay};
@@ -16,6 +17,7 @@ pub fn happening_of(told: Told) -> Happening
 {
     match told {
         Told::Joined(_) => Happening::Hold,
+        Told::Taken(_) => Happening::Loss,
         _ => Happening::Message,
     }
 }
@@ -86,7 +88,38 @@ fn are_in_two_parts(memory: &[PartMemory], from: u64, to: u64) -> bool
     }
 }
 
-/// Whether a breach may let something pass from the one thread to the other.
+/// Whether two threads are of groups of the two parts of a take and lie there: the one in the part that takes, and the other in that from
+/// which it does.
+fn are_of_take(layout: &Layout, take: Take, from: &Member, to: &Member) -> bool
+    ensures { result ≡ spec.are_of_take layout.now take from.now to.now }
+{
+    let memory = layout.memory.as_slice();
+    let passage = Passage {
+        from: End {
+            is_part: true,
+            number: take.by,
+        },
+        part: take.by,
+        endpoint: 0,
+        badge: 0,
+        to: End {
+            is_part: true,
+            number: take.of,
+        },
+    };
+    let way = PolicyWay {
+        from: from.actor,
+        to: to.actor,
+        endpoint: 0,
+        badge: 0,
+        rights: Rights::ALL,
+    };
+    lies_in(memory, take.by, from.thread)
+        && lies_in(memory, take.of, to.thread)
+        && is_way_between(layout.homes.as_slice(), &passage, &way)
+}
+
+/// Whether a breach may let something pass from the one thread to the other, or the one take from the other.
 fn are_ends(held: Held<'_>, told: Told, from: &Member, to: &Member) -> bool
     ensures { result ≡ spec.are_ends held.entry.layout.now held.entry.homes.now told from.now to.now }
 {
@@ -110,6 +143,7 @@ fn are_ends(held: Held<'_>, told: Told, from: &Member, to: &Member) -> bool
         }
         Told::Waits(wait) if wait.sends => from.thread == wait.thread,
         Told::Waits(wait) => to.thread == wait.thread,
+        Told::Taken(take) => are_of_take(held.layout, take, from, to),
         _ => false,
     }
 }

@@ -12,8 +12,8 @@ use Rattle.command_policy_how.specs.Told.{IsAnswerUnlessFlows}
 use Rattle.command_policy_how.proofs.Made.{made_fits}
 use Rattle.command_policy_how.proofs.command.BreachHowCommand.answer.Goals as goal
 
-pub answer_unless_flows-requires-clause-made : goal.answer_unless_flows-requires-clause-made
-answer_unless_flows-requires-clause-made g c =
+pub answer_of-requires-clause-made : goal.answer_of-requires-clause-made
+answer_of-requires-clause-made g c =
     let p = g.P.Profile.profile in
     let first : IsJudgedFirst c.args.self.now.policy.now p (read_view c.args.read.now) c.args.self.now.after c.in-Done.made c.in-Done.file c.in-Done.judged =
     subst (λ (o : Judging). IsJudging c.args.self.now.policy.now c.args.self.now.after p (read_view c.args.read.now) o) c.in-Done.is c.in_ok-answer.ensures in
@@ -24,7 +24,7 @@ returns g c =
     let p = g.P.Profile.profile in
     let first : IsJudgedFirst c.args.self.now.policy.now p (read_view c.args.read.now) c.args.self.now.after c.in-Done.made c.in-Done.file c.in-Done.judged =
     subst (λ (o : Judging). IsJudging c.args.self.now.policy.now c.args.self.now.after p (read_view c.args.read.now) o) c.in-Done.is c.in_ok-answer.ensures in
-    if_ok c.answer_unless_flows.result _ _
+    if_ok c.answer_of.result _ _
     (λ answer told. inr (record {
       made = c.in-Done.made;
       judged = c.in-Done.judged;
@@ -35,4 +35,4 @@ returns g c =
           answer.text.items answer.verdict)
           c.as_slice.ensures.value told;
     }))
-    c.answer_unless_flows.ensures
+    c.answer_of.ensures
