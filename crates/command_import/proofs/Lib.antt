@@ -5,3 +5,4 @@ pub mod Told
 pub mod Alike
 pub mod Lists
 pub mod Named
+pub mod Kept

@@ -9,6 +9,7 @@ mod laws;
 mod listing;
 mod making;
 mod names;
+mod path;
 mod text;
 
 pub use laid_out::is_laid_out;

@@ -1,5 +1,5 @@
 //! The engines that make a set-up of a layout, or its capDL text.
-ghost use Rattle.std.specs.Prelude.{◌≡◌, ◌++◌, ℕ, List, [], IfOk, IfSome, IsErr, IsTrue, MatchOption, codes, false, true, length, string_bytes};
+ghost use Rattle.std.specs.Prelude.{◌≡◌, [], IfOk, IfSome, IsErr, IsTrue, MatchOption, false, true, length, option_map};
 ghost use Rattle.kernel_abstract.specs.Plan.{IsPlan};
 ghost use Rattle.kernel_abstract.specs.State.{shown};
 ghost use Rattle.setup_format.specs.Read.{read_view};
@@ -7,7 +7,7 @@ ghost use Rattle.setup_format.specs.Setups.{read_of_bytes};
 ghost use Rattle.setup_system.specs.Languages as languages;
 ghost use Rattle.setup_report.specs.Behind.{state_behind};
 ghost use Rattle.command_import.specs.Asked.{IsReadAs};
-ghost use Rattle.command_import.specs.Import.{ComesTo, IsImported, IsLayoutText, IsRefusal, IsSetUpOf};
+ghost use Rattle.command_import.specs.Import.{ComesTo, HasHeadOf, IsImported, IsLayoutText, IsRefusal, IsSetUpOf};
 ghost use Rattle.command_import.specs.Private.{IsFor, IsWritten};
 ghost use Rattle.command_import.specs.Listing.{listing_lines};
 ghost use Rattle.command_import.specs.Laid.{IsLaidOut};
@@ -15,6 +15,7 @@ ghost use Rattle.command_import.specs.Laid.{IsLaidOut};
 use crate::asked::is_read_as;
 use crate::laid_out::is_laid_out;
 use crate::listing::{are_words, listing_text};
+use crate::path::add_setup;
 use crate::text::setup_text;
 use cap_core::{Narrow, Profile, ProfileName, Wide};
 use command_core::{Answer, Engine, RunFault, Verdict};
@@ -117,9 +118,15 @@ fn listed(alloc: Global, layout: &Layout) -> Result<Answer, AllocError>
 }
 
 /// A text that lists the slots of a layout at its beginning, where it is read as a set-up whose calls come to the layout; else nothing.
-fn tested(alloc: Global, layout: &Layout, text: Vec<u8>) -> Result<Answer, AllocError>
-    requires { (rest : List ℕ) × (text.items ≡ listing_lines (codes "# ") layout.now ++ rest) }
-    ensures { IfOk result (λ made. IsWritten (IsSetUpOf layout.now) made.text.items made.verdict) }
+/// The layout's file has this path, if it has one.
+fn tested(
+    alloc: Global,
+    layout: &Layout,
+    path: Option<&str>,
+    text: Vec<u8>,
+) -> Result<Answer, AllocError>
+    requires { HasHeadOf layout.now (option_map (λ s. s.now) path) text.items }
+    ensures { IfOk result (λ made. IsWritten (IsSetUpOf layout.now (option_map (λ s. s.now) path.entry)) made.text.items made.verdict) }
 {
     let comes = does_come_to(alloc, layout, text.as_slice())?;
     if comes {
@@ -128,18 +135,20 @@ fn tested(alloc: Global, layout: &Layout, text: Vec<u8>) -> Result<Answer, Alloc
     Ok(Answer::new(alloc, Vec::new(alloc), Verdict::Absent))
 }
 
-/// The text of a set-up of the layout in a file of this name, which begins with a list of what its slots hold.
+/// The text of a set-up of the layout in the file of a path, if it has one. It begins with a list of what the layout's slots hold.
 fn text_of(
     alloc: Global,
     read: &ReadLayout,
     places: &Places,
-    name: &str,
-) -> Result<String, AllocError>
-    ensures { IfOk result (λ text. (rest : List ℕ) × (string_bytes text ≡ listing_lines (codes "# ") read.now.layout ++ rest)) }
+    path: Option<&str>,
+) -> Result<Vec<u8>, AllocError>
+    ensures { IfOk result (λ text. HasHeadOf read.now.layout (option_map (λ s. s.now) path.entry) text.items) }
 {
-    let rest = setup_text(alloc, read, places, name)?;
-    let mut text = listing_text(alloc, &read.layout, "# ")?;
-    text.push_str(rest.as_str())?;
+    let setup = setup_text(alloc, read, places)?;
+    let listing = listing_text(alloc, &read.layout, "# ")?;
+    let mut text = listing.into_bytes();
+    let (notes, rest) = (setup.notes.as_str(), setup.rest.as_str());
+    add_setup(&mut text, notes, path, rest)?;
     Ok(text)
 }
 
@@ -149,16 +158,16 @@ fn written(
     read: &ReadLayout,
     places: &Places,
     listing: bool,
-    name: &str,
+    path: Option<&str>,
 ) -> Result<Answer, AllocError>
     ensures listed { listing ≡ true → IfOk result (λ made. IsWritten (λ text. text ≡ listing_lines [] read.now.layout) made.text.items made.verdict) }
-    ensures tested { listing ≡ false → IfOk result (λ made. IsWritten (IsSetUpOf read.now.layout) made.text.items made.verdict) }
+    ensures tested { listing ≡ false → IfOk result (λ made. IsWritten (IsSetUpOf read.now.layout (option_map (λ s. s.now) path.entry)) made.text.items made.verdict) }
 {
     if listing {
         return listed(alloc, &read.layout);
     }
-    let text = text_of(alloc, read, places, name)?;
-    tested(alloc, &read.layout, text.into_bytes())
+    let text = text_of(alloc, read, places, path)?;
+    tested(alloc, &read.layout, path, text)
 }
 
 /// What is written of a layout that was read.
@@ -166,10 +175,10 @@ fn made_of(
     alloc: Global,
     reading: Reading,
     listing: bool,
-    name: &str,
+    path: Option<&str>,
     read: &ReadLayout,
 ) -> Result<Answer, AllocError>
-    ensures { IfOk result (λ made. IsImported reading listing made.text.items made.verdict) }
+    ensures { IfOk result (λ made. IsImported reading (option_map (λ s. s.now) path.entry) listing made.text.items made.verdict) }
 {
     let Some(places) = &read.places else {
         return refused(alloc, &read.layout);
@@ -177,7 +186,7 @@ fn made_of(
     if !is_read_as(reading, &read.layout) {
         return Ok(Answer::new(alloc, Vec::new(alloc), Verdict::Absent));
     }
-    written(alloc, read, places, listing, name)
+    written(alloc, read, places, listing, path)
 }
 
 /// A set-up of the layout that the input is, or, with `listing`, what was read of it, in lines. The verdict is `Refused` where the layout
@@ -186,23 +195,23 @@ fn made_of(
 pub struct Importer<'a> {
     pub reading: Reading,
     pub listing: bool,
-    /// The name of the layout's file, which a comment of the set-up tells.
-    pub name: &'a str,
+    /// The path of the layout's file, which a comment of the set-up tells right above its format; none of a layout from standard input.
+    pub path: Option<&'a str>,
 }
 
 impl Importer<'_> {
     /// What is written of the input.
     fn made(&self, alloc: Global, input: &[u8]) -> Result<Answer, AllocError>
-        ensures { IfOk result (λ made. IsImported (languages.reading_of self.now.reading input.now) self.now.listing made.text.items made.verdict) }
+        ensures { IfOk result (λ made. IsImported (languages.reading_of self.now.reading input.now) (option_map (λ s. s.now) self.now.path) self.now.listing made.text.items made.verdict) }
     {
         let reading = reading_of(self.reading, input);
         let read = read_any_layout(alloc, input, reading)?;
-        made_of(alloc, reading, self.listing, self.name, &read)
+        made_of(alloc, reading, self.listing, self.path, &read)
     }
 }
 
 impl Engine for Importer<'_> {
-    ghost means = { λ importer input text verdict. IsImported (languages.reading_of importer.reading input) importer.listing text verdict };
+    ghost means = { λ importer input text verdict. IsImported (languages.reading_of importer.reading input) (option_map (λ s. s.now) importer.path) importer.listing text verdict };
 
     fn make(&self, alloc: Global, input: &[u8]) -> Result<Answer, RunFault> {
         self.made(alloc, input).map_err(|_| RunFault::Memory)

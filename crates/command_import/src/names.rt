@@ -19,7 +19,7 @@ pub fn add_whole_names(
             },
         ) = given
         {
-            writeln!(out, "# name {text}: {}", object.name)?;
+            write!(out, "\n# name {text}: {}", object.name)?;
         }
     }
     Ok(())

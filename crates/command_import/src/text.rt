@@ -10,17 +10,16 @@ use std::fmt::Write;
 /// Adds what is said of the layout, as comments.
 fn add_notes(out: &mut String, notes: &Remarks) -> Result<(), AllocError> {
     for remark in notes.told.as_slice() {
-        writeln!(out, "# line {}: {remark}", remark.spot.line)?;
+        write!(out, "\n# line {}: {remark}", remark.spot.line)?;
     }
     if notes.more > 0 {
-        writeln!(out, "# and {} more", notes.more)?;
+        write!(out, "\n# and {} more", notes.more)?;
     }
     Ok(())
 }
 
-/// Adds the keys of a set-up.
+/// Adds the keys of a set-up behind its format.
 fn add_sizes(out: &mut String, profile: ProfileName, places: &Places) -> Result<(), AllocError> {
-    writeln!(out, "format = 2")?;
     if profile == ProfileName::Narrow {
         writeln!(out, "profile = \"narrow\"")?;
     }
@@ -58,27 +57,35 @@ fn calls_of<'a>(
     Ok(calls)
 }
 
-/// The text of a set-up whose calls make the layout in a file of this name. Its last line ends the list of the calls.
+/// The text of a set-up whose calls make a layout, in two parts.
+#[derive(Drop)]
+pub struct SetupText {
+    /// What is said of the layout, as comments, without the end of the last line.
+    pub notes: String,
+    /// What stands behind the format. Its last line ends the list of the calls.
+    pub rest: String,
+}
+
+/// The text of a set-up whose calls make the layout.
 pub fn setup_text(
     alloc: Global,
     read: &ReadLayout,
     places: &Places,
-    name: &str,
-) -> Result<String, AllocError> {
+) -> Result<SetupText, AllocError> {
     let layout = &read.layout;
     let calls = calls_of(alloc, layout, places)?;
-    let mut out = String::new(alloc);
+    let (mut notes, mut rest) = (String::new(alloc), String::new(alloc));
     let (objects, count) = (layout.objects.len(), calls.count);
-    writeln!(
-        &mut out,
-        "#\n# layout {name:?}\n# The layout has {objects} objects. The first {count} calls are the loader's, which makes it: above stands what its slots hold then."
+    write!(
+        &mut notes,
+        "#\n# The layout has {objects} objects. The first {count} calls are the loader's, which makes it: above stands what its slots hold then."
     )?;
-    add_notes(&mut out, &layout.gaps)?;
-    add_notes(&mut out, &layout.notes)?;
-    add_whole_names(&mut out, layout, read.names.list.as_slice())?;
-    add_sizes(&mut out, layout.profile, places)?;
-    add_names(&mut out, read, places)?;
+    add_notes(&mut notes, &layout.gaps)?;
+    add_notes(&mut notes, &layout.notes)?;
+    add_whole_names(&mut notes, layout, read.names.list.as_slice())?;
+    add_sizes(&mut rest, layout.profile, places)?;
+    add_names(&mut rest, read, places)?;
     let calls = calls.text.as_str();
-    writeln!(&mut out, "call = [\n{calls}]")?;
-    Ok(out)
+    writeln!(&mut rest, "call = [\n{calls}]")?;
+    Ok(SetupText { notes, rest })
 }

@@ -51,10 +51,10 @@ abbrev pub IsDone : {S F E K : Type 0} → (S → Type 0) → (Text → F → Ty
     → Job → Options → List ℕ → Option Text → Used S F E → Result Found RunFault → K → K → Type 0
 IsDone is_standard is_file is_fault from_standard from_file to job options policy name (Standard source) answer old new =
     (name ≡ None) × (unread : _) × is_standard unread
-    × IsRun (meaning job options policy) from_standard to unread source old new (verdict_of answer)
+    × IsRun (meaning job options policy None) from_standard to unread source old new (verdict_of answer)
 IsDone is_standard is_file is_fault from_standard from_file to job options policy name (File source) answer old new =
     (named : Text) × (name ≡ Some named) × (unread : _) × is_file named unread
-    × IsRun (meaning job options policy) from_file to unread source old new (verdict_of answer)
+    × IsRun (meaning job options policy (Some named)) from_file to unread source old new (verdict_of answer)
 IsDone is_standard is_file is_fault from_standard from_file to job options policy name (Unopened fault) answer old new =
     (named : Text) × (name ≡ Some named) × is_fault named fault × (answer ≡ Err Reading) × (new ≡ old)
 IsDone is_standard is_file is_fault from_standard from_file to job options policy name Nothing answer old new =

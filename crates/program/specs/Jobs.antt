@@ -6,7 +6,7 @@ use Rattle.command_line.specs.declared.arguments.Options.{Options}
 use Rattle.command_core.specs.declared.fault.Verdict.{Verdict}
 use Rattle.command_files.specs.Strict.{IsNamedCheck, checked}
 use Rattle.command_check.specs.Commands.{IsAnswerTo, IsStateAnswer}
-use Rattle.command_check.specs.Migrations.{IsMigration}
+use Rattle.command_marks.specs.Migrations.{IsMigration}
 use Rattle.command_audit.specs.Audits.{IsSlotAudited, IsStateAudited}
 use Rattle.command_parts.specs.Told.{IsEver}
 use Rattle.command_parts.specs.Threads.{Trusted}
@@ -145,27 +145,29 @@ reading_by options = record {
   strict = options.strict;
 }
 
--- a set-up of a layout, or, with `--listing`, what was read of it; or, with `--cdl`, the capDL text that it becomes
-abbrev pub IsImport : Options → List ℕ → List ℕ → Verdict → Type 0
-IsImport options input text verdict =
-    MatchBool options.cdl (IsLayoutText input text verdict) (IsImported (reading_of (reading_by options) input) options.listing text verdict)
+-- a set-up of a layout in the file of a path, if it has one, or, with `--listing`, what was read of it; or, with `--cdl`, the capDL text
+-- that it becomes
+abbrev pub IsImport : Options → Option (List ℕ) → List ℕ → List ℕ → Verdict → Type 0
+IsImport options path input text verdict =
+    MatchBool options.cdl (IsLayoutText input text verdict) (IsImported (reading_of (reading_by options) input) path options.listing text verdict)
 
--- what each command writes for an input, by the policy with these bytes if its words name one: its text and its verdict
-abbrev pub meaning : Job → Options → List ℕ → List ℕ → List ℕ → Verdict → Type 0
-meaning Check options policy = IsCheck options
-meaning Trace options policy = IsAnswerTo (IsTrace options.names options.ways)
-meaning Threads options policy = IsShared options
-meaning Migrate options policy = IsMigration
-meaning Why options policy = IsAnswerTo (IsWhy options.names options.call)
-meaning Audit options policy = IsAudit options
-meaning Ever options policy = IsAnswerTo (IsStateAnswer (IsEver (trust_of options) options.names) options.after)
-meaning Never options policy = IsAnswerTo (IsStateAnswer (IsNever (question_of options)) options.after)
-meaning Draft options policy = IsAnswerTo (IsStateAnswer (IsDraft (trust_of options) options.after) options.after)
-meaning How options policy = IsAnswerTo (IsStateAnswer (IsHow (how_of options)) options.after)
-meaning Policy options policy = IsHeld options policy options.breach
-meaning Explore options policy = IsExplorationBy options
-meaning Tree options policy = IsAnswerTo (IsStateAnswer (IsTree (form_of options) options.names) options.after)
-meaning New options policy = λ input text verdict. IsNewOf options text verdict
-meaning Marks options policy = IsAnswerTo IsMarks
-meaning Record options policy = IsAnswerTo IsRecord
-meaning Import options policy = IsImport options
+-- what each command writes for an input from the file of a path, if it has one, by the policy with these bytes if its words name one: its
+-- text and its verdict
+abbrev pub meaning : Job → Options → List ℕ → Option (List ℕ) → List ℕ → List ℕ → Verdict → Type 0
+meaning Check options policy path = IsCheck options
+meaning Trace options policy path = IsAnswerTo (IsTrace options.names options.ways)
+meaning Threads options policy path = IsShared options
+meaning Migrate options policy path = IsMigration
+meaning Why options policy path = IsAnswerTo (IsWhy options.names options.call)
+meaning Audit options policy path = IsAudit options
+meaning Ever options policy path = IsAnswerTo (IsStateAnswer (IsEver (trust_of options) options.names) options.after)
+meaning Never options policy path = IsAnswerTo (IsStateAnswer (IsNever (question_of options)) options.after)
+meaning Draft options policy path = IsAnswerTo (IsStateAnswer (IsDraft (trust_of options) options.after) options.after)
+meaning How options policy path = IsAnswerTo (IsStateAnswer (IsHow (how_of options)) options.after)
+meaning Policy options policy path = IsHeld options policy options.breach
+meaning Explore options policy path = IsExplorationBy options
+meaning Tree options policy path = IsAnswerTo (IsStateAnswer (IsTree (form_of options) options.names) options.after)
+meaning New options policy path = λ input text verdict. IsNewOf options text verdict
+meaning Marks options policy path = IsAnswerTo IsMarks
+meaning Record options policy path = IsAnswerTo IsRecord
+meaning Import options policy path = IsImport options path

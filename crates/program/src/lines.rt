@@ -18,9 +18,6 @@ use std::alloc::Global;
 use std::sync::Wait;
 use std::thread::Threads;
 
-/// The name that stands for standard input.
-const STANDARD: &str = "-";
-
 /// Does the job of a line with standard input.
 fn run_standard<'a, R: Threads + Wait + Sync, I: Inputs, K: Sink>(
     rt: &R,
@@ -42,7 +39,7 @@ fn run_standard<'a, R: Threads + Wait + Sync, I: Inputs, K: Sink>(
         line.job,
         line.options,
         policy,
-        STANDARD,
+        None,
         &mut source,
         sink,
     );
@@ -79,7 +76,7 @@ fn run_file<'a, R: Threads + Wait + Sync, I: Inputs, K: Sink>(
         line.job,
         line.options,
         policy,
-        name,
+        Some(name),
         &mut source,
         sink,
     );
@@ -104,7 +101,7 @@ fn run_new<'a, S, F, E, K: Sink>(alloc: Global, line: Line<'a>, sink: &mut K) ->
         Job::New,
         line.options,
         nothing,
-        STANDARD,
+        None,
         &mut source,
         sink,
     );

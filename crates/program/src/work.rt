@@ -1,5 +1,5 @@
 //! The job of a command line as an engine: what it makes of an input, by the options.
-ghost use Rattle.std.specs.Prelude.{◌≡◌, ◌≢◌, IfErr, IfOk, map};
+ghost use Rattle.std.specs.Prelude.{◌≡◌, ◌≢◌, IfErr, IfOk, map, option_map};
 ghost use Rattle.command_line.specs.declared.arguments.Job.TheVariants.{Threads};
 ghost use Rattle.command_check.specs.Commands.{IsAnswerTo, IsStateAnswer};
 ghost use Rattle.program.specs.Jobs.{IsAudit, IsCheck, IsExplorationBy, IsHeld, IsHeldOrListed, IsImport, IsOrdersAnswer, by_of, form_of as form_of_options, happening_in, how_of, messages_of, question_of, threads_of, trust_of, without_of};
@@ -16,14 +16,14 @@ use crate::marks::around;
 use crate::new_setup::asked_by;
 use crate::witness::witness_named;
 use command_audit::{SlotAudit, StateAudit};
-use command_check::{Command, Migrator, OnSetup, OnState, StateCommand};
+use command_check::{Command, OnSetup, OnState, StateCommand};
 use command_core::{Answer, Engine, RunFault};
 use command_explore::{Explore, ExploreGroups, ExploreOptions, WriteWitness};
 use command_files::{FileCheck, NamedCheck};
 use command_how::{Happening, How};
 use command_import::{Importer, LayoutText, Reading};
 use command_line::{Job, Options};
-use command_marks::{Marks, Record};
+use command_marks::{Marks, Migrator, Record};
 use command_never::Question;
 use command_new::Maker;
 use command_parts::{Ever, Trust};
@@ -323,14 +323,14 @@ fn make_new(alloc: Global, options: Options<'_>, input: &[u8]) -> Result<Answer,
     }
 }
 
-/// The set-up of the layout in a file of this name, or, by the options, the listing or the capDL text of that layout.
+/// The set-up of the layout in the file of a path, if it has one, or, by the options, the listing or the capDL text of that layout.
 fn make_import(
     alloc: Global,
     options: Options<'_>,
-    name: &str,
+    path: Option<&str>,
     input: &[u8],
 ) -> Result<Answer, RunFault>
-    ensures made { IfOk result (λ made. IsImport options.entry input.now made.text.items made.verdict) }
+    ensures made { IfOk result (λ made. IsImport options.entry (option_map (λ s. s.now) path.entry) input.now made.text.items made.verdict) }
     ensures memory { IfErr result (λ fault. fault ≡ RunFault.Memory) }
 {
     let Options {
@@ -355,7 +355,7 @@ fn make_import(
         let importer = Importer {
             reading,
             listing,
-            name,
+            path,
         };
         importer.make(alloc, input)
     }
@@ -367,24 +367,30 @@ pub(crate) struct Work<'a> {
     job: Job,
     options: Options<'a>,
     policy: &'a [u8],
-    /// The name of the input's file, or a hyphen.
-    name: &'a str,
+    /// The path of the input's file, if it has one.
+    path: Option<&'a str>,
     ghost without_threads: { job ≢ Threads },
 }
 
 impl<'a> Work<'a> {
-    /// The job, with its options, the bytes of the policy that they name, and the name of the input's file.
-    pub(crate) fn new(job: Job, options: Options<'a>, policy: &'a [u8], name: &'a str) -> Work<'a>
+    /// The job, with its options, the bytes of the policy that they name, and the path of the input's file, if it has one.
+    pub(crate) fn new(
+        job: Job,
+        options: Options<'a>,
+        policy: &'a [u8],
+        path: Option<&'a str>,
+    ) -> Work<'a>
         requires { job ≢ Job.Threads }
         ensures job { result.job ≡ job }
         ensures options { result.options ≡ options.entry }
         ensures policy { result.policy.now ≡ policy.now }
+        ensures path { result.path ≡ path.entry }
     {
         Work {
             job,
             options,
             policy,
-            name,
+            path,
         }
     }
 }
@@ -392,7 +398,7 @@ impl<'a> Work<'a> {
 impl Engine for Work<'_> {
     ghost use Rattle.program.specs.Jobs.{meaning};
 
-    ghost means = { λ work. meaning work.job work.options work.policy.now };
+    ghost means = { λ work. meaning work.job work.options work.policy.now (option_map (λ s. s.now) work.path) };
 
     fn make(&self, alloc: Global, input: &[u8]) -> Result<Answer, RunFault> {
         let options = self.options;
@@ -423,7 +429,7 @@ impl Engine for Work<'_> {
             Job::New => make_new(alloc, options, input),
             Job::Marks => on_setup(alloc, Marks, input),
             Job::Record => on_setup(alloc, Record, input),
-            Job::Import => make_import(alloc, options, self.name, input),
+            Job::Import => make_import(alloc, options, self.path, input),
         }
     }
 }

@@ -1,5 +1,6 @@
 //! What is said of calls of a set-up: each at its place in the text, with the line underlined there.
 use crate::messages::complain;
+use crate::origins::note_on_origin;
 use command_core::CallNote;
 use setup_format::Place;
 use setup_messages::unmeetable_expectations;
@@ -56,7 +57,8 @@ fn note_on_call<R: Eprint + AllocGlobal>(
     }
 }
 
-/// Says something of a call by which a policy is broken, where its table begins.
+/// Says something of a call by which a policy is broken, where its table begins; without words, where in the layout its slot stands, if
+/// the set-up is one of import from a file.
 pub fn note_on_broken<R: Eprint + AllocGlobal>(rt: &R, source: NamedText<'_>, note: &CallNote) {
     let sought = SoughtKey {
         place: Place::Call(note.call),
@@ -69,7 +71,11 @@ pub fn note_on_broken<R: Eprint + AllocGlobal>(rt: &R, source: NamedText<'_>, no
             None => 0,
         };
         let ((line, column), name) = (line_and_column(source.text, start), source.name);
-        let _ = eprintln!(rt; "{name}:{line}:{column}: {}", note.text);
+        if note.text.is_empty() {
+            note_on_origin(rt, source.text, line);
+        } else {
+            let _ = eprintln!(rt; "{name}:{line}:{column}: {}", note.text);
+        }
     }
 }
 

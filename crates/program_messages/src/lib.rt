@@ -8,6 +8,7 @@ mod ended;
 mod kinds;
 mod layouts;
 mod messages;
+mod origins;
 mod quoting;
 mod sizes;
 mod words;

@@ -1,6 +1,6 @@
 //! Which capability of a layout is derived from which.
 use crate::hardware::does_cover;
-use crate::layout::{Object, Slot};
+use crate::layout::{OTHER_BITS, Object, Row, Slot};
 use crate::objects::{Found, Objects};
 use crate::scanner::{Spot, Token};
 use crate::slots::{SlotText, Slots};
@@ -29,11 +29,20 @@ struct Pair {
     at: Spot,
 }
 
+/// A row of the `cdt` of which a slot is left out.
+#[derive(Clone, Copy)]
+struct LostRow {
+    above: Option<usize>,
+    below: Option<usize>,
+    at: Spot,
+}
+
 /// The derivations of a layout.
 #[derive(Drop)]
 pub struct Tree<'a> {
     nodes: Vec<Node<'a>>,
     pairs: Vec<Pair>,
+    lost: Vec<LostRow>,
     /// The slot right above each slot, where there is one.
     parents: Vec<Option<usize>>,
     /// The slots with the capability that the making of their object gives, by the place of the object: the first that has others
@@ -81,24 +90,30 @@ fn slot_of<'a>(
         }
         return found;
     };
-    let place = if slot.is("cspace") {
-        Some(0)
-    } else {
-        slot.number()
+    let key = match objects.find(node.name) {
+        Found::LeftOut(_) => return None,
+        Found::Kept(object) => (object, objects.slot_number(object, slot)),
+        Found::Unknown => (usize::MAX, None),
     };
-    let found = match (objects.find(node.name), place) {
-        (Found::Kept(object), Some(place)) => slots.places.get(&(object, place)).copied(),
-        (Found::LeftOut(_), _) => return None,
-        _ => None,
-    };
-    if found.is_none() {
+    let key = (key.0, key.1.unwrap_or(u64::MAX));
+    let found = slots.places.get(&key).copied();
+    if found.is_none() && !slots.emptied.contains_key(&key) {
         let slot = slot.text;
-        words.faults.say(
-            spot,
-            format_args!("slot {slot} of {text} is empty, or its capability is left out"),
-        );
+        words
+            .faults
+            .say(spot, format_args!("slot {slot} of {text} is empty"));
     }
     found
+}
+
+/// Whether an object has full slots.
+fn has_slots(slots: &[Slot], object: usize) -> bool {
+    for slot in slots {
+        if slot.holder == object {
+            return true;
+        }
+    }
+    false
 }
 
 /// Whether the object of one slot lies in the untyped region of another one: what is made of a region is derived from its capability
@@ -118,6 +133,7 @@ impl<'a> Tree<'a> {
         Tree {
             nodes: Vec::new(alloc),
             pairs: Vec::new(alloc),
+            lost: Vec::new(alloc),
             parents: Vec::new(alloc),
             originals: Vec::new(alloc),
         }
@@ -182,13 +198,15 @@ impl<'a> Tree<'a> {
                 None => None,
             };
             found.push(below)?;
+            let at = node.name.name.spot;
             if let (Some(above), Some(below)) = (above, below) {
                 let (all, filled) = (objects.objects.as_slice(), slots.slots.as_slice());
                 let is_new = known.insert((above, below), true)?.is_none();
                 if is_new && !is_in_region(all, filled, above, below) {
-                    let at = node.name.name.spot;
                     self.pairs.push(Pair { above, below, at })?;
                 }
+            } else if node.above.is_some() {
+                self.lost.push(LostRow { above, below, at })?;
             }
         }
         Ok(())
@@ -225,8 +243,8 @@ impl<'a> Tree<'a> {
     }
 
     /// Finds the slots that hold the originals: what the making of an object gives has all rights, no badge and no guard. A CNode whose
-    /// slots are filled by that capability is none of these.
-    fn find_originals(&mut self, slots: &[Slot], objects: &[Object]) {
+    /// slots are filled by that capability is none of these. With `--flows` all that has slots is a CNode, and nothing has a guard.
+    fn find_originals(&mut self, slots: &[Slot], objects: &[Object], flows: bool) {
         for pair in self.pairs.as_slice() {
             let (Some(slot), Some(None)) = (slots.get(pair.above), self.parents.get(pair.above))
             else {
@@ -239,14 +257,16 @@ impl<'a> Tree<'a> {
             ) else {
                 continue;
             };
-            let is_in_node = holder.kind == Kind::CNode;
+            let is_in_node = flows || holder.kind == Kind::CNode;
+            let is_node = object.kind == Kind::CNode
+                || object.bits == OTHER_BITS && has_slots(slots, slot.object);
             let can_be = match object.kind {
-                Kind::Endpoint => slot.rights == Rights::ALL,
-                Kind::CNode => is_in_node && slot.holder != slot.object,
+                _ if is_node => is_in_node && slot.holder != slot.object,
+                Kind::Endpoint => object.bits != OTHER_BITS && slot.rights == Rights::ALL,
                 _ => is_in_node,
             };
-            let is_plain = slot.badge == 0 && slot.guard.size == 0 && slot.guard.value == 0;
-            if is_plain && can_be && original.is_none() {
+            let is_plain = slot.guard.size == 0 && slot.guard.value == 0;
+            if slot.badge == 0 && (flows || is_plain) && can_be && original.is_none() {
                 *original = Some(pair.above);
             }
         }
@@ -265,40 +285,52 @@ impl<'a> Tree<'a> {
     }
 
     /// Whether a kernel can have one slot derived from the other: from the original, or from an endpoint's capability with a badge,
-    /// which it keeps.
-    fn is_kept(&self, pair: Pair, above: &Slot, below: &Slot) -> bool {
+    /// which it keeps. What only counts as an endpoint gets a badge where it has none.
+    fn is_kept(&self, pair: Pair, above: &Slot, below: &Slot, only_counts: bool) -> bool {
         let original = self.originals.get(above.object).copied().flatten();
         let parent = self.parents.get(pair.above).copied().flatten();
         let is_second = parent == original || parent.is_none();
-        let is_badge_kept = above.badge != 0 && above.badge == below.badge;
+        let is_badge_kept = above.badge == below.badge && (above.badge != 0 || only_counts);
         let are_rights_kept = above.rights.0 | below.rights.0 == above.rights.0;
         original == Some(pair.above) || is_second && is_badge_kept && are_rights_kept
     }
 
-    /// The pairs of a layout that a kernel can have, by the places of their slots. Another pair is a note, and no pair of the layout.
-    pub fn pairs(
-        &mut self,
+    /// Says what is not seen of a row: with `--flows` that one part takes from another.
+    fn say_lost(words: &mut Words<'_>, at: Spot, flows: bool, line: Option<usize>) {
+        match (flows, line) {
+            (true, Some(line)) => words.gaps.say(
+                at,
+                format_args!(
+                    "no take is seen by this row of the cdt: the set-up has it beside the slot of line {line}, and not below that"
+                ),
+            ),
+            (true, None) => words.gaps.say(
+                at,
+                "no take is seen by this row of the cdt: a capability of it is left out",
+            ),
+            (false, Some(line)) => words.gaps.say(
+                at,
+                format_args!(
+                    "no kernel has this below the slot of line {line}: it is derived from the loader's capability, beside that slot"
+                ),
+            ),
+            (false, None) => {}
+        }
+    }
+
+    /// The row of a pair, of which it is said if no kernel here can have it.
+    fn row_of(
+        &self,
         words: &mut Words<'a>,
         objects: &Objects<'a>,
-        slots: &Slots<'a>,
-    ) -> Result<Vec<(usize, usize)>, AllocError> {
-        let all = slots.slots.as_slice();
-        self.find_pairs(words, objects, slots)?;
-        let flows = objects.reading.flows;
-        if let (true, Some(pair)) = (flows, self.pairs.first()) {
-            let told = "--flows leaves out which slot is derived from which";
-            words.gaps.say(pair.at, told);
-        }
-        self.parents = vec![in words.alloc; None; all.len()]?;
-        self.originals = vec![in words.alloc; None; objects.objects.len()]?;
-        self.find_parents(words, all);
-        self.find_originals(all, objects.objects.as_slice());
-        let mut kept = Vec::new(words.alloc);
-        for pair in self.pairs.as_slice() {
-            let (Some(above), Some(below)) = (all.get(pair.above), all.get(pair.below)) else {
-                continue;
-            };
+        slots: &[Slot],
+        pair: Pair,
+    ) -> Row {
+        let (flows, mut is_possible) = (objects.reading.flows, false);
+        if let (Some(above), Some(below)) = (slots.get(pair.above), slots.get(pair.below)) {
             let (line, lower) = (above.line, below.line);
+            let only_counts = objects.only_counts(above.object) && !has_slots(slots, above.object);
+            is_possible = self.is_kept(pair, above, below, only_counts);
             if !self.ends(pair.below) {
                 words.faults.say(
                     pair.at,
@@ -306,17 +338,54 @@ impl<'a> Tree<'a> {
                         "the derivations go in a circle, or are more than {MOST_DEPTH} deep: slots of lines {line} and {lower}"
                     ),
                 );
-            } else if self.is_kept(*pair, above, below) {
-                kept.push((pair.above, pair.below))?;
-            } else if !flows {
-                words.gaps.say(
-                    pair.at,
-                    format_args!(
-                        "no kernel has this below the slot of line {line}: it is derived from the loader's capability, beside that slot"
-                    ),
-                );
+            } else if !is_possible {
+                Self::say_lost(words, pair.at, flows, Some(line));
             }
         }
-        Ok(kept)
+        Row {
+            above: Some(pair.above),
+            below: Some(pair.below),
+            is_possible,
+        }
     }
+
+    /// The rows of a layout. Of one that no kernel here can have it is said, and with `--flows` also of one of which a capability is left
+    /// out.
+    pub fn rows(
+        &mut self,
+        words: &mut Words<'a>,
+        objects: &Objects<'a>,
+        slots: &Slots<'a>,
+    ) -> Result<Vec<Row>, AllocError> {
+        let (all, flows) = (slots.slots.as_slice(), objects.reading.flows);
+        self.find_pairs(words, objects, slots)?;
+        self.parents = vec![in words.alloc; None; all.len()]?;
+        self.originals = vec![in words.alloc; None; objects.objects.len()]?;
+        self.find_parents(words, all);
+        self.find_originals(all, objects.objects.as_slice(), flows);
+        let mut rows = Vec::new(words.alloc);
+        for pair in self.pairs.as_slice() {
+            rows.push(self.row_of(words, objects, all, *pair))?;
+        }
+        for LostRow { above, below, at } in self.lost.as_slice() {
+            Self::say_lost(words, *at, flows, None);
+            rows.push(Row {
+                above: *above,
+                below: *below,
+                is_possible: false,
+            })?;
+        }
+        Ok(rows)
+    }
+}
+
+/// The pairs of slots of rows that a set-up has, in their order.
+pub fn kept_pairs(alloc: Global, rows: &[Row]) -> Result<Vec<(usize, usize)>, AllocError> {
+    let mut pairs = Vec::new(alloc);
+    for row in rows {
+        if let Some(pair) = row.pair() {
+            pairs.push(pair)?;
+        }
+    }
+    Ok(pairs)
 }

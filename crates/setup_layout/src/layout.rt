@@ -1,4 +1,7 @@
 //! A layout: the objects of a system, what their slots hold, and which capability is derived from which.
+ghost use Rattle.std.specs.Prelude.{◌≡◌};
+ghost use Rattle.setup_layout.specs.Rows.{row_pair};
+
 use crate::fault::Remarks;
 use crate::scanner::Spot;
 use cap_core::{Guard, Kind, ProfileName, Rights};
@@ -36,6 +39,28 @@ pub struct Slot {
     pub guard: Guard,
     /// The line at which it is said.
     pub line: usize,
+}
+
+/// A row of the `cdt`: of two slots the second is derived from the first.
+#[derive(Clone, Copy, Drop)]
+pub struct Row {
+    /// The slots, by their places among the slots; none of a slot whose capability is left out.
+    pub above: Option<usize>,
+    pub below: Option<usize>,
+    /// Whether a kernel here can have the second right below the first.
+    pub is_possible: bool,
+}
+
+impl Row {
+    /// The slots, if both are there and a kernel can have the second right below the first.
+    pub fn pair(self) -> Option<(usize, usize)>
+        ensures { result ≡ row_pair self }
+    {
+        match (self.is_possible, self.above, self.below) {
+            (true, Some(above), Some(below)) => Some((above, below)),
+            _ => None,
+        }
+    }
 }
 
 /// The bits that an object has while it is read which no kernel here has, and which counts as an endpoint or a CNode.
@@ -78,6 +103,8 @@ pub struct Layout {
     pub slots: Vec<Slot>,
     /// Of two slots the first one above the second, which is derived from it, by their places among the slots.
     pub derived: Vec<(usize, usize)>,
+    /// The rows of the `cdt`, but those of what an untyped region covers, which is derived from it without a word.
+    pub rows: Vec<Row>,
     pub assumed: AssumedRights,
     /// What is wrong with it.
     pub faults: Remarks,

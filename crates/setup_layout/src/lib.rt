@@ -1,4 +1,4 @@
-//! Layouts as capDL text. What is read of them is tested, and no clause says what it is.
+//! Layouts as capDL text. What is read of them is tested, and no clause says what it is. One says which rows of a `cdt` are kept.
 #![tactic(auto)]
 
 mod derived;
@@ -14,9 +14,10 @@ mod scanner;
 mod slots;
 mod words;
 
+pub use derived::kept_pairs;
 pub use fault::{Remark, Remarks};
 pub use kinds::{SLOT_WORDS, place_of};
-pub use layout::{AssumedRights, Layout, OTHER_BITS, Object, Reading, Slot};
+pub use layout::{AssumedRights, Layout, OTHER_BITS, Object, Reading, Row, Slot};
 pub use machine::Machine;
 pub use made::{Lines, MadeText, Said};
 pub use reading::read_text;

@@ -2,7 +2,8 @@
 use crate::fault::Topic;
 use crate::hardware::{Device, Hardware};
 use crate::kinds::{
-    HARDWARE_WORDS, INTERRUPT_WORDS, KIND_WORDS, KINDS, RIGHTS_WORDS, SAY_NO_PLACE, place_of,
+    HARDWARE_WORDS, INTERRUPT_WORDS, KIND_WORDS, KINDS, RIGHTS_WORDS, SAY_NO_PLACE, SLOT_WORDS,
+    place_of,
 };
 use crate::layout::{OTHER_BITS, Object, Reading};
 use crate::scanner::{Spot, Token};
@@ -314,6 +315,26 @@ impl<'a> Objects<'a> {
                 Found::Kept(self.hardware.one_of(number))
             }
             (None, kind) => Found::LeftOut(kind.unwrap_or(KIND_WORDS.len())),
+        }
+    }
+
+    /// The number of a slot of an object, by its place among the objects: those of a thread have names.
+    pub fn slot_number(&self, object: usize, slot: Token<'a>) -> Option<u64> {
+        let is_thread = match self.objects.get(object) {
+            Some(object) => object.kind == Kind::Tcb,
+            None => false,
+        };
+        match place_of(&SLOT_WORDS, slot.text) {
+            Some(place) if is_thread => Some(place as u64),
+            _ => slot.number(),
+        }
+    }
+
+    /// Whether an object, by its place among the objects, is of a kind that no kernel here has.
+    pub fn only_counts(&self, number: usize) -> bool {
+        match self.objects.get(number) {
+            Some(object) => object.bits == OTHER_BITS,
+            None => false,
         }
     }
 

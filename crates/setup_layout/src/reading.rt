@@ -1,8 +1,8 @@
 //! The reading of a layout.
-use crate::derived::Tree;
+use crate::derived::{Tree, kept_pairs};
 use crate::fault::Topic;
 use crate::kinds::{ARCHES, NARROW_ARCHES, place_of};
-use crate::layout::{AssumedRights, Layout, Reading};
+use crate::layout::{AssumedRights, Layout, Reading, Row};
 use crate::objects::Objects;
 use crate::scanner::{Scanner, Spot, Token, TokenKind};
 use crate::slots::Slots;
@@ -92,7 +92,7 @@ impl<'a> Reader<'a> {
     }
 
     /// Fills the slots of a text that was read to its end. Answers which are derived from which.
-    fn finish(&mut self) -> Result<Vec<(usize, usize)>, AllocError> {
+    fn finish(&mut self) -> Result<Vec<Row>, AllocError> {
         if self.words.has_failed {
             return Ok(Vec::new(self.words.alloc));
         }
@@ -101,12 +101,10 @@ impl<'a> Reader<'a> {
         for slot in self.slots.texts.as_slice() {
             self.tree.add_beside(*slot)?;
         }
-        let derived = self
-            .tree
-            .pairs(&mut self.words, &self.objects, &self.slots)?;
+        let rows = self.tree.rows(&mut self.words, &self.objects, &self.slots)?;
         self.objects.say_left_out(&mut self.words);
         self.say_spaceless();
-        Ok(derived)
+        Ok(rows)
     }
 }
 
@@ -126,7 +124,8 @@ fn layout_of(alloc: Global, text: &str, reading: Reading) -> Result<Layout, Allo
         }
         reader.read_section()?;
     }
-    let derived = reader.finish()?;
+    let rows = reader.finish()?;
+    let derived = kept_pairs(alloc, rows.as_slice())?;
     let Reader {
         words,
         objects,
@@ -142,6 +141,7 @@ fn layout_of(alloc: Global, text: &str, reading: Reading) -> Result<Layout, Allo
         objects: objects.objects,
         slots: slots.slots,
         derived,
+        rows,
         assumed: if slots.are_rights_assumed {
             AssumedRights::AllRights
         } else {

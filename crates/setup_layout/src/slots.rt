@@ -71,8 +71,9 @@ pub struct Slots<'a> {
     pub places: HashMap<(usize, u64), usize>,
     /// The same, by the name of its capability.
     pub named: HashMap<&'a str, usize>,
-    /// The names of capabilities that are left out.
+    /// The names of capabilities that are left out, and the slots of such, by their holders and numbers.
     pub left_out: HashMap<&'a str, bool>,
+    pub emptied: HashMap<(usize, u64), bool>,
     /// Whether there is a capability that has all rights, since the text says none.
     pub are_rights_assumed: bool,
 }
@@ -298,6 +299,7 @@ impl<'a> Slots<'a> {
             places: HashMap::new(alloc),
             named: HashMap::new(alloc),
             left_out: HashMap::new(alloc),
+            emptied: HashMap::new(alloc),
             are_rights_assumed: false,
         }
     }
@@ -390,7 +392,7 @@ impl<'a> Slots<'a> {
             }
             Found::LeftOut(_) => {
                 leave_out(words, objects, slot, None);
-                return self.note_left_out(slot);
+                return self.note_left_out(slot, None);
             }
             Found::Kept(number) => (number, objects.objects.get(number)),
         };
@@ -432,9 +434,9 @@ impl<'a> Slots<'a> {
             Some(place) if place == 0 || objects.reading.flows => {
                 self.add(words, objects, slot, holder, place as u64, slot.object)
             }
-            Some(_) => {
+            Some(place) => {
                 leave_out(words, objects, slot, Some(word));
-                self.note_left_out(slot)
+                self.note_left_out(slot, Some((holder.number, place as u64)))
             }
             None => {
                 let hint = words.faults.hint(word, &SLOT_WORDS);
@@ -493,10 +495,17 @@ impl<'a> Slots<'a> {
         Ok(())
     }
 
-    /// Notes that the capability of a name is left out, where it has one.
-    fn note_left_out(&mut self, slot: SlotText<'a>) -> Result<(), AllocError> {
+    /// Notes that the capability of a slot is left out, also by its name, if it has one.
+    fn note_left_out(
+        &mut self,
+        slot: SlotText<'a>,
+        key: Option<(usize, u64)>,
+    ) -> Result<(), AllocError> {
         if let Some(name) = slot.own_name {
             self.left_out.insert(name.text, true)?;
+        }
+        if let Some(key) = key {
+            self.emptied.insert(key, true)?;
         }
         Ok(())
     }
@@ -514,7 +523,7 @@ impl<'a> Slots<'a> {
         let named = self.named.get(text).copied().unwrap_or(usize::MAX);
         let Some(original) = self.slots.get(named).copied() else {
             if self.left_out.contains_key(text) {
-                return self.note_left_out(slot);
+                return self.note_left_out(slot, Some((holder.number, place)));
             }
             let told = format_args!("there is no capability {text}");
             words.faults.say(spot, told);
@@ -546,18 +555,19 @@ impl<'a> Slots<'a> {
         if slot.is_copy {
             return self.add_copy(words, objects, slot, holder, place);
         }
+        let key = Some((holder.number, place));
         match objects.find(object) {
             Found::Kept(object) => self.put(words, objects, slot, holder, place, object),
             Found::LeftOut(kind) => {
                 note_unknown_parameter(words, slot);
                 objects.leave_out(kind, slot.at.spot, 0, 1);
-                self.note_left_out(slot)
+                self.note_left_out(slot, key)
             }
             Found::Unknown if BUILT_IN.contains(&object.name.text) => {
                 let (holder, Token { text, spot, .. }) = (slot.holder.name.text, slot.object.name);
                 let told = format_args!("slot {place} of {holder}: {text} is left out");
                 words.gaps.say(spot, told);
-                self.note_left_out(slot)
+                self.note_left_out(slot, key)
             }
             Found::Unknown => {
                 objects.say_unknown(words, object);

@@ -1,6 +1,6 @@
 //! A layout in which each object counts, also one that a kernel here lacks: for what threads can ever get from each other.
 use cap_core::{Guard, Kind, ProfileName, Rights};
-use setup_layout::{Layout, OTHER_BITS, Object, Slot};
+use setup_layout::{Layout, OTHER_BITS, Object, Slot, kept_pairs};
 use std::alloc::{AllocError, Global};
 
 /// The rights to write and to read, those by which capabilities are handed over, and by which a call can be answered.
@@ -14,11 +14,16 @@ const GRANT_REPLY: u8 = 8;
 
 const ALL_RIGHTS: u8 = 15;
 
+/// The badge of capabilities that have none and stand in rows of the `cdt` that are kept, if no kernel here has their object: from a
+/// capability with a badge others are derived that keep it.
+const ROW_BADGE: u64 = 1;
+
 /// The bits of an address that a CNode of one level takes.
 const WORD_BITS: u32 = 64;
 
-/// A capability that is held: by which object, and of which, with its rights and its badge; and the line that says so.
-type Held = (usize, usize, u8, u64, usize);
+/// A capability that is held: by which object, and of which, with its rights and its badge; the line that says so; and the slot of the
+/// layout, by its place among the slots, if a row of the `cdt` has it.
+type Held = (usize, usize, u8, u64, usize, Option<usize>);
 
 /// A layout, and the capabilities that are held with what messages can hand over.
 #[derive(Drop)]
@@ -31,6 +36,9 @@ struct Flows<'a> {
     beside: Vec<Option<usize>>,
     /// The capabilities that lead to each object, by their places among those that are held.
     leads: Vec<Vec<usize>>,
+    /// Which slots of the layout a row of the `cdt` has, and where each of these stands among the slots that are made.
+    in_rows: Vec<bool>,
+    made: Vec<Option<usize>>,
 }
 
 /// Marks an object that is reached, from which more is to be looked for where it was not reached yet.
@@ -42,6 +50,11 @@ fn reach(reached: &mut [bool], next: &mut Vec<usize>, object: usize) -> Result<(
         }
     }
     Ok(())
+}
+
+/// The slot that is made of one of the layout, if there is one.
+fn made_of(made: &[Option<usize>], slot: Option<usize>) -> Option<usize> {
+    made.get(slot?).copied().flatten()
 }
 
 /// Says that capabilities can be handed over by an endpoint.
@@ -110,8 +123,12 @@ impl<'a> Flows<'a> {
                 other.kind = Kind::CNode;
             }
             let (rights, badge) = (slot.rights.0, slot.badge);
+            let row = match self.in_rows.get(number) {
+                Some(true) => Some(number),
+                _ => None,
+            };
             self.held
-                .push((node, slot.object, rights, badge, slot.line))?;
+                .push((node, slot.object, rights, badge, slot.line, row))?;
         }
         Ok(())
     }
@@ -133,7 +150,7 @@ impl<'a> Flows<'a> {
             self.leads.push(Vec::new(self.alloc))?;
         }
         for number in 0..self.held.len() {
-            let Some((_, object, _, _, _)) = self.held.get(number).copied() else {
+            let Some((_, object, ..)) = self.held.get(number).copied() else {
                 continue;
             };
             let target = self.target(object);
@@ -214,7 +231,7 @@ impl<'a> Flows<'a> {
     fn count_receivers(&self, endpoint: usize) -> (usize, usize) {
         let (mut all, mut granting) = (0usize, 0usize);
         for number in self.leads_to(endpoint) {
-            let Some((_, _, rights, _, _)) = self.held.get(*number).copied() else {
+            let Some((_, _, rights, ..)) = self.held.get(*number).copied() else {
                 continue;
             };
             if rights & READ > 0 {
@@ -229,7 +246,7 @@ impl<'a> Flows<'a> {
 
     /// Says to whom capabilities can be handed over by a call: to so many that receive.
     fn say_joined(&mut self, call: Held, count: usize) {
-        let (caller, endpoint, rights, _, _) = call;
+        let (caller, endpoint, rights, ..) = call;
         let mut left = count;
         for place in 0..self.leads_to(endpoint).len() {
             if left == 0 || self.layout.notes.is_full() {
@@ -249,10 +266,10 @@ impl<'a> Flows<'a> {
 
     /// Gives who receives by an endpoint what an answer needs, and capabilities of these CNodes.
     fn give(&mut self, receiver: Held, answers: usize, nodes: &[usize]) -> Result<(), AllocError> {
-        let (holder, _, _, _, line) = receiver;
-        self.held.push((holder, answers, WRITE, 0, line))?;
+        let (holder, _, _, _, line, _) = receiver;
+        self.held.push((holder, answers, WRITE, 0, line, None))?;
         for node in nodes {
-            self.held.push((holder, *node, ALL_RIGHTS, 0, line))?;
+            self.held.push((holder, *node, ALL_RIGHTS, 0, line, None))?;
         }
         Ok(())
     }
@@ -265,8 +282,8 @@ impl<'a> Flows<'a> {
         let by_all = self.threads_above(calls.as_slice())?;
         let by_granting = self.threads_above(granting.as_slice())?;
         let receivers = self.with_rights(endpoint, READ, 0)?;
-        for (caller, _, _, _, line) in calls.as_slice() {
-            self.held.push((*caller, answers, READ, 0, *line))?;
+        for (caller, _, _, _, line, _) in calls.as_slice() {
+            self.held.push((*caller, answers, READ, 0, *line, None))?;
         }
         for receiver in receivers.as_slice() {
             let nodes = if receiver.2 & GRANT > 0 {
@@ -287,7 +304,7 @@ impl<'a> Flows<'a> {
             let Some(call) = self.held.get(number).copied() else {
                 continue;
             };
-            let (_, endpoint, rights, _, _) = call;
+            let (_, endpoint, rights, ..) = call;
             let is_call = rights & WRITE > 0 && rights & (GRANT | GRANT_REPLY) > 0;
             if is_call && self.kind_of(endpoint) == Some(Kind::Endpoint) {
                 self.beside(endpoint, Kind::Endpoint, "reply")?;
@@ -313,10 +330,14 @@ impl<'a> Flows<'a> {
 
     /// Puts a capability into a slot of a CNode, which is made as large as it has to be.
     fn put(&mut self, held: Held, index: u32) -> Result<(), AllocError> {
-        let (holder, object, rights, badge, line) = held;
+        let (holder, object, rights, badge, line, row) = held;
         let is_endpoint = self.kind_of(object) == Some(Kind::Endpoint);
         if let Some(node) = self.layout.objects.get_mut(holder) {
             node.bits = node.bits.max(index.checked_ilog2().unwrap_or(0) + 1);
+        }
+        let place = self.layout.slots.len();
+        if let Some(entry) = self.made.get_mut(row.unwrap_or(usize::MAX)) {
+            *entry = Some(place);
         }
         self.layout.slots.push(Slot {
             holder,
@@ -334,7 +355,8 @@ impl<'a> Flows<'a> {
         Ok(())
     }
 
-    /// Puts each capability into a slot, from the first one on: one of several that are alike, and of an untyped region one.
+    /// Puts each capability into a slot, from the first one on: one of several that are alike, but for those that a row of the `cdt` has;
+    /// and of an untyped region one.
     fn put_all(&mut self) -> Result<(), AllocError> {
         self.held.sort_unstable();
         let (mut before, mut index) = (None, 0u32);
@@ -344,9 +366,11 @@ impl<'a> Flows<'a> {
             };
             let is_untyped = self.kind_of(held.1) == Some(Kind::Untyped);
             match before {
-                Some((holder, _, _, _, _)) if holder != held.0 => index = 0,
-                Some((_, object, rights, badge, _))
-                    if object == held.1 && (is_untyped || (rights, badge) == (held.2, held.3)) => {
+                Some((holder, _, _, _, _, _)) if holder != held.0 => index = 0,
+                Some((_, object, rights, badge, _, _))
+                    if object == held.1
+                        && (is_untyped
+                            || held.5.is_none() && (rights, badge) == (held.2, held.3)) => {
                     continue;
                 }
                 Some(_) => index = index.saturating_add(1),
@@ -355,6 +379,17 @@ impl<'a> Flows<'a> {
             self.put(held, index)?;
             before = Some(held);
         }
+        Ok(())
+    }
+
+    /// Has each row of the `cdt` name the slots that are made of its own, if the set-up has both.
+    fn move_rows(&mut self) -> Result<(), AllocError> {
+        let made = self.made.as_slice();
+        for row in self.layout.rows.iter_mut() {
+            row.above = made_of(made, row.above);
+            row.below = made_of(made, row.below);
+        }
+        self.layout.derived = kept_pairs(self.alloc, self.layout.rows.as_slice())?;
         Ok(())
     }
 
@@ -385,20 +420,54 @@ impl<'a> Flows<'a> {
     }
 }
 
-/// Makes the layout one in which each object counts. Its machine has words of 64 bits, and nothing is said of derivation.
+/// Marks the slots that rows of the `cdt` have.
+fn slots_in_rows(alloc: Global, layout: &Layout) -> Result<Vec<bool>, AllocError> {
+    let mut marks = vec![in alloc; false; layout.slots.len()]?;
+    for row in layout.rows.as_slice() {
+        for slot in [row.above, row.below] {
+            if let Some(mark) = marks.get_mut(slot.unwrap_or(usize::MAX)) {
+                *mark = true;
+            }
+        }
+    }
+    Ok(marks)
+}
+
+/// Gives capabilities of rows that are kept a badge, if they have none and no kernel here has their object.
+fn give_badges(layout: &mut Layout) {
+    for (above, below) in layout.derived.as_slice() {
+        for number in [*above, *below] {
+            if let Some(slot) = layout.slots.get_mut(number) {
+                let only_counts = match layout.objects.get(slot.object) {
+                    Some(object) => object.bits == OTHER_BITS,
+                    None => false,
+                };
+                if only_counts && slot.badge == 0 {
+                    slot.badge = ROW_BADGE;
+                }
+            }
+        }
+    }
+}
+
+/// Makes the layout one in which each object counts. Its machine has words of 64 bits.
 pub fn add_flows(alloc: Global, layout: &mut Layout) -> Result<(), AllocError> {
+    give_badges(layout);
     let beside = vec![in alloc; None; layout.objects.len()]?;
+    let in_rows = slots_in_rows(alloc, layout)?;
+    let made = vec![in alloc; None; layout.slots.len()]?;
     let mut flows = Flows {
         alloc,
         layout,
         held: Vec::new(alloc),
         beside,
         leads: Vec::new(alloc),
+        in_rows,
+        made,
     };
     flows.make_nodes()?;
     flows.add_messages()?;
     flows.layout.profile = ProfileName::Wide;
-    flows.layout.derived.clear();
     flows.layout.slots.clear();
     for object in flows.layout.objects.as_mut_slice() {
         // Each CNode is as small as it can be, and what only counts as an endpoint is one.
@@ -409,5 +478,6 @@ pub fn add_flows(alloc: Global, layout: &mut Layout) -> Result<(), AllocError> {
         }
     }
     flows.put_all()?;
+    flows.move_rows()?;
     flows.put_spaces()
 }
