@@ -12,6 +12,10 @@ given = crates/sel4sim/stdin
 stored = $(setups)/examples/send_then_receive.toml
 # So many set-ups have all their orders made one by one.
 orders = 100
+# So many set-ups and policies are drawn at random by each row that is of policies.
+drawn = 500
+# Of so many set-ups drawn at random a draft is asked for, and cut.
+drafted = 60
 # The crates whose named wrong bodies CI tries: those that are proved soonest.
 named = cap_core mem_core cspace_core kernel_delete
 
@@ -86,9 +90,11 @@ rows-python:
 	python3 tests/names.py audits $(program) $(answers)/audits $(answers)/parts $(answers)/trees
 	python3 tests/names.py reports $(program) $(setups)/examples $(setups)/capabilities $(setups)/why_lookups $(answers)/explorations $(answers)/trees
 	python3 tests/parts.py $(program) $(answers)/parts 5
-	python3 tests/random_policies.py $(program) 1 60 $(answers)/parts
-	python3 tests/random_takes.py $(program) 1 500
-	python3 tests/drafts.py $(program) 1 60 $(answers)/policies $(answers)/parts
+	python3 tests/random_policies.py $(program) 1 $(drawn) $(answers)/parts
+	python3 tests/random_takes.py $(program) 1 $(drawn)
+	python3 tests/random_places.py $(program) 1 $(drawn)
+	python3 tests/random_lists.py $(program) 1 $(drawn)
+	python3 tests/drafts.py $(program) 1 $(drafted) $(answers)/policies $(answers)/parts
 	python3 tests/hows.py $(program) $(answers)/hows $(answers)/parts $(answers)/policies
 	python3 tests/revokes.py $(program) $(answers)/audits $(setups)
 	python3 tests/explore.py $(program) $(answers)/explorations

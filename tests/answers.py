@@ -47,6 +47,7 @@ FORMS = {
     ".never": ("never", told),
     ".out": ("policy {name}.policy.toml", noted),
     ".listing": ("policy {name}.policy.toml --listing", told),
+    ".draft": ("draft", told),
     ".explore": ("explore", told),
 }
 # What stands beside these texts; the answers of `how` are for hows.py.

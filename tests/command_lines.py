@@ -134,10 +134,10 @@ LINES = [
     ("audit --without 2048", 0, "audit 2 wide memory_bits 16 calls 2 after 2\nwithout 2048\n"),
     ("audit --without ''", 4, REFUSED),
     # drafts of policies, policies, and calls
-    ("draft", 0, "policy = 1\ngroup = [\n"),
+    ("draft", 0, "policy = 2\ngroup = [\n"),
     ("draft --after 1 --without 2048", 0, "silent = [\"2048\"]\n"),
     ("draft --messages 2048", 0, "messages = [\"2048\"]\n"),
-    ("draft --without 2049", 0, "policy = 1\ngroup = [\n"),
+    ("draft --without 2049", 0, "policy = 2\ngroup = [\n"),
     ("draft --without nobody", 4, REFUSED),
     ("draft --after 3", 4, REFUSED),
     ("draft text.toml", 2, "set-up refused 200 at text\n"),

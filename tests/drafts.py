@@ -4,8 +4,10 @@
 The layouts are those of the FOLDERs, as random_policies.py has them or with the trust of NAME.policy.toml, and COUNT random ones,
 drawn from SEED. Of each `draft` is asked for behind all calls and behind half of them. The layout has to keep the
 draft, and nothing of it may be unused; of a trusted thread whose control block a part has, the draft has a comment, and the line
-`breach thread` is the only one. The draft has the parts that `ever` tells, or joins some of them. Then each way, each use
-and each region in turn is taken out, MOST of them at the most: a line of a breach has to be told."""
+`breach thread` is the only one. The draft has the parts that `ever` tells, or joins some of them. The
+comments above a group join its threads, by one thread less than it has. Then each table of a way, a use or a
+take and each region in turn is taken out, MOST of them at the most, and so is each of the entries that tables with lists stand for: a line
+of a breach has to be told."""
 import pathlib
 import random
 import re
@@ -13,13 +15,15 @@ import sys
 import tempfile
 import tomllib
 
+import random_lists
 import random_policies
-from program import answer
+from program import answer, document
 
 MOST = 12
 ENTRY = re.compile(r"  \{ (?:from|group) = .*\},\n")
 REGION = re.compile(r', regions = \["[^"]*"\]|"[^"]*/\d+", |, "[^"]*/\d+"')
 NOTE = "# No policy allows "
+COMMENT = re.compile(r"  # @?\w+ (?:has hold of|and|can hand|can answer) .*?(?:, and of (\d+) more)?(?:; trust it with --without\?)?")
 
 
 def trust_of(policy):
@@ -45,10 +49,29 @@ def layouts(program, seed, count, folders):
 
 
 def cuts(draft):
-    """The draft with one entry less, for each way, use and region."""
+    """The draft with one table less, for each way, use and take, and with one region less."""
     for form in (ENTRY, REGION):
         for found in form.finditer(draft):
             yield found[0], draft[:found.start()] + draft[found.end():]
+
+
+def single_cuts(policy):
+    """A policy without lists, with one entry less than it stands for."""
+    entries = random_lists.entries_of(policy)
+    for key in random_lists.EXPANDED:
+        for place, entry in enumerate(entries[key]):
+            yield str(entry), document({**entries, key: entries[key][:place] + entries[key][place + 1:]})
+
+
+def joined(draft):
+    """Of each table of a group, how many threads the comments above it join to the first: each one, or those of which one has hold."""
+    count = 0
+    for line in draft.splitlines():
+        if found := COMMENT.fullmatch(line):
+            count += 1 + int(found[1] or 0)
+        elif line.startswith("  { name = "):
+            yield count
+            count = 0
 
 
 class Drafts:
@@ -56,7 +79,7 @@ class Drafts:
 
     def __init__(self, program, folder):
         self.program, self.file = program, pathlib.Path(folder) / "policy.toml"
-        self.tally = {"drafts": 0, "groups": 0, "ways": 0, "uses": 0, "notes": 0, "cut": 0, "told": 0}
+        self.tally = {"drafts": 0, "groups": 0, "ways": 0, "uses": 0, "takes": 0, "notes": 0, "cut": 0, "told": 0}
 
     def held(self, policy, text):
         self.file.write_text(policy)
@@ -72,19 +95,23 @@ class Drafts:
             return
         policy = tomllib.loads(draft)
         self.tally["drafts"] += 1
-        for key in ("group", "way", "use"):
+        groups = len(policy["group"]) + len(policy.get("alone", []))
+        self.tally["groups"] += groups
+        for key in ("way", "use", "take"):
             self.tally[f"{key}s"] += len(policy[key])
         self.tally["notes"] += draft.count(NOTE)
         parts = int(re.search(r"^parts (\d+) ", ever, re.M)[1])
-        if not len(policy["group"]) <= parts:
+        if not groups <= parts:
             yield f"{name}: {parts} parts, and in the draft\n{draft}"
+        if [*joined(draft)] != [len(group["threads"]) - 1 for group in policy["group"]]:
+            yield f"{name}: the comments do not join the threads of each group\n{draft}"
         held, kept, err = self.held(draft, text)
         breaches = [line for line in kept.splitlines() if line.startswith("breach ") and not line.startswith("breach thread ")]
         if breaches or held != (1 if NOTE in draft else 0) or not kept.endswith(" unused 0\n"):
             yield f"{name} {trust}: its own draft is not kept, status {held}\n{draft}{kept}{err}"
         chance = random.Random(name)
-        found = list(cuts(draft))
-        for entry, less in chance.sample(found, min(MOST, len(found))):
+        found, single = list(cuts(draft)), list(single_cuts(policy))
+        for entry, less in [*chance.sample(found, min(MOST, len(found))), *chance.sample(single, min(MOST, len(single)))]:
             self.tally["cut"] += 1
             held, kept, err = self.held(less, text)
             breaches = [line for line in kept.splitlines() if line.startswith("breach ") and not line.startswith("breach thread ")]

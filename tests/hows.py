@@ -11,18 +11,20 @@ In PARTS each NAME.PAIR.never is asked with `how` in place of `never`: where tha
 
 In POLICIES each breach of each policy is asked with `--how N`. Of what is held nothing is written, and standard error has its line.
 Of the others `check` meets each witness, and the last call is the delivery that the breach names, by its endpoint and with its badge;
-or the line says that it is excluded, by parts or by flow, or that nothing is found. That is never said of a way between two parts that
-only pass messages.
+of a take the last calls are one of a thread of the part that takes, between two equal ones of a thread of the other, which are answered
+otherwise; or the line says that it is excluded, by parts or by flow, or that nothing is found. That is never said of a way between two
+parts that only pass messages. That it is asked of no two threads is said only where it is wanted: where NAME.N.how is
+there, the answer is as wanted, as above, and NAME.N.status and NAME.N.err have the wanted status and standard error. NAME.N.flows.how
+is of the set-up with the mark of `import --flows`.
 
-Of a set-up that says that `import --flows` made it nothing is written, and the status is 4; so of a breach of its policy. A breach of
-which it is asked of no two threads is told by a line of its own.
+Of a set-up that says that `import --flows` made it nothing is written, and the status is 4; so of each breach of a policy of it, with
+the breach on standard error.
 
 In the end the first witness is compared with the second, and has to differ.
 """
 import pathlib
 import re
 import sys
-import tempfile
 import tomllib
 
 from program import answer, run
@@ -37,15 +39,14 @@ def found(text):
     return [call["expect"] for call in tomllib.loads(text).get("call", []) if "expect" in call]
 
 
-def faults(program, setup, wanted):
-    """What is wrong with the answer for a set-up, where that of `wanted` is the wanted one."""
-    words = setup.with_suffix(".args").read_text().split()
-    status, text = run(program, "how", *words, setup)
+def faults(program, words, wanted, given=""):
+    """What is wrong with the answer to these words, with a text on standard input, where that of `wanted` is the wanted one."""
+    status, text, error = answer(program, *words, text=given)
     want_status = int(wanted.with_suffix(".status").read_text())
-    want = wanted.with_suffix(".how").read_text()
+    want, errors = wanted.with_suffix(".how").read_text(), wanted.with_suffix(".err")
     if status != want_status:
         yield f"status {status}, wanted {want_status}"
-    elif status == 1 and text != want:
+    elif status != 0 and text != want:
         yield f"wanted {want}got {text}"
     elif status == 0:
         met, report = run(program, "check", "-", text=text)
@@ -55,6 +56,13 @@ def faults(program, setup, wanted):
             yield f"the witness expects {found(text)}, and the answers are {MET.findall(report)}"
         if len(found(text)) != len(found(want)) or found(text)[-1] != found(want)[-1]:
             yield f"wanted {found(want)}, got {found(text)}"
+    if errors.exists() and error != errors.read_text():
+        yield f"standard error: wanted {errors.read_text()}got {error}"
+
+
+def asked(setup):
+    """The words that ask of a set-up."""
+    return ["how", *setup.with_suffix(".args").read_text().split(), str(setup)]
 
 
 def answer_of(never):
@@ -96,9 +104,10 @@ def asked_faults(program, never):
         yield f"status {status}"
 
 
-# breaches of what passes and of parts; the others are of what is held
+# breaches of what passes, of parts and of what is taken; the others are of what is held
 PASSING = re.compile(r"breach (?:way (?P<g>\S+) -> (?P<e>\S+) badge (?P<b>\S+) -> (?P<h>\S+)|badge \S+ (?P<e2>\S+) badge (?P<b2>\S+) .*"
-                     r"|waiting (?P<t>\S+) -> (?P<e3>\S+) badge (?P<b3>\d+)|waiting (?P<e4>\S+) -> (?P<u>\S+)|joined .*)")
+                     r"|waiting (?P<t>\S+) -> (?P<e3>\S+) badge (?P<b3>\d+)|waiting (?P<e4>\S+) -> (?P<u>\S+)|joined .*"
+                     r"|take (?P<by>\S+) -> (?P<of>\S+))")
 DELIVERED = re.compile(r"delivered (\d+) from \d+ to \d+ badge (\d+) ")
 
 
@@ -151,21 +160,63 @@ def delivery_faults(program, setup, line, text):
         yield f"{line}: the last call is answered {found(text)[-1]}"
 
 
+def members(policy, label):
+    """The threads of the groups that a line names by a label, as a policy writes them behind a `@`."""
+    words = tomllib.loads(policy.read_text())
+    groups = {name: [name] for name in words.get("alone", [])} | {it["name"]: it["threads"] for it in words.get("group", [])}
+    return {"@" + thread.removeprefix("@") for name in label.split("+") for thread in groups[name]}
+
+
+def loss_faults(policy, line, text):
+    """What is wrong with the last calls of a witness of a take."""
+    take, calls = PASSING.fullmatch(line).groupdict(), tomllib.loads(text)["call"][-3:]
+    (first, answered), (taking, _), (last, again) = ((call, call.pop("expect")) for call in calls)
+    is_taken = taking["thread"] in members(policy, take["by"]) and last["thread"] in members(policy, take["of"])
+    if not is_taken or first != last or answered == again:
+        yield f"{line}: the last calls are {calls}, answered {answered} and {again}"
+
+
+WITHOUT = re.compile(r"how \d+ (excluded|excluded by flow|not found|not found of \d+)\n")
+HELD = "this is there already, and no calls to come are asked for"
+OF_FLOWS = "the set-up is one of import --flows, where no calls are looked for"
+
+
+def absent(policy, number, line, why):
+    """What standard error says if no calls are looked for."""
+    has_line = tomllib.loads(policy.read_text())["policy"] == 2 and line.split()[1] not in ("call", "joined")
+    place = "the line below it has its slot" if has_line else "sel4sim never has the chain of slots"
+    return f"sel4sim: command line refused\nsel4sim: --how {number}: {line}: {why}; {place}\n"
+
+
+def is_wanted(setup, number, text):
+    """Whether a text stands beside a set-up as the answer for the breach with a number."""
+    wanted = setup.with_suffix(f".{number}.how")
+    return wanted.exists() and wanted.read_text() == text
+
+
 def breach_faults(program, policy, setup, number, line, still):
     """What is wrong with the answer for the breach with a number."""
     status, text, error = answer(program, "policy", policy, "--how", str(number), setup)
     passing = PASSING.fullmatch(line)
     if not passing:
-        if status != 4 or text or line not in error or "sel4sim never" not in error:
-            yield f"{line}: status {status}, {error}"
+        if (status, text, error) != (4, "", absent(policy, number, line, HELD)):
+            yield f"{line}: status {status}, {text}{error}"
         return
+    if status == 0 and passing["by"]:
+        yield from loss_faults(policy, line, text)
     if status == 0:
         yield from delivery_faults(program, setup, line, text)
-    elif status != 1 or not re.fullmatch(rf"how {number} (excluded|excluded by flow|not found|not found of \d+)\n", text):
+    elif status != 1 or not (WITHOUT.fullmatch(text) or is_wanted(setup, number, text)):
         yield f"{line}: status {status}, {text[:200]}"
     is_still = passing["g"] in still and passing["h"] in still
     if status != 0 and is_still:
         yield f"{line}: {text}"
+
+
+def marked(setup):
+    """The text of a set-up with the mark of `import --flows`."""
+    with_mark = re.sub(r"^names = \{", "names = { import_flows = 1048576,", setup.read_text(), count=1, flags=re.M)
+    return re.sub(r"^\[names\]\n", "[names]\nimport_flows = 1048576\n", with_mark, count=1, flags=re.M)
 
 
 def policy_faults(program, policy, counted):
@@ -177,72 +228,49 @@ def policy_faults(program, policy, counted):
     for number, line in enumerate(lines, 1):
         counted.append(line)
         yield from breach_faults(program, policy, setup, number, line, still)
+        of_flows = answer(program, "policy", policy, "--how", str(number), "-", text=marked(setup))
+        if of_flows != (4, "", absent(policy, number, line, OF_FLOWS if PASSING.fullmatch(line) else HELD)):
+            yield f"{line}, with the mark of import --flows: {of_flows}"
     status, text, error = answer(program, "policy", policy, "--how", str(len(lines) + 1), setup)
     if status != 4 or text or f"count of breaches: {len(lines)}\n" not in error:
         yield f"behind the last breach: status {status}, {error}"
 
 
-ONE_THREAD = """format = 2
-memory_bits = 16
-root_radix = 4
-threads = 1
-endpoints = 1
-names = { thread_0 = 2048, ep_0 = 3 }
-call = [{ thread = "@thread_0", op = "send", cap = "@ep_0", label = 7, words = [1] }]
-"""
-ONE_POLICY = """policy = 1
-group = [{ name = "g", threads = ["thread_0"], regions = [] }]
-use = [{ group = "g", of = "ep_0", badge = 5, rights = "wrgp" }]
-"""
-FLOWS = "sel4sim: made by import --flows: no calls are looked for; sel4sim never has the chain\n"
+def wanted_faults(program, wanted):
+    """What is wrong with the answer for a breach whose answer is there; NAME.N.flows.how is of a set-up with the mark of `import --flows`."""
+    name, number, *flows = wanted.stem.split(".")
+    setup, words = wanted.with_name(f"{name}.toml"), ["policy", str(wanted.with_name(f"{name}.policy.toml")), "--how", number]
+    yield from faults(program, [*words, "-"], wanted, marked(setup)) if flows else faults(program, [*words, str(setup)], wanted)
 
 
-def one_thread_faults(program, folder):
-    """What is wrong with the answers for the breaches of a set-up with one thread: no message of it can reach another part."""
-    setup, policy = folder / "one.toml", folder / "one.policy.toml"
-    setup.write_text(ONE_THREAD)
-    policy.write_text(ONE_POLICY)
-    words = ["policy", str(policy)]
-    breaches = [line for line in run(program, *words, setup)[1].splitlines() if line.startswith("breach ")]
-    if len(breaches) != 2 or not breaches[0].startswith("breach badge ") or not breaches[1].startswith("breach waiting "):
-        yield f"the breaches are {breaches}"
-    for number in 1, 2:
-        if run(program, *words, "--how", str(number), setup) != (1, f"how {number} not asked\n"):
-            yield f"--how {number} of one thread"
+FLOWS = "sel4sim: command line refused\nsel4sim: made by import --flows: no calls are looked for; sel4sim never has the chain\n"
 
 
-def flows_faults(program, folder, setup, policy):
-    """What is wrong with the answers for set-ups that say that `import --flows` made them."""
-    marked = folder / "marked.toml"
-    asked = [(setup, ["how", *setup.with_suffix(".args").read_text().split()]),
-             (policy.with_name(policy.name.replace(".policy.toml", ".toml")), ["policy", str(policy), "--how", "1"])]
-    for unmarked, words in asked:
-        text = unmarked.read_text()
-        with_mark = re.sub(r"^names = \{", "names = { import_flows = 1048576,", text, count=1, flags=re.M)
-        marked.write_text(re.sub(r"^\[names\]\n", "[names]\nimport_flows = 1048576\n", with_mark, count=1, flags=re.M))
-        status, text, error = answer(program, *words, marked)
-        if status != 4 or text or FLOWS not in error:
-            yield f"{unmarked} with the mark of import --flows: status {status}, {error}"
+def flows_faults(program, setup):
+    """What is wrong with the answer for a set-up that says that `import --flows` made it."""
+    of_flows = answer(program, *asked(setup)[:-1], "-", text=marked(setup))
+    if of_flows != (4, "", FLOWS):
+        yield f"with the mark of import --flows: {of_flows}"
 
 
 def main():
-    program, folder, parts = sys.argv[1], pathlib.Path(sys.argv[2]), pathlib.Path(sys.argv[3])
-    policies, breaches = sorted(pathlib.Path(sys.argv[4]).glob("*.policy.toml")), []
-    setups = sorted(folder.glob("*.toml"))
+    program, folder, parts, policies_folder = sys.argv[1], *(pathlib.Path(word) for word in sys.argv[2:5])
+    policies, breaches = sorted(policies_folder.glob("*.policy.toml")), []
+    setups, wanted = sorted(folder.glob("*.toml")), sorted(policies_folder.glob("*.how"))
     nevers = [never for never in sorted(parts.glob("*.never")) if answer_of(never)]
-    wrong = [(it, fault) for it in setups for fault in faults(program, it, it)]
+    wrong = [(it, fault) for it in setups for fault in faults(program, asked(it), it)]
     wrong += [(it, fault) for it in nevers for fault in asked_faults(program, it)]
     wrong += [(it, fault) for it in policies for fault in policy_faults(program, it, breaches)]
-    with tempfile.TemporaryDirectory() as place:
-        wrong += [("one thread", fault) for fault in one_thread_faults(program, pathlib.Path(place))]
-        wrong += [("flows", fault) for fault in flows_faults(program, pathlib.Path(place), setups[0], policies[0])]
+    wrong += [(it, fault) for it in wanted for fault in wanted_faults(program, it)]
+    wrong += [(it, fault) for it in setups[:1] for fault in flows_faults(program, it)]
     for it, fault in wrong:
         print(f"{it}: {fault}")
-    print(f"{len(setups)} set-ups asked how, {len(nevers)} questions of never asked, {len(breaches)} breaches, {len(wrong)} faults")
-    differs = any(faults(program, setups[0], setups[1]))
+    print(f"{len(setups)} set-ups asked how, {len(nevers)} questions of never asked, {len(breaches)} breaches, {len(wanted)} of them wanted, "
+          f"{len(wrong)} faults")
+    differs = any(faults(program, asked(setups[0]), setups[1]))
     if not differs:
         print(f"{setups[0]}: no fault where {setups[1]} is wanted")
-    return 0 if setups and nevers and breaches and not wrong and differs else 1
+    return 0 if setups and nevers and breaches and wanted and not wrong and differs else 1
 
 
 sys.exit(main())

@@ -167,8 +167,8 @@ def differences(report, text, objects, want, inactive, size):
 
 
 def held(line):
-    """Returns a line of a listing without the number of its slot: with `--flows` slots are numbered anew."""
-    return re.sub(r"^(\S+)\[\d+\] ", r"\1 ", line)
+    """Returns a line of a listing without the numbers of its slots: with `--flows` slots are numbered anew."""
+    return re.sub(r"^(\S+)\[\d+\] below (\S+)\[\d+\]$", r"\1 below \2", re.sub(r"^(\S+)\[\d+\] (?!below )", r"\1 ", line))
 
 
 def flows_of(program, folder):
@@ -182,7 +182,8 @@ def flows_of(program, folder):
         wanted = path.with_suffix(".flows").read_text().splitlines()
         if sorted(map(held, listed)) != sorted(map(held, wanted)):
             yield f"{path.name}: with --flows its listing has other lines"
-        if len({line.split()[0] for line in listed}) != len(listed):
+        slots = [line.split()[0] for line in listed if " below " not in line]
+        if len({*slots}) != len(slots):
             yield f"{path.name}: with --flows a slot has two lines"
     for flows, answer in (([], "excluded"), (["--flows"], "possible")):
         made = run(program, ["import", *flows, str(folder / "microkit_hello.cdl")], "").stdout
@@ -384,7 +385,8 @@ GAPS = [
     ("page = frame (4k)", "page = frame (4k) { more = ep }", 9, "what stands in braces behind page is left out"),
     ("page = frame (4k)", "page = frame (4k, place: 4096)", 9, "the parameter place of page is left out"),
     ("table = pt\n", "table = pt\nsoft = sgi_signal (irq: 7, target: 0)\n", 11, "irq maps has no interrupt 7, which soft signals"),
-    ("size: 61) }\n}\n", "size: 61) }\n}\ncdt { (cn_one, 1) { (cn_two, 1) } }\n", 24, "--flows leaves out which slot is derived from which"),
+    ("size: 61) }\n}\n", "size: 61) }\n}\ncdt { (cn_one, 1) { (cn_two, 1) } }\n", 24,
+     "no take is seen by this row of the cdt: the set-up has it beside the slot of line 13, and not below that"),
 ]
 
 
@@ -421,6 +423,138 @@ def strict_of(program, folder):
     alone = run(program, ["import", "-"], "arch aarch64\nobjects {\na = tcb\nb = tcb\nc = tcb\n}\ncaps {\n}\n")
     if alone.returncode or not re.fullmatch("[^\n]*:3:1: warning: a has no cspace: it can make no call; and 2 more such\n", alone.stderr):
         yield f"three threads without a space: {alone.returncode} {alone.stderr!r}"
+
+
+# A layout with a cdt; and rows that are not kept with `--flows`, with the words that are said of them, or that are at fault.
+ROWS = """arch aarch64
+objects {
+owner = tcb
+user = tcb
+cn_owner = cnode (3 bits)
+cn_user = cnode (3 bits)
+door = ep
+bell = notification
+page = frame (4k)
+table = pt
+}
+caps {
+cn_owner { 1: whole = door (RWGP)
+2: bell (W, badge: 4)
+3: page (RW)
+5: bell (RW)
+4: irq_control
+}
+cn_user { 1: door (W, badge: 3)
+2: bell (W, badge: 4)
+3: page (R)
+5: bell (W, badge: 4)
+4: irq_control
+}
+table { 0: page (R) }
+owner { cspace: cn_owner (guard: 0, guard_size: 61) }
+user { cspace: cn_user (guard: 0, guard_size: 61)
+vspace: table }
+}
+cdt {
+whole { (cn_user, 1) }
+(cn_owner, 2) { (cn_user, 2) }
+(cn_owner, 3) { (cn_user, 3) (table, 0) }
+}
+"""
+LOST_ROWS = [
+    ("(cn_user, 2) { (cn_user, 5) }", "the set-up has it beside the slot of line 20, and not below that"),
+    ("(cn_owner, 5) { (cn_user, 5) }", "the set-up has it beside the slot of line 16, and not below that"),
+    ("(cn_owner, 4) { (cn_user, 4) }", "a capability of it is left out"),
+    ("(cn_owner, 2) { (cn_user, 3) }", None),
+]
+
+
+def rows_of(program):
+    """Yields which rows of a cdt are kept with `--flows` that are not to be, or the other way round, and what is not told of the others
+    at their places."""
+    kept = ["cn_user[0] below cn_owner[0]"] * 3 + ["table[0] below cn_owner[0]"]
+    for words in ([], ["--strict"]):
+        text = ROWS if not words else ROWS.replace("4: irq_control\n", "")
+        listed = run(program, ["import", "--flows", "--listing", *words, "-"], text)
+        below = [line for line in listed.stdout.splitlines() if " below " in line]
+        if listed.returncode or sorted(map(held, below)) != sorted(map(held, kept)):
+            yield f"rows: status {listed.returncode} with {words}: {below} {listed.stderr[:300]!r}"
+    for text, takes in ((ROWS, 1), (re.sub(r"(whole|.*, 3\)) \{ \(cn.*\n", "", ROWS), 1), (re.sub(r"(whole|.*, 2\)) \{ \(cn.*\n", "", ROWS), 1), (ROWS[: ROWS.index("cdt")], 0)):
+        made = run(program, ["import", "--flows", "-"], text)
+        told = run(program, ["ever", "--without", "loader", "-"], made.stdout)
+        if made.returncode or not told.stdout.endswith(f" takes {takes}\n"):
+            yield f"rows: status {made.returncode}, and not {takes} takes: {told.stdout[-200:]!r}"
+    for row, said in LOST_ROWS:
+        text = ROWS.replace("cdt {\n", f"cdt {{\n{row}\n")
+        line, column = text[: text.index(row)].count("\n") + 1, row.index("cn_user", 12) + 1
+        taken, strict = [run(program, ["import", "--flows", *more, "-"], text) for more in ([], ["--strict"])]
+        if said is None:
+            if taken.returncode != 2 or f":{line}:" not in taken.stderr:
+                yield f"rows with {row!r}: {taken.returncode} {taken.stderr[:300]!r}"
+            continue
+        told = f"standard input:{line}:{column}: {{}}: no take is seen by this row of the cdt: {said}\n"
+        if taken.returncode or told.format("warning") not in taken.stderr or len(re.findall(r"^# \S+ below \S+$", taken.stdout, re.M)) != len(kept):
+            yield f"rows with {row!r}: {taken.returncode} {taken.stderr[:400]!r}"
+        if strict.returncode != 2 or told.format("error") not in strict.stderr:
+            yield f"rows with {row!r}, strictly: {strict.returncode} {strict.stderr[:400]!r}"
+        plain = run(program, ["import", "-"], text)
+        if plain.returncode or run(program, ["check", "-"], plain.stdout).returncode:
+            yield f"rows with {row!r}, without --flows: {plain.returncode} {plain.stderr[:400]!r}"
+
+
+def random_rows_of(program, seed, count):
+    """Yields of which random layouts `ever` sees other takes with `--flows` than were drawn: each endpoint has an owner, who holds the
+    original and can empty the slots of the others that have it, if the cdt says so."""
+    for number in range(count):
+        r = random.Random(f"{seed} rows {number}")
+        threads, doors = range(r.randint(2, 5)), range(r.randint(1, 4))
+        caps, rows, takes, free = {it: [] for it in threads}, [], set(), {it: iter(r.sample(range(16), 16)) for it in threads}
+        for door in doors:
+            owner, is_said = r.choice(threads), r.random() < 0.7
+            at = next(free[owner])
+            caps[owner].append(f"{at}: door_{door} (RWGP)")
+            for user in r.sample(threads, r.randint(0, len(threads))):
+                slot = next(free[user])
+                caps[user].append(f"{slot}: door_{door} (W, badge: {r.choice([1, 2])})")
+                if is_said:
+                    rows.append(f"(cn_{owner}, {at}) {{ (cn_{user}, {slot}) }}")
+                    takes |= {(owner, user)} if user != owner else set()
+        r.shuffle(rows)
+        text = ["arch aarch64", "objects {", *(f"t_{it} = tcb\ncn_{it} = cnode (4 bits)" for it in threads), *(f"door_{it} = ep" for it in doors), "}", "caps {",
+                *(f"cn_{it} {{ {' '.join(caps[it])} }}\nt_{it} {{ cspace: cn_{it} (guard: 0, guard_size: 60) }}" for it in threads), "}", "cdt {", *rows, "}", ""]
+        made = run(program, ["import", "--flows"], "\n".join(text))
+        told = run(program, ["ever", "--without", "loader", "-"], made.stdout)
+        if made.returncode or "no take is seen" in made.stderr or len(re.findall(r"^# \S+ below \S+$", made.stdout, re.M)) != len(rows) or not told.stdout.endswith(f" takes {len(takes)}\n"):
+            yield f"rows {number} of {seed}: status {made.returncode}, {takes} are to be seen: {told.stdout[-100:]!r} {made.stderr[-200:]!r}"
+
+
+def notes_of(program, folder):
+    """Yields what is wrong with the notes that lead from a call by which a policy is broken to the layout."""
+    with tempfile.TemporaryDirectory() as room:
+        layout, setup, policy = [pathlib.Path(room, name) for name in ('a "b" \\.cdl', "setup.toml", "policy.toml")]
+        layout.write_text((folder / "file_server.cdl").read_text())
+        made = run(program, ["import", str(layout)], "").stdout
+        policy.write_text(run(program, ["draft", "--without", "loader", "-"], made).stdout)
+        lines = made.splitlines()
+        at = next(number for number, line in enumerate(lines) if 'op = "mint"' in line and "badge" in line)
+        call, comment = re.fullmatch(r"(.* \}),  # (\d+: .*)", lines[at]).groups()
+        number, words = comment.split(": ", 1)
+        for again, place in (([lines[at]], at + 2), ([f"# {comment}", call + ","], at + 3), ([call + ","], 0)):
+            setup.write_text("\n".join([*lines[: at + 1], *again, *lines[at + 1 :], ""]))
+            told = run(program, ["policy", str(policy), str(setup)], "")
+            where = next((it for it, line in enumerate(told.stderr.splitlines()) if line.startswith(f"{setup}:{place or at + 2}:5: error: ")), None)
+            behind = told.stderr.splitlines()[(where or 0) + 1 :][:1]
+            if told.returncode != 1 or where is None or (behind == [f"{layout}:{number}:1: note: {words}"]) != (place > 0):
+                yield f"notes: status {told.returncode}, and no note leads to line {number}: {told.stderr[:600]!r}"
+        setup.write_text("\n".join([*[line for line in lines[: at + 1] if not line.startswith("# layout ")], lines[at], *lines[at + 1 :], ""]))
+        if ": note: " in run(program, ["policy", str(policy), str(setup)], "").stderr:
+            yield "notes: a note leads to a layout of which no path is told"
+        setup.write_text("\n".join([*lines[: at + 1], *lines[at:], ""]))
+        threads = re.findall(r"^group \S+ threads (\S+)$", run(program, ["policy", str(policy), "--listing", str(setup)], "").stdout, re.M)
+        policy.write_text(f'policy = 1\nsilent = ["@loader"]\ngroup = [{{ name = "all", threads = {threads} }}]\n')
+        told = run(program, ["policy", str(policy), str(setup)], "").stderr
+        if f"{setup}:{at + 2}:5: error: " not in told or ": note: " in told:
+            yield f"notes: of a policy of version 1 not just the error of a call is told: {told[:600]!r}"
 
 
 # What is changed in the JSON form of a layout: the path to it, what stands there then, the line where it is told, and the words. First
@@ -608,7 +742,7 @@ def faults_of(program, folder):
         made = run(program, ["import", str(path)], "")
         checked = run(program, ["check", "-"], made.stdout)
         from_input = run(program, ["import", "-"], path.read_text()).stdout
-        if made.returncode or checked.returncode or from_input.replace('# layout "-"\n', f'# layout "{path}"\n') != made.stdout or from_input == made.stdout:
+        if made.returncode or checked.returncode or from_input.replace("\nformat = 2\n", f'\n# layout "{path}"\nformat = 2\n', 1) != made.stdout or from_input == made.stdout:
             yield f"{path.name}: status {made.returncode}, and of its set-up {checked.returncode}"
         yield from wrong_comments(path, made.stdout)
         listed = run(program, ["import", "--listing", str(path)], "").stdout
@@ -690,7 +824,8 @@ def texts_of(program, folder):
         path = pathlib.Path(room, 'a "b"\n]\\.cdl')
         path.write_text((folder / "twelve.cdl").read_text())
         made = run(program, ["import", str(path)], "").stdout
-        if run(program, ["check", "-"], made).returncode or made.count("# layout ") != 1:
+        told = f"{room}/a \"b\"?]\\.cdl".replace("\\", "\\\\").replace('"', '\\"')
+        if run(program, ["check", "-"], made).returncode or made.count("# layout ") != 1 or f'\n# layout "{told}"\nformat = 2\n' not in made:
             yield f"a layout in a file of a strange name: {made[:300]!r}"
 
 
@@ -711,7 +846,7 @@ def main(program, folder, seed, count, shared=None):
     folder = pathlib.Path(folder)
     wrong = [*faults_of(program, folder), *names_of(program, folder / "names"),
              *shared_of(program, folder / "hardware"), *spellings_of(program, folder / "spellings"), *losses_of(program, folder), *shares_of(program, seed, int(shared or int(count) // 10)),
-             *flows_of(program, folder), *faults_of_systems(program, folder), *texts_of(program, folder), *strict_of(program, folder), *domains_of(program),
+             *rows_of(program), *random_rows_of(program, seed, int(count) // 5), *notes_of(program, folder), *flows_of(program, folder), *faults_of_systems(program, folder), *texts_of(program, folder), *strict_of(program, folder), *domains_of(program),
              *json_of(program, folder / "json"), *random_json_of(program, seed, int(count) // 5)]
     changed = unseen = 0
     for number in range(int(count)):

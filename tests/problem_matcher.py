@@ -1,7 +1,8 @@
 #!/usr/bin/env python3
 """problem_matcher.py PROGRAM: reads what `check` says of some faults as a CI service does, by docs/problem-matcher.json.
 
-Each fault has to be marked at its file, line and column, with its severity, and nothing else is to be."""
+Each fault has to be marked at its file, line and column, with its severity, and nothing else is to be. So has each line that
+`policy` is to say of a policy that is broken: the breach in the policy, and below it the calls of the set-up that it comes from."""
 import json
 import pathlib
 import re
@@ -10,7 +11,8 @@ import tempfile
 
 from program import answer
 
-MATCHER = pathlib.Path(__file__).resolve().parent.parent / "docs" / "problem-matcher.json"
+TESTS = pathlib.Path(__file__).resolve().parent
+MATCHER = TESTS.parent / "docs" / "problem-matcher.json"
 LAYOUT = """format = 2
 memory_bits = 16
 root_radix = 4
@@ -54,13 +56,28 @@ def faults(program, folder, matchers):
             yield f"{name}: marked {found}, wanted {wanted}, of\n" + "\n".join(lines)
 
 
+# What `policy` says of these, each by a file that is wanted.
+POLICIES, BROKEN = TESTS / "answers" / "policies", ("take_told", "take_before_grant_joins", "network_system_breach")
+
+
+def faults_of_policies(program, matchers):
+    """What is marked otherwise than it should be of policies that are broken: each line once, as it stands."""
+    for name in BROKEN:
+        lines = answer(program, "policy", f"{name}.policy.toml", f"{name}.toml", cwd=POLICIES)[2].splitlines()
+        found = ["{}:{}:{}: {}: {}".format(*it) for matcher in matchers for it in marked(lines, matcher)]
+        wanted = (POLICIES / f"{name}.err").read_text().splitlines()
+        if found != wanted or not any(": note: " in line for line in wanted):
+            yield f"{name}: marked {found}, wanted {wanted}"
+
+
 def main():
     program = str(pathlib.Path(sys.argv[1]).resolve())
+    matchers = json.loads(MATCHER.read_text())["problemMatcher"]
     with tempfile.TemporaryDirectory() as folder:
-        wrong = list(faults(program, folder, json.loads(MATCHER.read_text())["problemMatcher"]))
+        wrong = [*faults(program, folder, matchers), *faults_of_policies(program, matchers)]
     for fault in wrong:
         print(fault)
-    print(f"{len(CASES)} set-ups read by docs/problem-matcher.json, {len(wrong)} faults")
+    print(f"{len(CASES)} set-ups and {len(BROKEN)} policies read by docs/problem-matcher.json, {len(wrong)} faults")
     return 1 if wrong else 0
 
 

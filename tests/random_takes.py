@@ -4,8 +4,10 @@
 COUNT layouts are drawn from SEED: a loader copies, mints and moves capabilities to endpoints between its own slots and those of three or
 four clients. Who takes from whom is found by walking the tree of slots. A policy of what a layout has, with just these takes, has to be
 kept, and to have no unused take; with the version 1 it has to be kept too, and to tell of no take. With one take less a line of that
-take has to be the only breach; with one more that is not there, it has to be unused; with all of them turned round, the policy has to be
-broken where the other way round is not there.
+take has to be the only breach, and the line below it has to name the first slot that can be emptied so, the nearest slot above it that can
+empty it, and the calls that filled them; in the witness of `--how 1`, if there is one, the call before the last has to be of the part that
+takes, and to empty a slot of the other; with one more that is not there, it has to be unused; with all of them turned round, the policy
+has to be broken where the other way round is not there.
 
 Then threads of the clients make revokes, and random calls: those of one part may change a slot of another only where it takes from that.
 """
@@ -26,6 +28,7 @@ FIRST_NODE, OWN = 20, range(10, 20)
 TREE = re.compile(r"( *)(\d+) ")
 ABOVE = re.compile(r"^slot (\d+) .* children$", re.M)
 REVOKES, CALLS = 4, 12
+WITHOUT = re.compile(r"how 1 (excluded by flow|not found|not found of \d+)\n")
 
 
 def set_up(chance):
@@ -67,13 +70,19 @@ def set_up(chance):
 
 
 def takes_in(tree, memory):
-    """Which part has a slot above one of which other, by a tree, where each slot stands two columns right of the one that it is below."""
-    takes, above = set(), []
-    for indent, slot in (TREE.match(line).groups() for line in tree.splitlines()[1:]):
+    """Which part has a slot above one of which other, by a tree, where each slot stands two columns right of the one that it is below: of each
+    two the first slot below, by address, and the nearest of the other part's above it."""
+    takes, above = {}, []
+    for indent, slot in ((it[0], int(it[1])) for it in (TREE.match(line).groups() for line in tree.splitlines()[1:])):
         del above[len(indent) // 2:]
-        part = parts.part_at(memory, int(slot))
-        takes |= {(one, part) for one in above if None not in (one, part) and one != part}
-        above.append(part)
+        part = parts.part_at(memory, slot)
+        nearest = {}
+        for one, up in reversed(above):
+            nearest.setdefault(one, up)
+        for one, up in nearest.items():
+            if None not in (one, part) and one != part:
+                takes[one, part] = min(takes.get((one, part), (slot, up)), (slot, up))
+        above.append((part, slot))
     return takes
 
 
@@ -85,16 +94,26 @@ class Takes:
         self.text, self.file = set_up(self.chance), pathlib.Path(folder) / f"{seed}.toml"
         self.layout = random_policies.Layout(program, self.name, self.text, ["--without", str(LOADER)])
         self.numbers = sorted(set(self.layout.threads.values()))
-        self.takes = takes_in(run(program, "tree", "-", text=self.text)[1], self.layout.memory)
+        self.under = takes_in(run(program, "tree", "-", text=self.text)[1], self.layout.memory)
+        self.takes = set(self.under)
+        self.shown = 0
 
     def held(self, takes, version=2):
-        """The status of the layout held to a policy with these takes, its breaches, its unused takes, and its last line."""
+        """The status of the layout held to a policy with these takes, its breaches with what stands below them, its unused takes, and its last
+        line."""
         text = self.layout.whole().replace("policy = 1\n", f"policy = {version}\n", 1)
         text += "".join(f'[[take]]\nfrom = "g{one}"\nto = "g{other}"\n' for one, other in sorted(takes))
         self.file.write_text(text)
         status, told = run(self.program, "policy", str(self.file), "-", text=self.text)
         lines = told.splitlines()
-        return status, [it for it in lines if it.startswith("breach ")], [it for it in lines if it.startswith("unused take ")], lines[-1]
+        return status, [it for it in lines if it.startswith(("breach ", "  "))], [it for it in lines if it.startswith("unused take ")], lines[-1]
+
+    def filled(self, slot):
+        """The last of the calls that found a slot empty and left it full."""
+        table = tomllib.loads(self.text)
+        states = [parts.held(run(self.program, "check", "-", text=document({**table, "call": table["call"][:n]}))[1]) for n in range(len(table["call"]) + 1)]
+        calls = [n for n in range(1, len(states)) if slot not in states[n - 1] and slot in states[n]]
+        return f"{slot} call {calls[-1]}" if calls else f"{slot} boot"
 
     def policy_faults(self):
         """What is wrong with policies that let what is taken, less of it, and more."""
@@ -106,8 +125,10 @@ class Takes:
             yield f"version 1: status {status}, {breaches}, {last}"
         for one, other in self.chance.sample(sorted(self.takes), min(2, len(self.takes))):
             status, breaches, unused, _ = self.held(self.takes - {(one, other)})
-            if status != 1 or breaches != [f"breach take g{one} -> g{other}"] or unused:
+            slot, up = map(self.filled, self.under[one, other])
+            if status != 1 or breaches != [f"breach take g{one} -> g{other}", f"  slot {slot} under slot {up}"] or unused:
                 yield f"without {one} -> {other}: status {status}, {breaches}, {unused}"
+            yield from self.witness_faults(one, other)
         more = [(one, other) for one in self.numbers for other in self.numbers if one != other and (one, other) not in self.takes]
         for one, other in self.chance.sample(more, min(1, len(more))):
             status, breaches, unused, _ = self.held(self.takes | {(one, other)})
@@ -116,6 +137,20 @@ class Takes:
         back = {(other, one) for one, other in self.takes}
         if self.held(back)[0] != (1 if self.takes - back else 0):
             yield f"its takes {sorted(self.takes)} turned round: status {self.held(back)[0]}"
+
+    def witness_faults(self, one, other):
+        """What is wrong with the calls by which the only breach of the policy happens, a take of one part from the other."""
+        status, text = run(self.program, "policy", str(self.file), "--how", "1", "-", text=self.text)
+        if status != 0:
+            if status != 1 or not WITHOUT.fullmatch(text):
+                yield f"how {one} -> {other}: status {status}, {text}"
+            return
+        self.shown += 1
+        calls = tomllib.loads(text)["call"]
+        before, after = (parts.held(run(self.program, "check", "-", text=document({**tomllib.loads(text), "call": calls[:n]}))[1]) for n in (-2, -1))
+        emptied = [slot for slot in before.keys() - after.keys() if parts.part_at(self.layout.memory, slot) == other]
+        if not emptied or self.layout.threads.get(calls[-2]["thread"]) != one:
+            yield f"how {one} -> {other}: {calls[-2]} empties {emptied}"
 
     def changed(self, caller, before, after):
         """The slots of other parts than the caller's that changed between two states, each with its part, and whether a take lets it."""
@@ -149,24 +184,24 @@ class Takes:
         yield at_random(list(self.layout.threads)), at_random([it for it, i in self.layout.threads.items() if i == part])
 
     def found(self):
-        """How many takes there are, how many slots of others were emptied, and what is wrong."""
+        """How many takes there are, how many slots of others were emptied, how many witnesses there are, and what is wrong."""
         if not self.layout.is_read or len(self.numbers) < 2:
-            return 0, 0, []
+            return 0, 0, 0, []
         emptied, wrong = 0, list(self.policy_faults())
         for before, calls in self.calls_to_make():
             for slot, part, is_let in self.changed(calls[0]["thread"], self.state_behind(before), self.state_behind(before + calls)):
                 emptied += 1
                 wrong += [] if is_let else [f"{calls} change slot {slot} of part {part}"]
-        return len(self.takes), emptied, [f"{self.name}: {it}" for it in wrong]
+        return len(self.takes), emptied, self.shown, [f"{self.name}: {it}" for it in wrong]
 
 
 def main():
     program, seed, count = str(pathlib.Path(sys.argv[1]).absolute()), int(sys.argv[2]), int(sys.argv[3])
     with tempfile.TemporaryDirectory() as folder:
         found = side_by_side(lambda one: Takes(program, one, folder).found(), range(seed, seed + count))
-    takes, emptied, faults = (sum((it[i] for it in found), start) for i, start in enumerate((0, 0, [])))
-    print("\n".join([*faults[:5], f"{count} layouts, {takes} takes, {emptied} slots of others emptied, {len(faults)} faults"]))
-    return 1 if faults or not takes or not emptied else 0
+    takes, emptied, shown, faults = (sum((it[i] for it in found), start) for i, start in enumerate((0, 0, 0, [])))
+    print("\n".join([*faults[:5], f"{count} layouts, {takes} takes, {emptied} slots of others emptied, {shown} witnesses, {len(faults)} faults"]))
+    return 1 if faults or not takes or not emptied or not shown else 0
 
 
 if __name__ == "__main__":

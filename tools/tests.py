@@ -32,8 +32,13 @@ LIMIT = 900
 NOT_TRIED = "not tried: "
 # So many set-ups have all their orders made one by one, each by a run of the program.
 FEW_ORDERS = "16"
+# So many set-ups and policies are drawn at random by a row.
+FEW_DRAWN = "60"
+# Of so many a draft is asked for, and cut.
+FEW_DRAFTED = "12"
 # The rows that take longest begin first.
-LONG = ("orders_one_by_one", "hostile_texts", "commands.py", "drafts", "random_policies", "random_takes", "imports.py")
+LONG = ("orders_one_by_one", "hostile_texts", "commands.py", "drafts", "random_policies", "random_takes", "imports.py",
+        "random_places", "random_lists")
 
 
 def ran(words, **how):
@@ -156,8 +161,11 @@ def of_unproved(results):
     work = add_crates(results)
     program, calls = (it.result() for it in first)
     if program and calls:
-        results.not_tried.append(f"all orders, made one by one, of more than {FEW_ORDERS} set-ups")
-        lines = rows(f"program={os.path.relpath(program, TOP)}", f"calls={os.path.relpath(calls, TOP)}", f"orders={FEW_ORDERS}")
+        results.not_tried += [f"all orders, made one by one, of more than {FEW_ORDERS} set-ups",
+                              f"random policies, takes, places and lists of more than {FEW_DRAWN} set-ups each",
+                              f"drafts of more than {FEW_DRAFTED} random set-ups"]
+        few = {"program": os.path.relpath(program, TOP), "calls": os.path.relpath(calls, TOP), "orders": FEW_ORDERS, "drawn": FEW_DRAWN, "drafted": FEW_DRAFTED}
+        lines = rows(*(f"{name}={value}" for name, value in few.items()))
         work += results.add(of_row, lines, SEL4SIM_UNPROVED="1")
     return work
 

@@ -94,8 +94,6 @@ def held(test, _):
 
 
 NOTES = """badge_zero.policy.toml:5:3: error: client_a may use @ep1 with badge any; the policy lets it have 10
-  5 |   { from = "client_a", to = "client_c", by = "ep1", badge = 10 },
-    |   ^
 badge_zero.toml:LINE:1: note: call 3 fills @cn_a[1]
 badge_zero.toml:LINE:1: note: from: call 3 fills @cn_a[1]
 layout.system:7:1: note: cn_a[1] = ep1 (W)
